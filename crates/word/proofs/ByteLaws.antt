@@ -1,0 +1,116 @@
+-- Numbers in a list of bytes: reading one byte on, how large a number is, and that what is written is read back.
+use mathlib.Core.Path.{_≡_, refl, sym, ap, _∙_}
+use mathlib.Core.List.{List, [], _∷_, _++_, append-assoc}
+use Prim.Native.Nat.{ℕ, zero, suc, _+_, _*_, _/_, _%_, _^_, _≤_, _<_}
+use native.Mathlib.Omega.{arith}
+use native.Mathlib.Nat.{add-zero, add-suc, suc-add, pow-suc, mod-lt, mod-one, one-le-pow, div-div-eq-div-mul, le-of-suc-le-suc}
+use native.Mathlib.Numerals.{add-one, towards-suc}
+use lib.Arith.{mod-mul}
+use lib.Dec.{lit<}
+use lib.ListN.{length, getD, set, drop-of-length-le}
+use lib.Seq.{take-nil, take-at, drop-append-seam, sets, set-out}
+use Rattle.word.specs.Bytes.{number, numberAt, countAt, wordAt, bytesOf}
+
+pub number-at-zero : (s : List ℕ) (i : ℕ) → numberAt zero s i ≡ 0
+unfolding numberAt number
+number-at-zero s i = refl
+
+-- past the end of the list every number is 0
+pub number-at-end : (k : ℕ) (s : List ℕ) (i : ℕ) → length s ≤ i → numberAt k s i ≡ 0
+unfolding numberAt number
+number-at-end k s i h = rw (drop-of-length-le s h, take-nil {A = ℕ} k)
+
+pub number-at-suc : (k : ℕ) (s : List ℕ) (i : ℕ) → numberAt (suc k) s i ≡ getD s i 0 + 256 * numberAt k s (suc i)
+unfolding numberAt number
+number-at-suc k [] i = omega (arith, number-at-end (suc k) [] i (omega arith), number-at-end k [] (suc i) (omega arith))
+number-at-suc k (b ∷ s) zero = refl
+number-at-suc k (b ∷ s) (suc i) = number-at-suc k s i
+
+-- the k bytes of s from place i; a byte past the end is 0
+abbrev bytesFrom : ℕ → List ℕ → ℕ → List ℕ
+bytesFrom zero s i = []
+bytesFrom (suc k) s i = getD s i 0 ∷ bytesFrom k s (suc i)
+
+number-of-bytes : (k : ℕ) (s : List ℕ) (i : ℕ) → numberAt k s i ≡ number (bytesFrom k s i)
+unfolding number
+number-of-bytes zero s i = number-at-zero s i
+number-of-bytes (suc k) s i = number-at-suc k s i ∙ ap (λ (n : ℕ). getD s i 0 + 256 * n) (number-of-bytes k s (suc i))
+
+pub count-of-bytes : (s : List ℕ) (i : ℕ) → countAt s i ≡ getD s i 0 + 256 * getD s (i + 1) 0
+unfolding number
+count-of-bytes s i = rw (add-one, number-of-bytes 2 s i) (omega arith)
+
+pub word-of-bytes : (s : List ℕ) (i : ℕ)
+    → wordAt s i
+    ≡ number
+    (getD s i 0 ∷ getD s (i + 1) 0 ∷ getD s (i + 2) 0 ∷ getD s (i + 3) 0 ∷ getD s (i + 4) 0 ∷ getD s (i + 5) 0 ∷ getD s (i + 6) 0 ∷ getD s (i + 7) 0 ∷ [])
+word-of-bytes s i = simp towards-suc (number-of-bytes 8 s i)
+
+pub word-of-counts : (s : List ℕ) (i : ℕ) → wordAt s i ≡ countAt s i + 65536 * (countAt s (i + 2) + 65536 * (countAt s (i + 4) + 65536 * countAt s (i + 6)))
+unfolding number
+word-of-counts s i = simp (towards-suc, number-of-bytes) (omega arith)
+
+pub bytes-of-length : (k x : ℕ) → length (bytesOf k x) ≡ k
+unfolding bytesOf
+bytes-of-length zero x = refl
+bytes-of-length (suc k) x = ap suc (bytes-of-length k (x / 256))
+
+-- k bytes below 256, and none after them, make a number below 256 ^ k
+pub number-lt : (k : ℕ) (bs : List ℕ) → length bs ≤ k → ((i : ℕ) → getD bs i 0 < 256) → number bs < 256 ^ k
+unfolding number
+number-lt k [] h b = one-le-pow k 256 (omega arith)
+number-lt zero (a ∷ bs) h b = let z : ⊥ = omega arith in absurd z
+number-lt (suc k) (a ∷ bs) h b =
+    let rest : number bs < 256 ^ k = number-lt k bs (le-of-suc-le-suc h) (λ i. b (suc i)) in
+    omega (arith, pow-suc 256 k, b zero)
+
+pub number-bytes-of : (k x : ℕ) → number (bytesOf k x) ≡ x % 256 ^ k
+unfolding number bytesOf
+number-bytes-of zero x = sym (mod-one x)
+number-bytes-of (suc k) x =
+    rw (pow-suc, number-bytes-of k (x / 256), mod-mul x (one-le-pow k 256 (omega arith)) (lit< tt)) (omega arith)
+
+pub bytes-of-number : (bs : List ℕ) → ((i : ℕ) → getD bs i 0 < 256) → bytesOf (length bs) (number bs) ≡ bs
+unfolding number bytesOf
+bytes-of-number [] b = refl
+bytes-of-number (a ∷ bs) b =
+    let low : (a + 256 * number bs) % 256 ≡ a = omega (arith, b zero) in
+    let rest : (a + 256 * number bs) / 256 ≡ number bs = omega (arith, b zero) in
+    cc (low, rest, bytes-of-number bs (λ i. b (suc i)))
+
+-- what stands after a list is read as it was written
+pub number-at-append : (k : ℕ) (a bs b : List ℕ) → length bs ≡ k → numberAt k (a ++ bs ++ b) (length a) ≡ number bs
+unfolding numberAt
+number-at-append k a bs b e = rw (append-assoc, drop-append-seam, take-at bs b k e)
+
+pub number-at-bytes : (k x : ℕ) (a b : List ℕ) → numberAt k (a ++ bytesOf k x ++ b) (length a) ≡ x % 256 ^ k
+number-at-bytes k x a b = number-at-append k a (bytesOf k x) b (bytes-of-length k x) ∙ number-bytes-of k x
+
+-- a byte past the end isn't written
+pub sets-past-end : (vs l : List ℕ) (i : ℕ) → length l ≤ i → sets l i vs ≡ l
+sets-past-end [] l i h = refl
+sets-past-end (v ∷ vs) l i h = rw (set-out l i v h) (sets-past-end vs l (suc i) (omega arith))
+
+-- a word is written as four counts
+pub sets-word : (l : List ℕ) (i x : ℕ)
+    → sets l i (bytesOf 8 x)
+    ≡ sets (sets (sets (sets l i (bytesOf 2 x)) (i + 2) (bytesOf 2 (x / 65536))) (i + 4) (bytesOf 2 (x / 4294967296))) (i + 6) (bytesOf 2 (x / 281474976710656))
+unfolding bytesOf
+sets-word l i x = simp (towards-suc, div-div-eq-div-mul)
+
+-- one write after another is a write of both
+pub sets-append : (a b l : List ℕ) (i : ℕ) → sets l i (a ++ b) ≡ sets (sets l i a) (i + length a) b
+sets-append [] b l i = rw add-zero
+sets-append (v ∷ a) b l i = rw add-suc (rw (← suc-add) (sets-append a b (set l i v) (suc i)))
+
+-- each byte of a number is below 256, and 0 stands past them
+pub bytes-of-lt : (k x i : ℕ) → getD (bytesOf k x) i 0 < 256
+unfolding bytesOf
+bytes-of-lt zero x i = lit< tt
+bytes-of-lt (suc k) x zero = mod-lt x (lit< tt)
+bytes-of-lt (suc k) x (suc i) = bytes-of-lt k (x / 256) i
+
+-- k bytes of a list of bytes make a number below 256 ^ k, wherever they stand
+pub number-at-lt : (k : ℕ) (s : List ℕ) (i : ℕ) → ((j : ℕ) → getD s j 0 < 256) → numberAt k s i < 256 ^ k
+number-at-lt zero s i b = rw number-at-zero (lit< tt)
+number-at-lt (suc k) s i b = omega (arith, number-at-suc k s i, pow-suc 256 k, b i, number-at-lt k s (suc i) b)

@@ -1,0 +1,4 @@
+pub mod Laws
+pub mod SomeLaws
+pub mod WorkedLaws
+pub mod ByteLaws

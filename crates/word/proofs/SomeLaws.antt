@@ -1,0 +1,79 @@
+-- What a test over a range or over a list says when it passes and when it fails. Assumes nothing.
+use mathlib.Core.Path.{_≡_, refl, _∙_}
+use mathlib.Core.Bool.{Bool, true, false, _||_}
+use mathlib.Core.Logic.{_⊎_, inl, inr, ⊎-elim}
+use mathlib.Core.List.{List, [], _∷_, _++_}
+use Prim.Native.Nat.{ℕ, zero, suc, _+_, _<_, _≤_}
+use native.Mathlib.Nat.{not-suc-le-zero, le-suc, eq-or-lt-of-le, le-of-suc-le-suc}
+use lib.ListN.{length, getD}
+use Rattle.word.specs.Some.{anyBelow, anyOf}
+
+pub or-false-left : (a b : Bool) → (a || b) ≡ false → a ≡ false
+or-false-left true b h = h
+or-false-left false b h = refl
+
+pub or-false-right : (a b : Bool) → (a || b) ≡ false → b ≡ false
+or-false-right true b h = absurd-bool b h
+  where
+    absurd-bool : (c : Bool) → true ≡ false → c ≡ false
+    absurd-bool c e = cc
+or-false-right false b h = h
+
+pub or-false : (a b : Bool) → a ≡ false → b ≡ false → (a || b) ≡ false
+or-false a b ha hb = rw (ha, hb)
+
+pub or-true-left : (a b : Bool) → a ≡ true → (a || b) ≡ true
+or-true-left a b h = rw h
+
+pub or-true-right : (a b : Bool) → b ≡ true → (a || b) ≡ true
+or-true-right true b h = refl
+or-true-right false b h = h
+
+-- ---- a range
+
+pub any-below-none : (n : ℕ) (f : ℕ → Bool) → ((k : ℕ) → k < n → f k ≡ false) → anyBelow n f ≡ false
+unfolding anyBelow
+any-below-none zero f h = refl
+any-below-none (suc n) f h = or-false _ _ (any-below-none n f (λ k l. h k (le-suc-of k n l))) (h n (self n))
+  where
+    le-suc-of : (k n : ℕ) → k < n → k < suc n
+    le-suc-of k n l = search (native.Mathlib.Nat.le-step)
+
+    self : (n : ℕ) → n < suc n
+    self n = native.Mathlib.Nat.lt-suc-self n
+
+pub any-below-false : (n : ℕ) (f : ℕ → Bool) → anyBelow n f ≡ false → (k : ℕ) → k < n → f k ≡ false
+unfolding anyBelow
+any-below-false zero f h k l = absurd (not-suc-le-zero l)
+any-below-false (suc n) f h k l =
+    ⊎-elim (λ (e : k ≡ n). rw e (or-false-right (anyBelow n f) (f n) h))
+    (λ (m : k < n). any-below-false n f (or-false-left (anyBelow n f) (f n) h) k m) (eq-or-lt-of-le (le-of-suc-le-suc l))
+
+pub any-below-true : (n : ℕ) (f : ℕ → Bool) (k : ℕ) → k < n → f k ≡ true → anyBelow n f ≡ true
+unfolding anyBelow
+any-below-true zero f k l h = absurd (not-suc-le-zero l)
+any-below-true (suc n) f k l h =
+    ⊎-elim (λ (e : k ≡ n). or-true-right (anyBelow n f) (f n) (rw e at h))
+    (λ (m : k < n). or-true-left (anyBelow n f) (f n) (any-below-true n f k m h)) (eq-or-lt-of-le (le-of-suc-le-suc l))
+
+pub any-below-ext : (n : ℕ) (f g : ℕ → Bool) → ((k : ℕ) → k < n → f k ≡ g k) → anyBelow n f ≡ anyBelow n g
+unfolding anyBelow
+any-below-ext zero f g h = refl
+any-below-ext (suc n) f g h =
+    let tail : anyBelow n f ≡ anyBelow n g = any-below-ext n f g (λ k l. h k (native.Mathlib.Nat.le-step l)) in
+    let last : f n ≡ g n = h n (native.Mathlib.Nat.lt-suc-self n) in
+    cc
+
+-- ---- a list
+
+pub any-of-append : {A : Type 0} (f : A → Bool) (l r : List A) → anyOf f (l ++ r) ≡ (anyOf f l || anyOf f r)
+unfolding anyOf
+any-of-append f [] r = refl
+any-of-append f (x ∷ l) r = ap-or (f x) (any-of-append f l r) ∙ or-assoc-back (f x) (anyOf f l) (anyOf f r)
+  where
+    ap-or : (a : Bool) {b c : Bool} → b ≡ c → (a || b) ≡ (a || c)
+    ap-or a e = rw e
+
+    or-assoc-back : (a b c : Bool) → (a || (b || c)) ≡ (a || b || c)
+    or-assoc-back true b c = refl
+    or-assoc-back false b c = refl

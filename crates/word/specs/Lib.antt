@@ -1,0 +1,5 @@
+pub mod Word
+pub mod Bytes
+pub mod Reply
+pub mod Some
+pub mod Worked

@@ -1,0 +1,148 @@
+// Words of 64 bits, and numbers in lists of bytes. Every function is total.
+ghost use mathlib.Core.Path.{_≡_};
+ghost use mathlib.Core.List.{[], _∷_};
+ghost use Prim.Native.Nat.{_<_};
+ghost use lib.ListN.{getD, set};
+ghost use lib.Seq.{sets};
+ghost use Rattle.word.specs.Word.{lowMask, beyond, parity, highestBit, badWidth};
+ghost use Rattle.word.specs.Bytes.{number, countAt, wordAt, bytesOf};
+
+// The word with bits 0 to m - 1 set; all 64 bits from m = 64 on.
+pub fn low_mask(m: u64) -> u64
+    ensures { λ r. ⌜ r ≡ lowMask m ⌝ }
+{
+    if m < 64 {
+        (1u64 << m) - 1
+    } else {
+        0xffff_ffff_ffff_ffff
+    }
+}
+
+// Whether w has a bit at or above m.
+pub fn is_beyond(m: u64, w: u64) -> bool
+    ensures { λ r. ⌜ r ≡ beyond m w ⌝ }
+{
+    if m < 64 { w >> m != 0 } else { false }
+}
+
+// The parity of the bits that a and b share: 0 or 1.
+pub fn shared_parity(a: u64, b: u64) -> u64
+    ensures { λ r. ⌜ r ≡ parity a b ⌝ }
+{
+    (u64::count_ones(a & b) % 2) as u64
+}
+
+// The place of w's highest bit; 0 for the word 0.
+pub fn highest_bit(w: u64) -> u64
+    ensures { λ r. ⌜ r ≡ highestBit w ⌝ }
+{
+    let zeros = u64::leading_zeros(w);
+    if zeros < 64 { (63 - zeros) as u64 } else { 0 }
+}
+
+// Whether m is no width of a register: not 1 to 64.
+pub fn is_bad_width(m: u64) -> bool
+    ensures { λ r. ⌜ r ≡ badWidth m ⌝ }
+{
+    (m < 1) | (64 < m)
+}
+
+// A byte as a word.
+pub fn wide(b: u8) -> u64
+    ensures { λ r. ⌜ (r ≡ b) × (r < 256) ⌝ }
+{
+    b as u64
+}
+
+// The byte of s at place i; 0 past the end.
+pub fn byte_at(s: &[u8], i: usize) -> u8
+    ensures { λ r. ⌜ r ≡ getD (now (s .entry)) i 0 ⌝ }
+{
+    if i < s.len() { s[i] } else { 0 }
+}
+
+// The count of 2 bytes of s at place i, low byte first; a byte past the end counts as 0.
+pub fn read_count(s: &[u8], i: usize) -> u64
+    ensures { λ r. ⌜ (r ≡ countAt (now (s .entry)) i) × (r < 65536) ⌝ }
+{
+    if s.len() <= i {
+        return 0;
+    }
+    let low = wide(s[i]);
+    let high = wide(byte_at(s, i + 1));
+    low + 256 * high
+}
+
+// The word with these eight bytes, the lowest first.
+fn word_of(b0: u8, b1: u8, b2: u8, b3: u8, b4: u8, b5: u8, b6: u8, b7: u8) -> u64
+    ensures { λ r. ⌜ r ≡ number (b0 ∷ b1 ∷ b2 ∷ b3 ∷ b4 ∷ b5 ∷ b6 ∷ b7 ∷ []) ⌝ }
+{
+    let w = b7 as u64;
+    let w = 256 * w + b6 as u64;
+    let w = 256 * w + b5 as u64;
+    let w = 256 * w + b4 as u64;
+    let w = 256 * w + b3 as u64;
+    let w = 256 * w + b2 as u64;
+    let w = 256 * w + b1 as u64;
+    256 * w + b0 as u64
+}
+
+// The word of 8 bytes of s at place i, low byte first; a byte past the end counts as 0.
+pub fn read_word(s: &[u8], i: usize) -> u64
+    ensures { λ r. ⌜ r ≡ wordAt (now (s .entry)) i ⌝ }
+{
+    if s.len() <= i {
+        return 0;
+    }
+    if 8 <= s.len() - i {
+        return word_of(
+            s[i],
+            s[i + 1],
+            s[i + 2],
+            s[i + 3],
+            s[i + 4],
+            s[i + 5],
+            s[i + 6],
+            s[i + 7],
+        );
+    }
+    // the highest count first: a read of s[i] at the start of both ways would keep the eight reads above from
+    // becoming one load
+    let w = read_count(s, i + 6);
+    let w = 65536 * w + read_count(s, i + 4);
+    let w = 65536 * w + read_count(s, i + 2);
+    65536 * w + read_count(s, i)
+}
+
+// The byte b at place i of out; nothing past the end.
+pub fn write_byte(out: &mut [u8], i: usize, b: u8)
+    ensures { λ _. ⌜ now (out .exit) ≡ set (now (out .entry)) i b ⌝ }
+{
+    if i < out.len() {
+        out[i] = b;
+    }
+}
+
+// The low 2 bytes of x at place i of out, low byte first; nothing past the end.
+pub fn write_count(out: &mut [u8], i: usize, x: u64)
+    ensures { λ _. ⌜ now (out .exit) ≡ sets (now (out .entry)) i (bytesOf 2 x) ⌝ }
+{
+    if out.len() <= i {
+        return;
+    }
+    write_byte(out, i, (x % 256) as u8);
+    write_byte(out, i + 1, (x / 256 % 256) as u8);
+}
+
+// The 8 bytes of x at place i of out, low byte first; nothing past the end.
+pub fn write_word(out: &mut [u8], i: usize, x: u64)
+    ensures { λ _. ⌜ now (out .exit) ≡ sets (now (out .entry)) i (bytesOf 8 x) ⌝ }
+{
+    if out.len() <= i {
+        return;
+    }
+    write_count(out, i, x);
+    write_count(out, i + 2, x / 65536);
+    write_count(out, i + 4, x / 4294967296);
+    write_count(out, i + 6, x / 281474976710656);
+}
