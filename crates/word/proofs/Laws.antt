@@ -246,11 +246,11 @@ pub and-or : (a b c : ℕ) → bitAnd (bitOr a b) c ≡ bitOr (bitAnd a c) (bitA
 and-or =
     bin-ind (λ (a : ℕ). (b c : ℕ) → bitAnd (bitOr a b) c ≡ bitOr (bitAnd a c) (bitAnd b c)) (λ b c. refl)
     (λ a ih b c.
-      by-halves _ _
-      (and-half (bitOr a b) c ∙ ap (λ (x : ℕ). bitAnd x (c / 2)) (or-half a b) ∙ ih (b / 2) (c / 2)
-      ∙ ap₂ bitOr (sym (and-half a c)) (sym (and-half b c)) ∙ sym (or-half (bitAnd a c) (bitAnd b c)))
-      (and-low (bitOr a b) c ∙ ap (λ (x : ℕ). min x (c % 2)) (or-low a b) ∙ min-max (a % 2) (b % 2) (c % 2)
-      ∙ ap₂ max (sym (and-low a c)) (sym (and-low b c)) ∙ sym (or-low (bitAnd a c) (bitAnd b c))))
+    by-halves _ _
+    (and-half (bitOr a b) c ∙ ap (λ (x : ℕ). bitAnd x (c / 2)) (or-half a b) ∙ ih (b / 2) (c / 2)
+    ∙ ap₂ bitOr (sym (and-half a c)) (sym (and-half b c)) ∙ sym (or-half (bitAnd a c) (bitAnd b c)))
+    (and-low (bitOr a b) c ∙ ap (λ (x : ℕ). min x (c % 2)) (or-low a b) ∙ min-max (a % 2) (b % 2) (c % 2)
+    ∙ ap₂ max (sym (and-low a c)) (sym (and-low b c)) ∙ sym (or-low (bitAnd a c) (bitAnd b c))))
 
 pub or-zero-left : (a b : ℕ) → bitOr a b ≡ 0 → a ≡ 0
 or-zero-left a b h = omega (arith, or-add-and a b, and-le-r a b)
@@ -270,4 +270,3 @@ pub and-or-pow-digit : (a i v : ℕ) → bitAnd (bitOr a (2 ^ i)) v ≡ 0 → di
 and-or-pow-digit a i v h =
     let z : bitAnd (2 ^ i) v ≡ 0 = or-zero-right (bitAnd a v) (bitAnd (2 ^ i) v) (sym (and-or a (2 ^ i) v) ∙ h) in
     sym (parity-pow i v) ∙ parity-of-none (2 ^ i) v z
-

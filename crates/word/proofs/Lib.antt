@@ -2,3 +2,4 @@ pub mod Laws
 pub mod SomeLaws
 pub mod WorkedLaws
 pub mod ByteLaws
+pub mod FrontLaws

@@ -1,10 +1,10 @@
 -- What a test over a range or over a list says when it passes and when it fails. Assumes nothing.
-use mathlib.Core.Path.{_≡_, refl, _∙_}
+use mathlib.Core.Path.{_≡_, refl, sym, _∙_}
 use mathlib.Core.Bool.{Bool, true, false, _||_}
 use mathlib.Core.Logic.{_⊎_, inl, inr, ⊎-elim}
 use mathlib.Core.List.{List, [], _∷_, _++_}
-use Prim.Native.Nat.{ℕ, zero, suc, _+_, _<_, _≤_}
-use native.Mathlib.Nat.{not-suc-le-zero, le-suc, eq-or-lt-of-le, le-of-suc-le-suc}
+use Prim.Native.Nat.{ℕ, zero, suc, _<_, suc-le-suc}
+use native.Mathlib.Nat.{not-suc-le-zero, zero-lt-suc, lt-suc-self, le-step, eq-or-lt-of-le, le-of-suc-le-suc}
 use lib.ListN.{length, getD}
 use Rattle.word.specs.Some.{anyBelow, anyOf}
 
@@ -34,13 +34,7 @@ or-true-right false b h = h
 pub any-below-none : (n : ℕ) (f : ℕ → Bool) → ((k : ℕ) → k < n → f k ≡ false) → anyBelow n f ≡ false
 unfolding anyBelow
 any-below-none zero f h = refl
-any-below-none (suc n) f h = or-false _ _ (any-below-none n f (λ k l. h k (le-suc-of k n l))) (h n (self n))
-  where
-    le-suc-of : (k n : ℕ) → k < n → k < suc n
-    le-suc-of k n l = search (native.Mathlib.Nat.le-step)
-
-    self : (n : ℕ) → n < suc n
-    self n = native.Mathlib.Nat.lt-suc-self n
+any-below-none (suc n) f h = or-false _ _ (any-below-none n f (λ k l. h k (le-step l))) (h n (lt-suc-self n))
 
 pub any-below-false : (n : ℕ) (f : ℕ → Bool) → anyBelow n f ≡ false → (k : ℕ) → k < n → f k ≡ false
 unfolding anyBelow
@@ -60,8 +54,8 @@ pub any-below-ext : (n : ℕ) (f g : ℕ → Bool) → ((k : ℕ) → k < n → 
 unfolding anyBelow
 any-below-ext zero f g h = refl
 any-below-ext (suc n) f g h =
-    let tail : anyBelow n f ≡ anyBelow n g = any-below-ext n f g (λ k l. h k (native.Mathlib.Nat.le-step l)) in
-    let last : f n ≡ g n = h n (native.Mathlib.Nat.lt-suc-self n) in
+    let tail : anyBelow n f ≡ anyBelow n g = any-below-ext n f g (λ k l. h k (le-step l)) in
+    let last : f n ≡ g n = h n (lt-suc-self n) in
     cc
 
 -- ---- a list
@@ -77,3 +71,32 @@ any-of-append f (x ∷ l) r = ap-or (f x) (any-of-append f l r) ∙ or-assoc-bac
     or-assoc-back : (a b c : Bool) → (a || (b || c)) ≡ (a || b || c)
     or-assoc-back true b c = refl
     or-assoc-back false b c = refl
+
+pub any-of-none : {A : Type 0} (f : A → Bool) (d : A) (l : List A) → ((k : ℕ) → k < length l → f (getD l k d) ≡ false) → anyOf f l ≡ false
+unfolding anyOf
+any-of-none f d [] h = refl
+any-of-none f d (x ∷ l) h = or-false _ _ (h zero (zero-lt-suc (length l))) (any-of-none f d l (λ k m. h (suc k) (suc-le-suc m)))
+
+pub any-of-some : {A : Type 0} (f : A → Bool) (d : A) (l : List A) (k : ℕ) → k < length l → f (getD l k d) ≡ true → anyOf f l ≡ true
+unfolding anyOf
+any-of-some f d [] k m h = absurd (not-suc-le-zero m)
+any-of-some f d (x ∷ l) zero m h = or-true-left _ _ h
+any-of-some f d (x ∷ l) (suc k) m h = or-true-right (f x) _ (any-of-some f d l k (le-of-suc-le-suc m) h)
+
+pub any-of-false : {A : Type 0} (f : A → Bool) (d : A) (l : List A) → anyOf f l ≡ false → (k : ℕ) → k < length l → f (getD l k d) ≡ false
+unfolding anyOf
+any-of-false f d [] h k m = absurd (not-suc-le-zero m)
+any-of-false f d (x ∷ l) h zero m = or-false-left (f x) (anyOf f l) h
+any-of-false f d (x ∷ l) h (suc k) m = any-of-false f d l (or-false-right (f x) (anyOf f l) h) k (le-of-suc-le-suc m)
+
+-- a test over a list is one over its places
+pub any-of-below : {A : Type 0} (f : A → Bool) (d : A) (l : List A) → anyOf f l ≡ anyBelow (length l) (λ k. f (getD l k d))
+any-of-below f d l = go (anyOf f l) refl
+  where
+    go : (b : Bool) → anyOf f l ≡ b → anyOf f l ≡ anyBelow (length l) (λ k. f (getD l k d))
+    go false e = e ∙ sym (any-below-none (length l) (λ k. f (getD l k d)) (any-of-false f d l e))
+    go true e = other (anyBelow (length l) (λ k. f (getD l k d))) refl
+      where
+        other : (b : Bool) → anyBelow (length l) (λ k. f (getD l k d)) ≡ b → anyOf f l ≡ anyBelow (length l) (λ k. f (getD l k d))
+        other true g = e ∙ sym g
+        other false g = any-of-none f d l (any-below-false (length l) (λ k. f (getD l k d)) g) ∙ sym g

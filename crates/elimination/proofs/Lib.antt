@@ -1,0 +1,12 @@
+pub mod Worked
+pub mod Span
+pub mod StepLaws
+pub mod Tops
+pub mod Units
+pub mod Listed
+pub mod Reducing
+pub mod Passing
+pub mod Theorems
+pub mod CodeLaws
+pub mod LoopLaws
+pub mod CallLaws

@@ -1,0 +1,213 @@
+-- The start, turn and end of the loops over columns and over words. Assumes nothing.
+use mathlib.Core.Path.{_≡_, refl, sym, ap, ap₂, _∙_, subst}
+use mathlib.Core.Bool.{Bool, true, false, not, _&&_, _||_}
+use mathlib.Core.Logic.{_⊎_, inl, inr, ⊎-elim}
+use mathlib.Core.List.{List, [], _∷_, _++_}
+use Prim.Native.Nat.{ℕ, zero, suc, _+_, _-_, _*_, _%_, _^_, _<_, _≤_}
+use native.Mathlib.Nat.{le-refl, le-add-left, one-mul, zero-add, suc-add, sub-add-cancel}
+use native.Mathlib.Numerals.{add-one}
+use native.Mathlib.Omega.{arith}
+use borrow.Author.Tests.{lt-leb, leb-false, le-leb, leb-true, lt-ltb, le-ltb, not-true, not-false}
+use lib.Bits.{bitAnd, bitOr, or-lt, or-add-and, and-le-l, and-le-r}
+use lib.Dec.{eqb, ltb, leb}
+use lib.ListN.{length, getD, take, drop, set, length-append, length-drop, drop-of-length-le}
+use lib.Pow.{pow-pos, shl-exact}
+use lib.Seq.{drop-cons, take-suc-set, take-all, take-length, take-append-le, take-append-seam, drop-length, length-take-le, take-take, take-at}
+use Rattle.word.specs.Word.{beyond, highestBit}
+use Rattle.word.specs.Some.{anyOf, anyBelow}
+use Rattle.word.specs.Reply.{front}
+use Rattle.word.proofs.FrontLaws.{front-nothing, front-next, front-whole, front-length, front-take-length}
+use Rattle.word.proofs.SomeLaws.{any-of-below}
+use Rattle.elimination.specs.Pass.{follows, withTop, onePass}
+use Rattle.elimination.specs.Step.{step, steps, units}
+use Rattle.elimination.specs.Code.{orBelow}
+use Rattle.elimination.proofs.Span.{iff-eq, or-cases}
+use Rattle.elimination.proofs.Units.{length-units}
+
+-- ---- the OR of the columns
+
+beyond-or : (m a b : ℕ) → beyond m (bitOr a b) ≡ (beyond m a || beyond m b)
+unfolding beyond
+beyond-or m a b = go (leb (2 ^ m) a) (leb (2 ^ m) b) refl refl
+  where
+    go : (x y : Bool) → leb (2 ^ m) a ≡ x → leb (2 ^ m) b ≡ y → leb (2 ^ m) (bitOr a b) ≡ (leb (2 ^ m) a || leb (2 ^ m) b)
+    go true y ex ey =
+        rw ex (le-leb (2 ^ m) (bitOr a b) (omega (arith, leb-true (2 ^ m) a ex, or-add-and a b, and-le-r a b)))
+    go false true ex ey =
+        rw (ex, ey) (le-leb (2 ^ m) (bitOr a b) (omega (arith, leb-true (2 ^ m) b ey, or-add-and a b, and-le-l a b)))
+    go false false ex ey =
+        rw (ex, ey) (lt-leb (2 ^ m) (bitOr a b) (or-lt m a b (leb-false (2 ^ m) a ex) (leb-false (2 ^ m) b ey)))
+
+or-below-beyond : (m : ℕ) (ws : List ℕ) (i : ℕ) → beyond m (orBelow ws i) ≡ anyBelow i (λ k. beyond m (getD ws k 0))
+unfolding orBelow anyBelow beyond
+or-below-beyond m ws zero = lt-leb (2 ^ m) 0 (pow-pos m)
+or-below-beyond m ws (suc i) =
+    beyond-or m (orBelow ws i) (getD ws i 0) ∙ ap (λ (b : Bool). b || beyond m (getD ws i 0)) (or-below-beyond m ws i)
+
+pub or-all-beyond : (m : ℕ) (ws : List ℕ) → beyond m (orBelow ws (length ws)) ≡ anyOf (beyond m) ws
+or-all-beyond m ws = or-below-beyond m ws (length ws) ∙ sym (any-of-below (beyond m) 0 ws)
+
+pub or-start : (ws : List ℕ) → 0 ≡ orBelow ws 0
+unfolding orBelow
+or-start ws = refl
+
+pub or-turn : (ws : List ℕ) (i all : ℕ) → all ≡ orBelow ws i → bitOr all (getD ws i 0) ≡ orBelow ws (i + 1)
+unfolding orBelow
+or-turn ws i all e = ap (λ (x : ℕ). bitOr x (getD ws i 0)) e ∙ ap (orBelow ws) (sym (add-one i))
+
+pub or-end : (ws : List ℕ) (i all : ℕ) → all ≡ orBelow ws i → i ≤ length ws → length ws ≤ i → all ≡ orBelow ws (length ws)
+or-end ws i all e a b =
+    let same : i ≡ length ws = omega arith in
+    e ∙ ap (orBelow ws) same
+
+-- ---- the units
+
+pub units-start : (ws : List ℕ) → take 0 ws ≡ units 0
+unfolding units
+units-start ws = refl
+
+pub units-turn : (ws : List ℕ) (i : ℕ) → length ws ≡ 64 → i < 64 → take i ws ≡ units i → take (i + 1) (set ws i ((1 * 2 ^ i) % 18446744073709551616)) ≡ units (i + 1)
+unfolding units
+units-turn ws i long h e =
+    let bit : (1 * 2 ^ i) % 18446744073709551616 ≡ 2 ^ i = shl-exact {a = 1} 1 i 64 (omega arith) (omega arith) ∙ one-mul (2 ^ i) in
+    let inside : i < length ws = subst (λ (n : ℕ). i < n) (sym long) h in
+    ap (λ (n : ℕ). take n (set ws i ((1 * 2 ^ i) % 18446744073709551616))) (add-one i)
+    ∙ take-suc-set ws i ((1 * 2 ^ i) % 18446744073709551616) inside ∙ ap₂ (λ (x : List ℕ) (y : ℕ). x ++ y ∷ []) e bit
+    ∙ ap units (sym (add-one i))
+
+pub units-end : (ws : List ℕ) (i : ℕ) → length ws ≡ 64 → i ≤ 64 → 64 ≤ i → take i ws ≡ units i → ws ≡ units 64
+units-end ws i long l h e =
+    let all : i ≡ 64 = omega arith in
+    sym (take-all i ws (omega arith)) ∙ e ∙ ap units all
+
+units-prefix : (m d : ℕ) → take m (units (d + m)) ≡ units m
+unfolding units
+units-prefix m zero = ap (λ (n : ℕ). take m (units n)) (zero-add m) ∙ ap (λ (n : ℕ). take n (units m)) (sym (length-units m)) ∙ take-length (units m)
+units-prefix m (suc d) =
+    ap (λ (n : ℕ). take m (units n)) (suc-add d m)
+    ∙ take-append-le m (units (d + m)) (2 ^ (d + m) ∷ []) (subst (λ (n : ℕ). m ≤ n) (sym (length-units (d + m))) (le-add-left m d))
+    ∙ units-prefix m d
+
+pub units-front : (m : ℕ) → m ≤ 64 → take m (units 64) ≡ units m
+units-front m h = ap (λ (n : ℕ). take m (units n)) (omega (arith, sub-add-cancel h)) ∙ units-prefix m (64 - m)
+
+-- ---- words written over the front of a list
+
+pub written-start : (l : List ℕ) → l ≡ front [] l
+written-start l = sym (front-nothing l)
+
+pub written-turn : (vs l ws : List ℕ) (i : ℕ) → ws ≡ front (take i vs) l → i < length vs → i < length l → set ws i (getD vs i 0) ≡ front (take (i + 1) vs) l
+written-turn vs l ws i e hv hl =
+    ap (λ (x : List ℕ). set x i (getD vs i 0)) e ∙ front-next i vs l hv hl ∙ ap (λ (n : ℕ). front (take n vs) l) (sym (add-one i))
+
+pub written-end : (vs l ws : List ℕ) (i : ℕ) → ws ≡ front (take i vs) l → i ≤ length vs → length vs ≤ i → ws ≡ front vs l
+written-end vs l ws i e a b =
+    let all : i ≡ length vs = omega arith in
+    e ∙ ap (λ (n : ℕ). front (take n vs) l) all ∙ front-whole vs l
+
+-- ---- one pass over the words
+
+pub follows-not-above : (m last seen w : ℕ) → w ≤ last → false ≡ follows m last seen w
+unfolding follows
+follows-not-above m last seen w h = sym (ap (λ (b : Bool). b && (not (beyond m w) && eqb (bitAnd seen w) 0)) (le-ltb last w h))
+
+pub follows-beyond : (m last seen w : ℕ) (b : Bool) → b ≡ beyond m w → b ≡ true → last < w → false ≡ follows m last seen w
+unfolding follows
+follows-beyond m last seen w b e t h =
+    sym (ap₂ (λ (x y : Bool). x && (not y && eqb (bitAnd seen w) 0)) (lt-ltb last w h) (sym e ∙ t))
+
+pub follows-rest : (m last seen w : ℕ) (b : Bool) → b ≡ beyond m w → b ≡ false → last < w → eqb (bitAnd seen w) 0 ≡ follows m last seen w
+unfolding follows
+follows-rest m last seen w b e f h =
+    sym (ap₂ (λ (x y : Bool). x && (not y && eqb (bitAnd seen w) 0)) (lt-ltb last w h) (sym e ∙ f))
+
+pub pass-next : (m last seen : ℕ) (ws : List ℕ) (i : ℕ) → i < length ws
+    → onePass m last seen (drop i ws) ≡ (follows m last seen (getD ws i 0) && onePass m (getD ws i 0) (withTop seen (getD ws i 0)) (drop (i + 1) ws))
+unfolding onePass
+pass-next m last seen ws i h =
+    ap (onePass m last seen) (drop-cons ws i 0 h)
+    ∙ ap (λ (n : ℕ). follows m last seen (getD ws i 0) && onePass m (getD ws i 0) (withTop seen (getD ws i 0)) (drop n ws)) (sym (add-one i))
+
+pub pass-stop : (m last seen : ℕ) (ws : List ℕ) (i : ℕ) (b : Bool) → i < length ws → onePass m 0 0 ws ≡ onePass m last seen (drop i ws)
+    → b ≡ follows m last seen (getD ws i 0) → not b ≡ true → false ≡ onePass m 0 0 ws
+pass-stop m last seen ws i b h inv e n =
+    let stop : follows m last seen (getD ws i 0) ≡ false = sym e ∙ not-true b n in
+    sym (inv ∙ pass-next m last seen ws i h ∙ ap (λ (x : Bool). x && onePass m (getD ws i 0) (withTop seen (getD ws i 0)) (drop (i + 1) ws)) stop)
+
+pub pass-turn : (m last seen seen′ : ℕ) (ws : List ℕ) (i : ℕ) (b : Bool) → i < length ws → onePass m 0 0 ws ≡ onePass m last seen (drop i ws)
+    → b ≡ follows m last seen (getD ws i 0) → not b ≡ false → seen′ ≡ withTop seen (getD ws i 0)
+    → onePass m 0 0 ws ≡ onePass m (getD ws i 0) seen′ (drop (i + 1) ws)
+pass-turn m last seen seen′ ws i b h inv e n t =
+    let go-on : follows m last seen (getD ws i 0) ≡ true = sym e ∙ not-false b n in
+    inv ∙ pass-next m last seen ws i h
+    ∙ ap₂ (λ (x : Bool) (y : ℕ). x && onePass m (getD ws i 0) y (drop (i + 1) ws)) go-on (sym t)
+
+pub pass-end : (m last seen : ℕ) (ws : List ℕ) (i : ℕ) → onePass m 0 0 ws ≡ onePass m last seen (drop i ws) → length ws ≤ i → true ≡ onePass m 0 0 ws
+unfolding onePass
+pass-end m last seen ws i inv h = sym (inv ∙ ap (onePass m last seen) (drop-of-length-le ws h))
+
+pub with-top-bit : (seen w h : ℕ) → h ≡ highestBit w → bitOr seen ((1 * 2 ^ h) % 18446744073709551616) ≡ withTop seen w
+unfolding withTop highestBit
+with-top-bit seen w h e =
+    let small : h < 64 = omega arith in
+    ap (bitOr seen) (shl-exact {a = 1} 1 h 64 (omega arith) (omega arith) ∙ one-mul (2 ^ h) ∙ ap (λ (x : ℕ). 2 ^ x) e)
+
+pub highest-small : (w h : ℕ) → h ≡ highestBit w → h < 64
+unfolding highestBit
+highest-small w h e = omega arith
+
+-- ---- the columns one after the other
+
+pub record Reduced (cs l ws : List ℕ) (left i : ℕ) : Type 0 where
+  pub left-long : left ≤ length ws
+  pub long : length ws ≡ length l
+  pub done : steps (drop i cs) (take left ws) ≡ steps cs l
+
+pub reduced-start : (cs l : List ℕ) → Reduced cs l l (length l) 0
+reduced-start cs l = record { left-long = le-refl (length l); long = refl; done = ap (steps cs) (take-length l) }
+
+steps-cons : (cs : List ℕ) (i : ℕ) (ws : List ℕ) → i < length cs → steps (drop i cs) ws ≡ steps (drop (i + 1) cs) (step (getD cs i 0) ws)
+unfolding steps
+steps-cons cs i ws h =
+    ap (λ (x : List ℕ). steps x ws) (drop-cons cs i 0 h) ∙ ap (λ (n : ℕ). steps (drop n cs) (step (getD cs i 0) ws)) (sym (add-one i))
+
+pub steps-none : (cs : List ℕ) → steps cs [] ≡ []
+unfolding steps step
+steps-none [] = refl
+steps-none (c ∷ cs) = steps-none cs
+
+-- `part` is what the step left where the first `left` words were lent
+pub reduced-turn : (cs l ws part : List ℕ) (left next i : ℕ) → Reduced cs l ws left i → i < length cs
+    → length part ≡ length (take left ws)
+    → next ≡ length (step (getD cs i 0) (take left ws))
+    → part ≡ front (step (getD cs i 0) (take left ws)) (take left ws)
+    → Reduced cs l (part ++ drop left ws) next (i + 1)
+unfolding front
+reduced-turn cs l ws part left next i r h same count e =
+    let s = step (getD cs i 0) (take left ws) in
+    let taken : length (take left ws) ≡ left = length-take-le left ws (r .left-long) in
+    let whole : length (part ++ drop left ws) ≡ length ws =
+    length-append part (drop left ws) ∙ omega (arith, length-drop left ws, r .left-long)
+    in
+    let short : length s ≤ length part = subst (λ (x : List ℕ). length s ≤ length x) (sym e) (omega (arith, length-append s (drop (length s) (take left ws)))) in
+    record {
+      left-long = omega (arith, length-append part (drop left ws));
+      long = whole ∙ r .long;
+      done =
+          ap (λ (n : ℕ). steps (drop (i + 1) cs) (take n (part ++ drop left ws))) count
+          ∙ ap (steps (drop (i + 1) cs))
+          (take-append-le (length s) part (drop left ws) short ∙ ap (take (length s)) e
+          ∙ take-append-seam s (drop (length s) (take left ws)))
+          ∙ sym (steps-cons cs i (take left ws) h) ∙ r .done;
+    }
+
+pub reduced-empty : (cs l ws : List ℕ) (left i : ℕ) → Reduced cs l ws left i → left ≡ 0 → (0 ≡ length (steps cs l)) × (take 0 ws ≡ steps cs l)
+reduced-empty cs l ws left i r z =
+    let none : steps cs l ≡ [] = sym (r .done) ∙ ap (λ (n : ℕ). steps (drop i cs) (take n ws)) z ∙ steps-none (drop i cs) in
+    (ap length (sym none), sym none)
+
+pub reduced-end : (cs l ws : List ℕ) (left i : ℕ) → Reduced cs l ws left i → length cs ≤ i → (left ≡ length (steps cs l)) × (take left ws ≡ steps cs l)
+unfolding steps
+reduced-end cs l ws left i r h =
+    let all : take left ws ≡ steps cs l = ap (λ (x : List ℕ). steps x (take left ws)) (sym (drop-of-length-le cs h)) ∙ r .done in
+    (sym (length-take-le left ws (r .left-long)) ∙ ap length all, all)

@@ -1,0 +1,27 @@
+-- `cleared_word` meets its contract, by the parity.
+use mathlib.Core.Path.{_≡_, sym, ap, _∙_}
+use mathlib.Core.Logic.{⊎-elim}
+use Prim.Native.Nat.{ℕ}
+use lib.Bits.{bitXor}
+use Rattle.word.specs.Word.{parity}
+use Rattle.word.proofs.Laws.{parity-cases}
+use Rattle.elimination.specs.Step.{byParity}
+use Rattle.elimination.proofs.CodeLaws.{clear-even, clear-odd}
+use borrow.Author.Needs.{needs}
+use Rattle.elimination.proofs.cleared_word.Statement.{statement}
+use Rattle.elimination.proofs.cleared_word.Tie as tie
+use Rattle.elimination.proofs.cleared_word.Reads as reads
+use Rattle.elimination.proofs.cleared_word.Lts as lts
+use Rattle.word.proofs.shared_parity.Reads as shared-parity-reads
+
+shared-parity-requires : tie.Need-shared-parity-requires
+shared-parity-requires c κs = search needs
+
+returns : tie.Need-returns
+returns c = clear-even _ _ _ _ (c .before .shared-parity .ensures) (c .if1 .taken)
+
+returns-2 : tie.Need-returns-2
+returns-2 c = clear-odd _ _ _ _ (c .before .shared-parity .ensures) (c .if1 .left)
+
+pub cleared-word-spec : {M : Type 1} → statement M
+cleared-word-spec = tie.close (tie.spec shared-parity-requires returns returns-2)

@@ -1,0 +1,125 @@
+-- `eliminate` meets its contract: each way out by its law.
+use mathlib.Core.Path.{sym}
+use native.Mathlib.Omega.{arith}
+use denote.Ref.{now}
+use lib.Seq.{length-take-le}
+use Rattle.elimination.proofs.CallLaws.{Kept, kept-of, kept-most, kept-words, held-long, width-inside, ends-2, ends-15, ends-17, ends-18, ends-done}
+use borrow.Author.Needs.{needs}
+use Rattle.elimination.proofs.eliminate.Statement.{statement}
+use Rattle.elimination.proofs.eliminate.Tie as tie
+use Rattle.elimination.proofs.eliminate.Reads as reads
+use Rattle.elimination.proofs.eliminate.Lts as lts
+use Rattle.elimination.proofs.has_column_beyond.Reads as has-column-beyond-reads
+use Rattle.elimination.proofs.reduce.Reads as reduce-reads
+use Rattle.elimination.proofs.refused.Reads as refused-reads
+use Rattle.elimination.proofs.unit_words.Reads as unit-words-reads
+use Rattle.elimination.proofs.write_front.Reads as write-front-reads
+use Rattle.word.proofs.is_bad_width.Reads as is-bad-width-reads
+
+kept : (c : tie.After-held2) → Kept (c .before .before .before .before .before .before .before .before .before .before .args .m) (now (c .before .before .before .before .before .before .before .before .before .before .args .columns)) (c .before .reduce .result)
+kept c =
+    kept-of _ _ _ _ _ _ (c .before .before .before .before .before .before .before .is-bad-width .ensures) (c .before .before .before .before .before .before .if1 .left) (c .before .before .before .before .before .has-column-beyond .ensures)
+    (c .before .before .before .before .if2 .left) (c .before .before .before .unit-words .ensures) (c .before .reduce .ensures .0)
+
+is-bad-width-requires : tie.Need-is-bad-width-requires
+is-bad-width-requires c κs = search needs
+
+refused-requires : tie.Need-refused-requires
+refused-requires c κs = search needs
+
+returns : tie.Need-returns
+returns c = ends-2 _ _ _ _ _ (c .before .before .is-bad-width .ensures) (c .before .if1 .taken) (c .refused .ensures)
+
+has-column-beyond-requires : tie.Need-has-column-beyond-requires
+has-column-beyond-requires c κs = search needs
+
+refused-requires-2 : tie.Need-refused-requires-2
+refused-requires-2 c κs = search needs
+
+returns-2 : tie.Need-returns-2
+returns-2 c =
+    ends-15 _ _ _ _ _ _ (c .before .before .before .before .is-bad-width .ensures) (c .before .before .before .if1 .left) (c .before .before .has-column-beyond .ensures) (c .before .if2 .taken) (c .refused2 .ensures)
+
+unit-words-requires : tie.Need-unit-words-requires
+unit-words-requires c κs = search needs
+
+array-borrow-prefix-held : tie.Need-array-borrow-prefix-held
+array-borrow-prefix-held c = width-inside _ _ _ (c .before .before .before .before .is-bad-width .ensures) (c .before .before .before .if1 .left) (c .unit-words .ensures)
+
+slice-aggregate-reduce : tie.Need-slice-aggregate-reduce
+slice-aggregate-reduce c = sym (length-take-le _ _ (width-inside _ _ _ (c .before .before .before .before .before .is-bad-width .ensures) (c .before .before .before .before .if1 .left) (c .before .unit-words .ensures)))
+
+reduce-requires : tie.Need-reduce-requires
+reduce-requires c κs = search needs
+
+sub-if3 : tie.Need-sub-if3
+sub-if3 c = kept-most _ _ _ (kept c)
+
+refused-requires-3 : tie.Need-refused-requires-3
+refused-requires-3 c κs = search needs
+
+returns-3 : tie.Need-returns-3
+returns-3 c = let z : ⊥ = omega (arith, c .before .if3 .taken) in absurd z
+
+refused-requires-4 : tie.Need-refused-requires-4
+refused-requires-4 c κs = search needs
+
+returns-4 : tie.Need-returns-4
+returns-4 c = ends-17 _ _ _ _ _ (kept (c .before .before .before)) (c .before .if4 .taken) (c .refused4 .ensures)
+
+refused-requires-5 : tie.Need-refused-requires-5
+refused-requires-5 c κs = search needs
+
+returns-5 : tie.Need-returns-5
+returns-5 c = ends-18 _ _ _ _ _ (kept (c .before .before .before .before)) (c .before .before .if4 .left) (c .before .if5 .taken) (c .refused5 .ensures)
+
+array-share-prefix-held : tie.Need-array-share-prefix-held
+array-share-prefix-held c =
+    held-long _ _ _ (c .before .before .before .before .before .reduce .last .0) _ (kept (c .before .before .before .before)) (c .before .before .before .before .before .before .before .unit-words .ensures) (c .before .before .before .before .before .reduce .kept .0)
+
+slice-aggregate-write-front : tie.Need-slice-aggregate-write-front
+slice-aggregate-write-front c =
+    sym (length-take-le _ _ (held-long _ _ _ (c .before .before .before .before .before .before .reduce .last .0) _ (kept (c .before .before .before .before .before)) (c .before .before .before .before .before .before .before .before .unit-words .ensures) (c .before .before .before .before .before .before .reduce .kept .0)))
+
+write-front-requires : tie.Need-write-front-requires
+write-front-requires c κs = search needs
+
+sub-t12 : tie.Need-sub-t12
+sub-t12 c = kept-most _ _ _ (kept (c .before .before .before .before .before .before .before .before))
+
+same-length : tie.Need-same-length
+same-length c = search needs
+
+returns-6 : tie.Need-returns-6
+returns-6 c =
+    ends-done _ _ _ _ _ _ (kept (c .before .before .before .before .before .before .before .before)) (c .before .before .before .before .before .before .if4 .left) (search needs)
+    (kept-words _ _ _ _ _ (kept (c .before .before .before .before .before .before .before .before)) (c .before .before .before .before .before .before .before .before .before .before .before .unit-words .ensures) (c .before .before .before .before .before .before .before .before .before .reduce .kept .0) (c .before .before .before .before .before .before .before .before .before .reduce .ensures .1))
+    (c .before .before .write-front .ensures)
+
+pub eliminate-spec : {M : Type 1} → statement M
+eliminate-spec =
+    tie.close
+    (tie.spec
+    is-bad-width-requires
+    refused-requires
+    returns
+    has-column-beyond-requires
+    refused-requires-2
+    returns-2
+    unit-words-requires
+    array-borrow-prefix-held
+    slice-aggregate-reduce
+    reduce-requires
+    sub-if3
+    refused-requires-3
+    returns-3
+    refused-requires-4
+    returns-4
+    refused-requires-5
+    returns-5
+    array-share-prefix-held
+    slice-aggregate-write-front
+    write-front-requires
+    sub-t12
+    same-length
+    returns-6)

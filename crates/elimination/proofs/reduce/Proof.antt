@@ -1,0 +1,81 @@
+-- `reduce` meets its contract: the columns passed have been stepped through.
+use mathlib.Core.Path.{_≡_, sym}
+use lib.Seq.{length-take-le}
+use Prim.Native.Nat.{_≤_, _-_}
+use lib.ListN.{length}
+use Rattle.elimination.proofs.LoopLaws.{Reduced, reduced-start, reduced-turn, reduced-empty, reduced-end}
+use borrow.Author.Needs.{needs}
+use Rattle.elimination.proofs.reduce.Statement.{statement}
+use Rattle.elimination.proofs.reduce.Tie as tie
+use Rattle.elimination.proofs.reduce.Reads as reads
+use Rattle.elimination.proofs.reduce.Lts as lts
+use Rattle.elimination.proofs.add_column.Reads as add-column-reads
+
+abbrev Inv-loop : tie.InvT-loop
+Inv-loop held₀ columns left₀ i₀ held left i = (i ≤ length columns) × Reduced columns held₀ held left i
+
+abbrev μ-loop : tie.MeasureT-loop
+μ-loop held₀ columns left₀ i₀ held left i = length columns - i
+
+loop-holds : tie.Need-loop-holds Inv-loop μ-loop
+loop-holds c = (search needs, reduced-start _ _)
+
+same-length : tie.Need-same-length Inv-loop μ-loop
+same-length c = search needs
+
+returns : tie.Need-returns Inv-loop μ-loop
+returns c = reduced-empty _ _ _ _ _ (c .before .before .loop .inv .1) (search needs)
+
+slice-relend-prefix-add-column : tie.Need-slice-relend-prefix-add-column Inv-loop μ-loop
+slice-relend-prefix-add-column c = search needs
+
+slice-aggregate-add-column : tie.Need-slice-aggregate-add-column Inv-loop μ-loop
+slice-aggregate-add-column c = sym (length-take-le _ _ (search needs))
+
+mul-add-column : tie.Need-mul-add-column Inv-loop μ-loop
+mul-add-column c = search needs
+
+shared-slice-read-add-column : tie.Need-shared-slice-read-add-column Inv-loop μ-loop
+shared-slice-read-add-column c = search needs
+
+add-column-requires : tie.Need-add-column-requires Inv-loop μ-loop
+add-column-requires c κs = search needs
+
+add-i : tie.Need-add-i Inv-loop μ-loop
+add-i c = search needs
+
+loop-less : tie.Need-loop-less Inv-loop μ-loop
+loop-less c = search needs
+
+loop-again : tie.Need-loop-again Inv-loop μ-loop
+loop-again c = (
+  search needs,
+  reduced-turn _ _ _ _ _ _ _ (c .before .before .before .before .before .before .before .loop .inv .1) (search needs)
+      (c .before .before .add-column .kept .0) (c .before .before .add-column .ensures .0) (c .before .before .add-column .ensures .1),
+)
+
+same-length-2 : tie.Need-same-length-2 Inv-loop μ-loop
+same-length-2 c = search needs
+
+returns-2 : tie.Need-returns-2 Inv-loop μ-loop
+returns-2 c = reduced-end _ _ _ _ _ (c .before .loop .inv .1) (search needs)
+
+pub reduce-spec : {M : Type 1} → statement M
+reduce-spec =
+    tie.close
+    (tie.spec
+    Inv-loop
+    μ-loop
+    loop-holds
+    same-length
+    returns
+    slice-relend-prefix-add-column
+    slice-aggregate-add-column
+    mul-add-column
+    shared-slice-read-add-column
+    add-column-requires
+    add-i
+    loop-less
+    loop-again
+    same-length-2
+    returns-2)

@@ -1,0 +1,6 @@
+pub mod Combination
+pub mod Reduced
+pub mod Pass
+pub mod Step
+pub mod Elimination
+pub mod Code
