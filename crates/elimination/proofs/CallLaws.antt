@@ -4,14 +4,14 @@ use mathlib.Core.Bool.{Bool, true, false, _||_}
 use mathlib.Core.List.{List, [], _∷_, _++_}
 use Prim.Native.Nat.{ℕ, zero, suc, _+_, _-_, _<_, _≤_}
 use native.Mathlib.Omega.{arith}
-use borrow.Author.Tests.{le-ltb, lt-ltb, ltb-false, eq-eqb, ne-eqb}
+use borrow.Author.Tests.{le-ltb, lt-ltb, eq-eqb, ne-eqb}
 use lib.Dec.{eqb, ltb}
 use lib.ListN.{length, take, drop, length-append}
 use lib.Seq.{take-append-le, length-take-le}
 use Rattle.word.specs.Word.{beyond, badWidth}
 use Rattle.word.specs.Some.{anyOf}
 use Rattle.word.specs.Reply.{Reply, answer, refusal, front, lent}
-use Rattle.word.proofs.SomeLaws.{or-false-left, or-false-right}
+use Rattle.word.proofs.WordLaws.{good-width}
 use Rattle.elimination.specs.Combination.{rank}
 use Rattle.elimination.specs.Reduced.{reducedList}
 use Rattle.elimination.specs.Step.{steps, units}
@@ -21,10 +21,6 @@ use Rattle.elimination.specs.declared.Eliminated.the-variants.{Done, Ref
 use Rattle.elimination.proofs.Theorems.{kept-list, words-and-rank, only-empty-list}
 use Rattle.elimination.proofs.Units.{length-units}
 use Rattle.elimination.proofs.LoopLaws.{units-front}
-
-pub width-most : (m : ℕ) → badWidth m ≡ false → m ≤ 64
-unfolding badWidth
-width-most m h = ltb-false 64 m (or-false-right (ltb m 1) (ltb 64 m) h)
 
 module _ (m : ℕ) (cs : List ℕ) (k : ℕ) where
   reply-2 : badWidth m ≡ true → eliminationReply m cs k ≡ refusal 2
@@ -111,13 +107,13 @@ ends-done m cs l l′ from q g n h e w =
 
 steps-kept : (m : ℕ) (cs held : List ℕ) → badWidth m ≡ false → held ≡ units 64 → steps cs (take m held) ≡ reducedList m cs
 steps-kept m cs held w e =
-    ap (steps cs) (ap (take m) e ∙ units-front m (width-most m w)) ∙ sym (kept-list m cs)
+    ap (steps cs) (ap (take m) e ∙ units-front m (good-width m w .1)) ∙ sym (kept-list m cs)
 
 pub kept-most : (m : ℕ) (cs : List ℕ) (q : ℕ) → Kept m cs q → q ≤ m
 kept-most m cs q g = omega (arith, words-and-rank m cs (g .columns), g .count)
 
 pub width-inside : (m : ℕ) (b : Bool) (held : List ℕ) → b ≡ badWidth m → b ≡ false → held ≡ units 64 → m ≤ length held
-width-inside m b held w f e = omega (arith, width-most m (sym w ∙ f), ap length e, length-units 64)
+width-inside m b held w f e = omega (arith, good-width m (sym w ∙ f) .1, ap length e, length-units 64)
 
 pub kept-of : (m : ℕ) (cs held : List ℕ) (b d : Bool) (q : ℕ) → b ≡ badWidth m → b ≡ false → d ≡ anyOf (beyond m) cs → d ≡ false → held ≡ units 64
     → q ≡ length (steps cs (take m held)) → Kept m cs q

@@ -3,3 +3,5 @@ pub mod SomeLaws
 pub mod WorkedLaws
 pub mod ByteLaws
 pub mod FrontLaws
+pub mod ReplyLaws
+pub mod WordLaws

@@ -1,0 +1,64 @@
+-- The shift within a word, and which way out of the clock gives which reply. Assumes nothing.
+use mathlib.Core.Path.{_≡_, sym, ap, ap₂, _∙_}
+use mathlib.Core.Bool.{false}
+use mathlib.Core.List.{List}
+use Prim.Native.Nat.{ℕ, _+_, _-_, _*_, _%_, _^_, min}
+use native.Mathlib.Omega.{arith}
+use borrow.Author.Tests.{eq-eqb}
+use lib.Bits.{bitAnd, bitXor, and-mask}
+use lib.ListN.{length}
+use lib.Pow.{mod-mod-pow}
+use Rattle.word.specs.Word.{digit, lowMask, beyond, badWidth}
+use Rattle.word.specs.Reply.{answer, refusal, replied, firstOf}
+use Rattle.register.specs.Row.{cell, rowBytes, spareSet}
+use Rattle.register.specs.Circuit.{chosen, advanced, driven, clocked, badTaps, badChains, badSpread}
+use Rattle.register.specs.Clock.{circuitOf, clockTests, clockReply}
+use Rattle.register.specs.declared.Register.{Register}
+use Rattle.word.proofs.WordLaws.{good-width}
+use Rattle.word.proofs.ReplyLaws.{none-applies, replied-refusal}
+
+-- a word holds the shifted state of every width up to 64, since bit 64 is dropped in any case
+pub shifted-in-word : (m s : ℕ) → bitAnd (s * 2 % 2 ^ 64) (lowMask m) ≡ s * 2 % 2 ^ min m 64
+unfolding lowMask
+shifted-in-word m s =
+    let fill : 64 - min m 64 + min m 64 ≡ 64 = omega arith in
+    and-mask (s * 2 % 2 ^ 64) (min m 64)
+    ∙ ap (λ (k : ℕ). s * 2 % 2 ^ k % 2 ^ min m 64) (sym fill) ∙ mod-mod-pow (s * 2) (64 - min m 64) (min m 64)
+
+-- what the code makes of a state is the state of a clock with all cells 0
+pub advanced-in-word : (m t s mask top feedback : ℕ) → mask ≡ lowMask m → top ≡ min m 64 - 1
+    → feedback ≡ chosen (digit top s) t → bitXor (bitAnd (s * 2 % 2 ^ 64) mask) feedback ≡ advanced (min m 64) t s
+unfolding advanced
+advanced-in-word m t s mask top feedback em et ef =
+    ap₂ bitXor (ap (bitAnd (s * 2 % 2 ^ 64)) em ∙ shifted-in-word m s) (ef ∙ ap (λ (i : ℕ). chosen (digit i s) t) et)
+
+-- ---- the clock's reply
+
+module _ (r : Register) (ws x : List ℕ) where
+  -- where no number applies the reply is the next state
+  pub clock-answers : firstOf (clockTests r ws x) ≡ 0 → clockReply r ws x ≡ answer (clocked (circuitOf r ws) (cell x) (r .state))
+  unfolding clockReply
+  clock-answers h = ap (λ (n : ℕ). replied n (clocked (circuitOf r ws) (cell x) (r .state))) h
+
+  pub clock-taken : badWidth (r .m) ≡ false → badTaps (r .m) (r .taps) ≡ false → badChains (length ws) ≡ false
+      → badSpread (r .m) ws ≡ false → length x ≡ rowBytes (length ws) → spareSet (length ws) x ≡ false
+      → beyond (r .m) (r .state) ≡ false → clockReply r ws x ≡ answer (clocked (circuitOf r ws) (cell x) (r .state))
+  unfolding clockTests
+  clock-taken h2 h3 h4 h6 h8 h9 h23 = clock-answers (rw (h2, h3, h4, h6, eq-eqb (length x) (rowBytes (length ws)) h8, h9, h23))
+
+  clock-width : firstOf (clockTests r ws x) ≡ 0 → badWidth (r .m) ≡ false
+  unfolding clockTests
+  clock-width h = none-applies (badWidth (r .m)) 1 _ h
+
+  pub clock-refused : (n : ℕ) → n ≡ firstOf (clockTests r ws x) → (n ≡ 0 → ⊥) → clockReply r ws x ≡ refusal n
+  unfolding clockReply
+  clock-refused n e h =
+      ap (λ (k : ℕ). replied k (clocked (circuitOf r ws) (cell x) (r .state))) (sym e)
+      ∙ replied-refusal n (clocked (circuitOf r ws) (cell x) (r .state)) h
+
+  pub clock-done : (d s : ℕ) → firstOf (clockTests r ws x) ≡ 0 → d ≡ driven ws (cell x) (length ws)
+      → s ≡ bitXor (advanced (min (r .m) 64) (r .taps) (r .state)) d → clockReply r ws x ≡ answer s
+  unfolding clocked
+  clock-done d s h ed es =
+      let width : min (r .m) 64 ≡ r .m = omega (arith, good-width (r .m) (clock-width h) .1) in
+      clock-answers h ∙ ap answer (sym (es ∙ ap₂ (λ (k y : ℕ). bitXor (advanced k (r .taps) (r .state)) y) width ed))

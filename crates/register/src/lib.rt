@@ -1,0 +1,204 @@
+// The signature register of document 01 and its clock.
+ghost use mathlib.Core.Path.{_≡_};
+ghost use mathlib.Core.Bool.{not, _||_};
+ghost use Prim.Native.Nat.{min, _-_};
+ghost use lib.Bits.{bitXor};
+ghost use lib.Dec.{eqb};
+ghost use lib.ListN.{length};
+ghost use Rattle.word.specs.Word.{beyond};
+ghost use Rattle.word.specs.Reply.{firstOf};
+ghost use Rattle.register.specs.Row.{rowBytes, cell, spareSet};
+ghost use Rattle.register.specs.Circuit.{chosen, advanced, driven, badTaps, badChains, badSpread};
+ghost use Rattle.register.specs.Clock.{clockTests, clockReply, said, stateAfter};
+
+// The register: its width m, its tap word and its state.
+pub struct Register {
+    pub m: u64,
+    pub taps: u64,
+    pub state: u64,
+}
+
+// What a clock answers: it clocked, or the first number that applies.
+pub enum Clocking {
+    Done,
+    Refused { number: u64 },
+}
+
+// What the clock hands back: the successor, or in a refusal the register as it was.
+pub struct Clocked {
+    pub answer: Clocking,
+    pub register: Register,
+}
+
+// B, the bytes of a row of n chains: n ÷ 8 rounded up, for every n.
+pub fn row_bytes(n: usize) -> usize
+    ensures { λ r. ⌜ r ≡ rowBytes n ⌝ }
+{
+    n / 8 + (n % 8 + 7) / 8
+}
+
+// The cell of chain c in a row: 0 or 1, and 0 past the row's end. It meets no number.
+pub fn cell_at(row: &[u8], c: usize) -> u64
+    ensures { λ r. ⌜ r ≡ cell (now (row .entry)) c ⌝ }
+{
+    (word::wide(word::byte_at(row, c / 8)) >> (c % 8)) % 2
+}
+
+// Number 9: whether a row of n chains has a spare bit set. The spare bits are the high ones of one byte.
+pub fn has_spare_bit(n: usize, row: &[u8]) -> bool
+    ensures { λ r. ⌜ r ≡ spareSet n (now (row .entry)) ⌝ }
+{
+    (n % 8 != 0) & (word::wide(word::byte_at(row, n / 8)) >> (n % 8) != 0)
+}
+
+// Number 3: whether the tap word has bit 0 clear or a bit at or above m.
+pub fn is_bad_taps(m: u64, taps: u64) -> bool
+    ensures { λ r. ⌜ r ≡ badTaps m taps ⌝ }
+{
+    (taps % 2 == 0) | word::is_beyond(m, taps)
+}
+
+// Number 4: whether n isn't 1 to 256.
+pub fn is_bad_chains(n: usize) -> bool
+    ensures { λ r. ⌜ r ≡ badChains n ⌝ }
+{
+    (n < 1) | (Register::LARGEST_CHAINS < n)
+}
+
+// Whether a spread word is zero or has a bit at or above m.
+fn is_bad_spread_word(m: u64, w: u64) -> bool
+    ensures { λ r. ⌜ r ≡ (eqb w 0 || beyond m w) ⌝ }
+{
+    (w == 0) | word::is_beyond(m, w)
+}
+
+// Number 6: whether one of the spread words is zero or has a bit at or above m.
+pub fn is_bad_spread(m: u64, spread: &[u64]) -> bool
+    ensures { λ r. ⌜ r ≡ badSpread m (now (spread .entry)) ⌝ }
+{
+    let mut c = 0;
+    while c < spread.len() {
+        if is_bad_spread_word(m, spread[c]) {
+            return true;
+        }
+        c += 1;
+    }
+    false
+}
+
+// The word w where the digit is 1, and 0 where it is 0.
+fn chosen_word(digit: u64, w: u64) -> u64
+    ensures { λ r. ⌜ r ≡ chosen digit w ⌝ }
+{
+    if digit == 0 { 0 } else { w }
+}
+
+// The XOR of the spread words of the chains whose cell in the row is 1. It meets no number: a cell past the row's end is 0.
+pub fn driven_word(spread: &[u64], row: &[u8]) -> u64
+    ensures { λ r. ⌜ r ≡ driven (now (spread .entry)) (cell (now (row .entry))) (length (now (spread .entry))) ⌝ }
+{
+    let mut drive = 0u64;
+    let mut c = 0;
+    while c < spread.len() {
+        drive = drive ^ chosen_word(cell_at(row, c), spread[c]);
+        c += 1;
+    }
+    drive
+}
+
+// The place of the highest bit of a register of width m: m - 1, and no place outside a word.
+fn top_place(m: u64) -> u64
+    ensures { λ r. ⌜ r ≡ min m 64 - 1 ⌝ }
+{
+    if m < 1 {
+        return 0;
+    }
+    if m < Register::LARGEST_WIDTH {
+        m - 1
+    } else {
+        Register::LARGEST_WIDTH - 1
+    }
+}
+
+// Number 8: whether a row isn't of B bytes.
+fn is_bad_row_length(n: usize, row: &[u8]) -> bool
+    ensures { λ r. ⌜ r ≡ not (eqb (length (now (row .entry))) (rowBytes n)) ⌝ }
+{
+    row.len() != row_bytes(n)
+}
+
+// The first number that the clock meets with this input; 0 where none applies.
+fn first_refusal(register: Register, spread: &[u64], row: &[u8]) -> u64
+    ensures { λ r. ⌜ r ≡ firstOf (clockTests register (now (spread .entry)) (now (row .entry))) ⌝ }
+{
+    if word::is_bad_width(register.m) {
+        return 2;
+    }
+    if is_bad_taps(register.m, register.taps) {
+        return 3;
+    }
+    if is_bad_chains(spread.len()) {
+        return 4;
+    }
+    if is_bad_spread(register.m, spread) {
+        return 6;
+    }
+    if is_bad_row_length(spread.len(), row) {
+        return 8;
+    }
+    if has_spare_bit(spread.len(), row) {
+        return 9;
+    }
+    if word::is_beyond(register.m, register.state) {
+        return 23;
+    }
+    0
+}
+
+impl Register {
+    pub const LARGEST_WIDTH: u64 = 64;
+
+    pub const LARGEST_CHAINS: usize = 256;
+
+    pub const LARGEST_SLICES: u64 = 512;
+
+    // The fresh register: it starts at zero.
+    pub fn fresh(m: u64, taps: u64) -> Register
+        ensures { λ r. ⌜ (r .m ≡ m) × (r .taps ≡ taps) × (r .state ≡ 0) ⌝ }
+    {
+        Register { m, taps, state: 0 }
+    }
+
+    // The register after one clock in which the chains drive this word; its width and tap word stay. It meets no number:
+    // a width above 64 counts as 64, and at width 0 bit 0 counts as the old top bit.
+    pub fn advance(self, drive: u64) -> Register
+        ensures { λ r. ⌜ (r .m ≡ self .m) × (r .taps ≡ self .taps) × (r .state ≡ bitXor (advanced (min (self .m) 64) (self .taps) (self .state)) drive) ⌝ }
+    {
+        let feedback = chosen_word((self.state >> top_place(self.m)) % 2, self.taps);
+        let shifted = (self.state << 1) & word::low_mask(self.m);
+        Register {
+            m: self.m,
+            taps: self.taps,
+            state: shifted ^ feedback ^ drive,
+        }
+    }
+
+    // One clock with the cells of one row: the register with its next state. It meets 2, 3, 4, 6, 8 (a row not of B
+    // bytes), 9 and 23 (the state), in that order; a refusal hands the register back as it came.
+    pub fn clock(self, spread: &[u64], row: &[u8]) -> Clocked
+        ensures { λ r. ⌜ said r ≡ clockReply self (now (spread .entry)) (now (row .entry)) ⌝ }
+        ensures { λ r. ⌜ (r .register .m ≡ self .m) × (r .register .taps ≡ self .taps) × (r .register .state ≡ stateAfter (clockReply self (now (spread .entry)) (now (row .entry))) (self .state)) ⌝ }
+    {
+        let number = first_refusal(self, spread, row);
+        if number != 0 {
+            return Clocked {
+                answer: Clocking::Refused { number },
+                register: self,
+            };
+        }
+        Clocked {
+            answer: Clocking::Done,
+            register: self.advance(driven_word(spread, row)),
+        }
+    }
+}
