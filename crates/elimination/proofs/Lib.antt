@@ -1,5 +1,5 @@
 pub mod Worked
-pub mod Span
+pub mod XFree
 pub mod StepLaws
 pub mod Tops
 pub mod Units

@@ -15,9 +15,12 @@ use lib.Pow.{pow-pos, pow-mono, pow-lt}
 use Rattle.word.specs.Word.{parity, digit}
 use Rattle.word.specs.Some.{allOf}
 use Rattle.word.proofs.Laws.{xor-cancel, xor-cancel-right, xor-assoc, xor-left-comm, xor-zero-eq, parity-xor, parity-pow, digit-xor}
-use Rattle.elimination.specs.Combination.{xFree, isXorOf}
+use Rattle.elimination.specs.Combination.{xFree}
+use Rattle.word.specs.Span.{isXorOf}
 use Rattle.elimination.specs.Reduced.{row, xorRows, withBit, orElse, made, keptBit, independent, keptWord, wordsBelow, reducedList}
-use Rattle.elimination.proofs.Span.{iff-eq, true-not-false, both-with, xor-of-cases, xor-of-nil, xor-of-tail, xor-of-with, xor-of-zero, xor-of-head, xor-of-xor, xor-of-join, xor-of-split, xor-of-left, xor-of-right, xor-of-one, x-free-xor, x-free-zero}
+use Rattle.elimination.proofs.XFree.{x-free-xor, x-free-zero}
+use Rattle.word.proofs.BoolLaws.{iff-eq, true-not-false}
+use Rattle.word.proofs.SpanLaws.{both-with, xor-of-cases, xor-of-nil, xor-of-tail, xor-of-with, xor-of-zero, xor-of-head, xor-of-xor, xor-of-join, xor-of-split, xor-of-left, xor-of-right, xor-of-one}
 use Rattle.elimination.proofs.Tops.{ClearIn, clear-nil, clear-cons, clear-append, Tops, tops-nil, tops-snoc, tops-wider, IsTop, top-here, top-later, top-under, one-top, below-shr, span-clear}
 use Rattle.elimination.proofs.Units.{power-top, power-digit, by-top-bit}
 

@@ -21,7 +21,7 @@ use Rattle.word.proofs.SomeLaws.{any-of-below}
 use Rattle.elimination.specs.Pass.{follows, withTop, onePass}
 use Rattle.elimination.specs.Step.{step, steps, units}
 use Rattle.elimination.specs.Code.{orBelow}
-use Rattle.elimination.proofs.Span.{iff-eq, or-cases}
+use Rattle.word.proofs.BoolLaws.{iff-eq, or-cases}
 use Rattle.elimination.proofs.Units.{length-units}
 
 -- ---- the OR of the columns

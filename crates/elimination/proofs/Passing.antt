@@ -11,10 +11,9 @@ use lib.Dec.{eqb, ltb, leb}
 use lib.Pow.{pow-pos, pow-mono}
 use Rattle.word.specs.Word.{digit, beyond, highestBit}
 use Rattle.word.proofs.Laws.{and-or-pow, and-or-pow-word, and-or-pow-digit}
-use Rattle.word.proofs.WorkedLaws.{and-left, and-right}
+use Rattle.word.proofs.BoolLaws.{and-left, and-right, and-intro, iff-eq}
 use Rattle.elimination.specs.Reduced.{isReduced}
 use Rattle.elimination.specs.Pass.{follows, withTop, onePass}
-use Rattle.elimination.proofs.Span.{and-intro, iff-eq}
 use Rattle.elimination.proofs.Tops.{ClearIn, clear-nil, clear-cons, Tops, tops-nil, tops-cons, top-below, top-least}
 use Rattle.elimination.proofs.Reducing.{top-of-highest, highest-below, highest-of-top, clear-above, from-top, reduced-of-tops, tops-of-reduced}
 

@@ -13,9 +13,8 @@ use lib.Pow.{pow-pos, pow-mono, split}
 use lib.Count.{leadingZeros, leading-top, leading-unique}
 use Rattle.word.specs.Word.{digit, beyond, highestBit}
 use Rattle.word.specs.Some.{allOf}
-use Rattle.word.proofs.WorkedLaws.{and-left, and-right}
+use Rattle.word.proofs.BoolLaws.{and-left, and-right, and-intro}
 use Rattle.elimination.specs.Reduced.{belowHead, ascending, topClear, topsClear, isReduced}
-use Rattle.elimination.proofs.Span.{and-intro}
 use Rattle.elimination.proofs.Tops.{ClearIn, clear-nil, clear-cons, Tops, tops-nil, tops-cons, top-below, top-least, top-digit, top-positive, below-shr}
 
 -- ---- the highest bit of a word

@@ -12,10 +12,12 @@ use lib.Dec.{eqb}
 use lib.ListN.{length}
 use Rattle.word.specs.Word.{parity}
 use Rattle.word.proofs.Laws.{xor-assoc, xor-cancel, xor-left-comm, xor-zero-eq, parity-xor, parity-xor-right, parity-lt, parity-cases, parity-comm, parity-zero}
-use Rattle.word.proofs.WorkedLaws.{and-left, and-right}
-use Rattle.elimination.specs.Combination.{xFree, isXorOf}
+use Rattle.word.proofs.BoolLaws.{and-left, and-right, or-cases, and-intro, iff-eq, true-not-false}
+use Rattle.elimination.specs.Combination.{xFree}
+use Rattle.word.specs.Span.{isXorOf}
 use Rattle.elimination.specs.Step.{byParity, cleared, step, steps}
-use Rattle.elimination.proofs.Span.{or-cases, and-intro, iff-eq, true-not-false, xor-of-cons, xor-of-nil, x-free-cons, x-free-head, x-free-tail}
+use Rattle.elimination.proofs.XFree.{x-free-cons, x-free-head, x-free-tail}
+use Rattle.word.proofs.SpanLaws.{xor-of-cons, xor-of-nil}
 
 abbrev even : ℕ → ℕ → Bool
 even c y = eqb (parity y c) 0

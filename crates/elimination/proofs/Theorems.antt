@@ -26,14 +26,16 @@ use lib.Pow.{pow-lt}
 use Rattle.word.specs.Word.{beyond, parity, digit}
 use Rattle.word.specs.Some.{anyOf, anyBelow}
 use Rattle.word.proofs.Laws.{xor-cancel, xor-left-comm, parity-pow}
-use Rattle.word.proofs.SomeLaws.{or-false-left, or-false-right, any-below-none, any-below-true, any-of-append}
-use Rattle.word.proofs.WorkedLaws.{and-left, and-right}
-use Rattle.elimination.specs.Combination.{xFree, isXorOf, member, grown, rankAfter, rank}
+use Rattle.word.proofs.SomeLaws.{any-below-none, any-below-true, any-of-append}
+use Rattle.word.proofs.BoolLaws.{or-false-left, or-false-right, and-left, and-right, and-intro, iff-eq, true-not-false}
+use Rattle.elimination.specs.Combination.{xFree, member, grown, rankAfter, rank}
+use Rattle.word.specs.Span.{isXorOf}
 use Rattle.elimination.specs.Reduced.{reducedList, isReduced}
 use Rattle.elimination.specs.Pass.{onePass}
 use Rattle.elimination.specs.Step.{step, steps, units}
 use Rattle.elimination.specs.Elimination.{onlyEmpty}
-use Rattle.elimination.proofs.Span.{and-intro, iff-eq, true-not-false, xor-of-head, x-free-zero, x-free-head}
+use Rattle.elimination.proofs.XFree.{x-free-zero, x-free-head}
+use Rattle.word.proofs.SpanLaws.{xor-of-head}
 use Rattle.elimination.proofs.StepLaws.{steps-span, step-dual, step-same, step-less}
 use Rattle.elimination.proofs.Tops.{Tops, tops-nil, tops-cons, tops-steps, tops-unique, span-below, top-positive, top-digit}
 use Rattle.elimination.proofs.Units.{units-tops, units-span, units-dual, length-units}

@@ -12,9 +12,10 @@ use lib.Pow.{pow-pos, pow-mono, split, shr-lt}
 use lib.Bits.{bitXor, xor-shr, xor-lt, xor-comm}
 use Rattle.word.specs.Word.{parity, digit}
 use Rattle.word.proofs.Laws.{xor-assoc, xor-cancel, xor-zero-eq, digit-xor, mod2-lt, parity-cases}
-use Rattle.elimination.specs.Combination.{isXorOf}
+use Rattle.word.specs.Span.{isXorOf}
 use Rattle.elimination.specs.Step.{byParity, cleared, step, steps}
-use Rattle.elimination.proofs.Span.{xor-of-nil, xor-of-cases, xor-of-head, xor-of-tail, xor-of-with, xor-of-zero, iff-eq}
+use Rattle.word.proofs.SpanLaws.{xor-of-nil, xor-of-cases, xor-of-head, xor-of-tail, xor-of-with, xor-of-zero}
+use Rattle.word.proofs.BoolLaws.{iff-eq}
 use Rattle.elimination.proofs.StepLaws.{step-even, step-odd, cleared-even, cleared-odd}
 
 -- bit i is clear in every word of the list

@@ -14,11 +14,12 @@ use lib.Pow.{pow-pos, pow-lt, pow-add}
 use lib.Bits.{bitXor, xor-shr, xor-comm}
 use Rattle.word.specs.Word.{parity, digit}
 use Rattle.word.proofs.Laws.{xor-cancel, xor-assoc, xor-zero-eq, parity-pow, parity-comm}
-use Rattle.word.proofs.SomeLaws.{or-true-left, or-true-right}
-use Rattle.word.proofs.WorkedLaws.{and-left, and-right}
-use Rattle.elimination.specs.Combination.{xFree, isXorOf}
+use Rattle.word.proofs.BoolLaws.{or-true-left, or-true-right, and-left, and-right, iff-eq}
+use Rattle.elimination.specs.Combination.{xFree}
+use Rattle.word.specs.Span.{isXorOf}
 use Rattle.elimination.specs.Step.{units}
-use Rattle.elimination.proofs.Span.{iff-eq, xor-of-cases, xor-of-nil, xor-of-tail, xor-of-with, xor-of-zero, xor-of-head, xor-of-xor, xor-of-left, xor-of-right, x-free-zero, x-free-head, x-free-append}
+use Rattle.elimination.proofs.XFree.{x-free-zero, x-free-head, x-free-append}
+use Rattle.word.proofs.SpanLaws.{xor-of-cases, xor-of-nil, xor-of-tail, xor-of-with, xor-of-zero, xor-of-head, xor-of-xor, xor-of-left, xor-of-right}
 use Rattle.elimination.proofs.Tops.{Tops, tops-nil, tops-snoc, IsTop, top-under, below-shr, shr-below}
 
 -- ---- the digits of a power of 2

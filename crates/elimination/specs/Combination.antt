@@ -2,11 +2,10 @@
 -- X-free if it shares an even number of bits with every column."
 --
 --   xFree cs w      document 01: the combination w is X-free for the columns cs
---   isXorOf ws y    y is the XOR of some of the words ws, or of none
 --   member y s      y stands in the list s
 --   grown s c       the list s of all XORs of some columns, after the column c: unchanged where c is in it already
 --   rank cs         document 01: the count of columns independent of earlier ones
-use mathlib.Core.Bool.{Bool, true, cond, _&&_, _||_}
+use mathlib.Core.Bool.{Bool, true, cond, _&&_}
 use mathlib.Core.List.{List, [], _∷_, _++_, map}
 use Prim.Native.Nat.{ℕ, _+_}
 use lib.Bits.{bitXor}
@@ -17,11 +16,6 @@ use Rattle.word.specs.Some.{anyOf}
 unfoldable pub xFree : List ℕ → ℕ → Bool
 xFree [] w = true
 xFree (c ∷ cs) w = eqb (parity w c) 0 && xFree cs w
-
--- without the first word, or with it
-unfoldable pub isXorOf : List ℕ → ℕ → Bool
-isXorOf [] y = eqb y 0
-isXorOf (w ∷ ws) y = isXorOf ws y || isXorOf ws (bitXor w y)
 
 abbrev pub member : ℕ → List ℕ → Bool
 member y s = anyOf (eqb y) s

@@ -18,7 +18,8 @@ use lib.Pow.{pow-pos, mod-pow-add}
 use Rattle.word.specs.Word.{digit, beyond}
 use Rattle.word.specs.Some.{anyOf}
 use Rattle.word.proofs.Laws.{mod2-lt, bit-cases, xor-zero-eq, xor-cancel-right, digit-xor}
-use Rattle.word.proofs.SomeLaws.{or-false-left, or-false-right, any-of-false}
+use Rattle.word.proofs.SomeLaws.{any-of-false}
+use Rattle.word.proofs.BoolLaws.{or-false-left, or-false-right}
 use Rattle.register.specs.Row.{Cells, cell}
 use Rattle.register.specs.Circuit.{Circuit, chains, chosen, advanced, driven, clocked, badTaps, badSpread}
 use Rattle.word.proofs.WordLaws.{xor-crosswise, xor-double, below-top, within}

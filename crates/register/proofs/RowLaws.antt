@@ -13,7 +13,8 @@ use lib.Pow.{shr-le, shr-lt, shr-shr}
 use Rattle.word.specs.Word.{digit}
 use Rattle.word.specs.Some.{anyBelow}
 use Rattle.word.proofs.Laws.{bit-cases, mod2-lt}
-use Rattle.word.proofs.SomeLaws.{any-below-ext, or-true-right}
+use Rattle.word.proofs.SomeLaws.{any-below-ext}
+use Rattle.word.proofs.BoolLaws.{or-true-right}
 use Rattle.register.specs.Row.{rowBytes, cell, spareSet}
 use Rattle.word.proofs.WordLaws.{below-top}
 

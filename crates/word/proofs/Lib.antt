@@ -1,7 +1,9 @@
-pub mod Laws
+pub mod BoolLaws
 pub mod SomeLaws
-pub mod WorkedLaws
+pub mod Laws
+pub mod WordLaws
+pub mod SpanLaws
 pub mod ByteLaws
 pub mod FrontLaws
 pub mod ReplyLaws
-pub mod WordLaws
+pub mod WorkedLaws

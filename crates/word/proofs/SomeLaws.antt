@@ -7,27 +7,7 @@ use Prim.Native.Nat.{ℕ, zero, suc, _<_, suc-le-suc}
 use native.Mathlib.Nat.{not-suc-le-zero, zero-lt-suc, lt-suc-self, le-step, eq-or-lt-of-le, le-of-suc-le-suc}
 use lib.ListN.{length, getD}
 use Rattle.word.specs.Some.{anyBelow, anyOf}
-
-pub or-false-left : (a b : Bool) → (a || b) ≡ false → a ≡ false
-or-false-left true b h = h
-or-false-left false b h = refl
-
-pub or-false-right : (a b : Bool) → (a || b) ≡ false → b ≡ false
-or-false-right true b h = absurd-bool b h
-  where
-    absurd-bool : (c : Bool) → true ≡ false → c ≡ false
-    absurd-bool c e = cc
-or-false-right false b h = h
-
-pub or-false : (a b : Bool) → a ≡ false → b ≡ false → (a || b) ≡ false
-or-false a b ha hb = rw (ha, hb)
-
-pub or-true-left : (a b : Bool) → a ≡ true → (a || b) ≡ true
-or-true-left a b h = rw h
-
-pub or-true-right : (a b : Bool) → b ≡ true → (a || b) ≡ true
-or-true-right true b h = refl
-or-true-right false b h = h
+use Rattle.word.proofs.BoolLaws.{or-false-left, or-false-right, or-false, or-true-left, or-true-right}
 
 -- ---- a range
 

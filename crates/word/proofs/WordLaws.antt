@@ -11,7 +11,7 @@ use lib.Dec.{ltb}
 use lib.Pow.{pow-pos, shr-lt, split}
 use Rattle.word.specs.Word.{digit, beyond, badWidth}
 use Rattle.word.proofs.Laws.{xor-assoc, xor-left-comm}
-use Rattle.word.proofs.SomeLaws.{or-false-left, or-false-right}
+use Rattle.word.proofs.BoolLaws.{or-false-left, or-false-right}
 
 -- the XOR of two XORs, taken crosswise
 pub xor-crosswise : (a b c d : ℕ) → bitXor (bitXor a b) (bitXor c d) ≡ bitXor (bitXor a c) (bitXor b d)

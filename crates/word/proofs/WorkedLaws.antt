@@ -8,14 +8,7 @@ use borrow.Author.Tests.{eqb-true}
 use lib.Dec.{eqb}
 use lib.ListN.{length, getD}
 use Rattle.word.specs.Worked.{Line, sameList, agrees}
-
-pub and-left : (a b : Bool) → (a && b) ≡ true → a ≡ true
-and-left true b h = refl
-and-left false b h = h
-
-pub and-right : (a b : Bool) → (a && b) ≡ true → b ≡ true
-and-right true b h = h
-and-right false b h = cc
+use Rattle.word.proofs.BoolLaws.{and-left, and-right}
 
 pub same-list : (a b : List ℕ) → sameList a b ≡ true → a ≡ b
 same-list [] [] h = refl

@@ -3,3 +3,4 @@ pub mod Bytes
 pub mod Reply
 pub mod Some
 pub mod Worked
+pub mod Span

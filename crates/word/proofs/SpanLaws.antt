@@ -1,40 +1,14 @@
--- The laws of isXorOf and xFree: both are closed under XOR, and what a longer list adds. Assumes nothing.
+-- The laws of isXorOf: closed under XOR, and what a longer list adds. Assumes nothing.
 use mathlib.Core.Path.{_≡_, refl, sym, ap, ap₂, _∙_}
-use mathlib.Core.Bool.{Bool, true, false, _&&_, _||_, and-assoc}
+use mathlib.Core.Bool.{Bool, true, _||_}
 use mathlib.Core.Logic.{_⊎_, inl, inr, ⊎-elim}
 use mathlib.Core.List.{List, [], _∷_, _++_}
-use Prim.Native.Nat.{ℕ, zero, suc, _+_, _%_, _/_, _^_, _<_}
-use native.Mathlib.Omega.{arith}
-use borrow.Author.Tests.{eqb-true, eq-eqb, eqb-false}
-use lib.Bits.{bitXor, xor-comm, xor-zero-r, xor-self, xor-lt}
-use lib.Dec.{eqb}
-use Rattle.word.specs.Word.{parity, digit}
-use Rattle.word.proofs.Laws.{xor-assoc, xor-cancel, xor-left-comm, xor-zero-eq, parity-xor, parity-lt, parity-cases, parity-comm, parity-zero, digit-xor, mod2-lt}
-use Rattle.word.proofs.WorkedLaws.{and-left, and-right}
-use Rattle.word.proofs.SomeLaws.{or-true-left, or-true-right}
-use Rattle.elimination.specs.Combination.{xFree, isXorOf}
-
--- ---- Bool
-
-pub or-cases : (a b : Bool) → (a || b) ≡ true → (a ≡ true) ⊎ (b ≡ true)
-or-cases true b h = inl refl
-or-cases false b h = inr h
-
-pub and-intro : (a b : Bool) → a ≡ true → b ≡ true → (a && b) ≡ true
-and-intro a b ha hb = rw (ha, hb)
-
--- two tests that follow from each other are equal
-pub iff-eq : (a b : Bool) → (a ≡ true → b ≡ true) → (b ≡ true → a ≡ true) → a ≡ b
-iff-eq true b f g = sym (f refl)
-iff-eq false true f g = g refl
-iff-eq false false f g = refl
-
-pub not-true : (a : Bool) → (a ≡ true → ⊥) → a ≡ false
-not-true true h = absurd (h refl)
-not-true false h = refl
-
-pub true-not-false : (a : Bool) → a ≡ true → a ≡ false → ⊥
-true-not-false a p q = let z : _≡_ {A = ℕ} 0 1 = cc in omega arith
+use Prim.Native.Nat.{ℕ}
+use borrow.Author.Tests.{eqb-true}
+use lib.Bits.{bitXor, xor-comm, xor-self}
+use Rattle.word.specs.Span.{isXorOf}
+use Rattle.word.proofs.Laws.{xor-assoc, xor-cancel, xor-left-comm, xor-zero-eq}
+use Rattle.word.proofs.BoolLaws.{or-cases, or-true-left, or-true-right}
 
 -- ---- the XOR of some of a list
 
@@ -91,36 +65,6 @@ xor-of-xor (w ∷ ws) a b ha hb =
     (xor-of-cases w ws b hb))
     (xor-of-cases w ws a ha)
 
--- ---- X-free combinations
-
-pub x-free-cons : (c : ℕ) (cs : List ℕ) (w : ℕ) → parity w c ≡ 0 → xFree cs w ≡ true → xFree (c ∷ cs) w ≡ true
-unfolding xFree
-x-free-cons c cs w e h = and-intro _ _ (eq-eqb (parity w c) 0 e) h
-
-pub x-free-head : (c : ℕ) (cs : List ℕ) (w : ℕ) → xFree (c ∷ cs) w ≡ true → parity w c ≡ 0
-unfolding xFree
-x-free-head c cs w h = eqb-true (parity w c) 0 (and-left _ _ h)
-
-pub x-free-tail : (c : ℕ) (cs : List ℕ) (w : ℕ) → xFree (c ∷ cs) w ≡ true → xFree cs w ≡ true
-unfolding xFree
-x-free-tail c cs w h = and-right (eqb (parity w c) 0) _ h
-
-pub x-free-zero : (cs : List ℕ) → xFree cs 0 ≡ true
-unfolding xFree
-x-free-zero [] = refl
-x-free-zero (c ∷ cs) = x-free-cons c cs 0 (parity-zero c) (x-free-zero cs)
-
-even-sum : (p q : ℕ) → p ≡ 0 → q ≡ 0 → (p + q) % 2 ≡ 0
-even-sum p q a b = rw (a, b)
-
-pub x-free-xor : (cs : List ℕ) (a b : ℕ) → xFree cs a ≡ true → xFree cs b ≡ true → xFree cs (bitXor a b) ≡ true
-unfolding xFree
-x-free-xor [] a b ha hb = refl
-x-free-xor (c ∷ cs) a b ha hb =
-    x-free-cons c cs (bitXor a b)
-    (parity-xor a b c ∙ even-sum (parity a c) (parity b c) (x-free-head c cs a ha) (x-free-head c cs b hb))
-    (x-free-xor cs a b (x-free-tail c cs a ha) (x-free-tail c cs b hb))
-
 -- ---- two lists one after the other
 
 pub xor-of-join : (us vs : List ℕ) (a y : ℕ) → isXorOf us a ≡ true → isXorOf vs (bitXor a y) ≡ true → isXorOf (us ++ vs) y ≡ true
@@ -161,10 +105,3 @@ pub xor-of-one : (w y : ℕ) → isXorOf (w ∷ []) y ≡ true → (y ≡ 0) ⊎
 xor-of-one w y h =
     ⊎-elim (λ (p : isXorOf [] y ≡ true). inl (xor-of-nil y p))
     (λ (p : isXorOf [] (bitXor w y) ≡ true). inr (sym (xor-zero-eq w y (xor-of-nil (bitXor w y) p)))) (xor-of-cases w [] y h)
-
-pub x-free-append : (cs ds : List ℕ) (w : ℕ) → xFree (cs ++ ds) w ≡ (xFree cs w && xFree ds w)
-unfolding xFree
-x-free-append [] ds w = refl
-x-free-append (c ∷ cs) ds w =
-    ap (λ (b : Bool). eqb (parity w c) 0 && b) (x-free-append cs ds w)
-    ∙ sym (and-assoc (eqb (parity w c) 0) (xFree cs w) (xFree ds w))
