@@ -7,9 +7,9 @@ use native.Mathlib.Nat.{add-zero, add-suc, suc-add, pow-suc, mod-lt, mod-one, on
 use native.Mathlib.Numerals.{add-one, towards-suc}
 use lib.Arith.{mod-mul}
 use lib.Dec.{lit<}
-use lib.ListN.{length, getD, set, drop-of-length-le}
+use lib.ListN.{length, getD, set, length-append, drop-of-length-le}
 use lib.Seq.{take-nil, take-at, drop-append-seam, sets, set-out}
-use Rattle.word.specs.Bytes.{number, numberAt, countAt, wordAt, bytesOf}
+use Rattle.word.specs.Bytes.{number, numberAt, countAt, wordAt, wordsAt, bytesOf, wordBytes}
 
 pub number-at-zero : (s : List ℕ) (i : ℕ) → numberAt zero s i ≡ 0
 unfolding numberAt number
@@ -114,3 +114,16 @@ bytes-of-lt (suc k) x (suc i) = bytes-of-lt k (x / 256) i
 pub number-at-lt : (k : ℕ) (s : List ℕ) (i : ℕ) → ((j : ℕ) → getD s j 0 < 256) → numberAt k s i < 256 ^ k
 number-at-lt zero s i b = rw number-at-zero (lit< tt)
 number-at-lt (suc k) s i b = omega (arith, number-at-suc k s i, pow-suc 256 k, b i, number-at-lt k s (suc i) b)
+
+-- ---- words one after the other
+
+pub length-words-at : (s : List ℕ) (i k : ℕ) → length (wordsAt s i k) ≡ k
+unfolding wordsAt
+length-words-at s i zero = refl
+length-words-at s i (suc k) = ap suc (length-words-at s (i + 8) k)
+
+pub length-word-bytes : (ws : List ℕ) → length (wordBytes ws) ≡ 8 * length ws
+unfolding wordBytes
+length-word-bytes [] = refl
+length-word-bytes (w ∷ ws) =
+    length-append (bytesOf 8 w) (wordBytes ws) ∙ omega (arith, bytes-of-length 8 w, length-word-bytes ws)

@@ -3,14 +3,17 @@
 use mathlib.Core.Path.{_≡_, refl, sym, ap, ap₂, _∙_}
 use mathlib.Core.Logic.{_⊎_, inl, inr}
 use Prim.Native.Nat.{ℕ, zero, suc, _+_, _-_, _*_, _/_, _%_, _^_, _<_, _≤_, min, max}
-use native.Mathlib.Nat.{add-zero, zero-add, zero-min, zero-mul, mul-one, mul-assoc, pow-suc, div-one}
+use native.Mathlib.Nat.{add-zero, zero-add, zero-min, zero-mul, mul-one, mul-assoc, pow-suc, div-one, not-suc-le-zero, le-of-suc-le-suc}
 use native.Mathlib.Numerals.{one-add}
 use native.Mathlib.Omega.{arith}
 use lib.Arith.{bin-ind}
 use lib.Pow.{shr-shr}
 use lib.Bits.{bitXor, bitAnd, bitOr, differ, xor-step, and-step, or-step, xor-zero-r, xor-self, xor-comm, and-comm, and-le-l, and-le-r, or-add-and, xor-shr, and-shr, or-shr}
 use lib.Count.{ones, ones-step}
+use mathlib.Core.List.{List, [], _∷_}
+use lib.ListN.{length, getD}
 use Rattle.word.specs.Word.{digit, parity}
+use Rattle.word.specs.Parities.{parities}
 
 -- ---- digits below 2
 
@@ -270,3 +273,29 @@ pub and-or-pow-digit : (a i v : ℕ) → bitAnd (bitOr a (2 ^ i)) v ≡ 0 → di
 and-or-pow-digit a i v h =
     let z : bitAnd (2 ^ i) v ≡ 0 = or-zero-right (bitAnd a v) (bitAnd (2 ^ i) v) (sym (and-or a (2 ^ i) v) ∙ h) in
     sym (parity-pow i v) ∙ parity-of-none (2 ^ i) v z
+
+-- ---- the parities of a list of words
+
+pub parities-lt : (ws : List ℕ) (y : ℕ) → parities ws y < 2 ^ length ws
+unfolding parities
+parities-lt [] y = omega arith
+parities-lt (w ∷ ws) y = one-more (parity w y) (parities ws y) (length ws) (parity-lt w y) (parities-lt ws y)
+  where
+    one-more : (p x k : ℕ) → p < 2 → x < 2 ^ k → p + 2 * x < 2 ^ suc k
+    one-more p x k a b = omega arith
+
+pub parities-digit : (ws : List ℕ) (y i : ℕ) → i < length ws → digit i (parities ws y) ≡ parity (getD ws i 0) y
+unfolding parities
+parities-digit [] y i h = absurd (not-suc-le-zero h)
+parities-digit (w ∷ ws) y zero h =
+    ap (λ (x : ℕ). x % 2) (div-one (parity w y + 2 * parities ws y)) ∙ low (parity w y) (parities ws y) (parity-lt w y)
+  where
+    low : (p x : ℕ) → p < 2 → (p + 2 * x) % 2 ≡ p
+    low p x l = omega arith
+parities-digit (w ∷ ws) y (suc i) h =
+    ap (λ (x : ℕ). x % 2) (sym (shr-shr (parity w y + 2 * parities ws y) 1 i ∙ ap (λ (x : ℕ). (parity w y + 2 * parities ws y) / 2 ^ x) (one-add i)))
+    ∙ ap (λ (x : ℕ). x / 2 ^ i % 2) (half (parity w y) (parities ws y) (parity-lt w y))
+    ∙ parities-digit ws y i (le-of-suc-le-suc h)
+  where
+    half : (p x : ℕ) → p < 2 → (p + 2 * x) / 2 ≡ x
+    half p x l = omega arith
