@@ -1,5 +1,6 @@
 pub mod Worked
 pub mod XFree
+pub mod Agreeing
 pub mod StepLaws
 pub mod Tops
 pub mod Units
