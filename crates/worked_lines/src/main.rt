@@ -3,7 +3,9 @@ use elimination::Eliminated;
 use register::Clocking;
 use register::Register;
 
-const OUT: i32 = 1;
+mod sets;
+
+pub const OUT: i32 = 1;
 
 fn no_words() -> [u64; 64] {
     [0u64; 64]
@@ -13,7 +15,7 @@ fn all_sevens() -> [u64; 512] {
     [7u64; 512]
 }
 
-fn number(n: u64) {
+pub fn number(n: u64) {
     io::write_all(OUT, b" ");
     io::print_decimal(OUT, n);
 }
@@ -114,4 +116,14 @@ fn main() {
     clock(3, 3, 7);
     clock(3, 9, 0);
     clock(3, 3, 8);
+    sets::read(&sets::sample());
+    sets::read_edge(1, 1, 1, 0);
+    sets::read_edge(64, 1, 1, 0);
+    sets::read_edge(0, 1, 1, 0);
+    sets::read_edge(65, 1, 1, 0);
+    sets::read_edge(3, 9, 1, 0);
+    sets::read_edge(3, 3, 256, 0);
+    sets::read_edge(3, 3, 257, 0);
+    sets::read_edge(3, 3, 1, 513);
+    sets::read_edge(3, 3, 1, 512);
 }

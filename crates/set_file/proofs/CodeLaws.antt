@@ -1,0 +1,135 @@
+-- What the inner functions' answers come to, from what the functions that they call ensure. Assumes nothing.
+use mathlib.Core.Path.{_≡_, refl, sym, ap, ap₂, _∙_}
+use mathlib.Core.Bool.{Bool, true, false, not, _||_}
+use mathlib.Core.List.{List, _++_}
+use Prim.Native.Nat.{ℕ, _+_, _-_, _*_, _≤_, _<_}
+use native.Mathlib.Nat.{mul-le-mul-left, le-trans, mul-add, mul-one, mul-zero}
+use native.Mathlib.Omega.{arith}
+use borrow.Author.Tests.{ltb-false, eqb-true, not-false}
+use lib.Dec.{eqb, ltb}
+use lib.ListN.{length, getD, take, drop, length-drop}
+use lib.Seq.{take-at, take-all}
+use Rattle.word.specs.Some.{anyBelow}
+use Rattle.word.specs.Reply.{front}
+use Rattle.word.proofs.BoolLaws.{or-false-right}
+use Rattle.register.specs.Row.{rowBytes, spareSet}
+use Rattle.register.specs.Circuit.{badChains, badSpread}
+use Rattle.set_file.specs.Layout.{rowsAt, setLength, wordsAt, widthOf, chainsOf, spreadOf, slicesOf, valueAt, markAt, valueRow, markRow}
+use Rattle.set_file.specs.Reading.{spareInRows, valuedUnknown}
+use Rattle.set_file.specs.Writing.{listRow}
+use Rattle.set_file.specs.Code.{noWords, sharesBit}
+use Rattle.set_file.proofs.LayoutLaws.{words-length, row-step}
+use Rattle.set_file.proofs.RangeLaws.{none-passed, one-passed, one-found, all-passed}
+use Rattle.set_file.proofs.RowLaws.{SpareRow, spare-rows-none}
+use Rattle.set_file.proofs.SliceLaws.{rowsOf, spare-of-rows, slice-inside, valued-of-bytes}
+
+-- counts of 2 bytes keep a set's length small
+pub rows-small : (b s : ℕ) → b ≤ 8192 → s ≤ 65536 → 2 * b * s ≤ 1073741824
+rows-small b s hb hs = le-trans (mul-le-mul-left (2 * b) hs) (omega arith)
+
+-- the spread words stand at the front of the 256
+pub spread-front : (l spread : List ℕ) (n : ℕ) → spread ≡ front (wordsAt l 12 n) noWords → take n spread ≡ wordsAt l 12 n
+unfolding front
+spread-front l spread n e = ap (take n) e ∙ take-at (wordsAt l 12 n) _ n (words-length l 12 n)
+
+pub bad-spread-of : (set spread : List ℕ) (m n : ℕ) (r : Bool) → m ≡ widthOf set → n ≡ chainsOf set → r ≡ badSpread m (take n spread)
+    → spread ≡ front (spreadOf set) noWords → r ≡ badSpread (widthOf set) (spreadOf set)
+bad-spread-of set spread m n r em en er e =
+    er ∙ ap₂ badSpread em (ap (λ (k : ℕ). take k spread) en ∙ spread-front set spread (chainsOf set) e)
+
+pub wrong-length-of : (set : List ℕ) (n s r : ℕ) → n ≡ chainsOf set → s ≡ slicesOf set → r ≡ setLength n s
+    → not (eqb (length set) r) ≡ not (eqb (length set) (setLength (chainsOf set) (slicesOf set)))
+wrong-length-of set n s r en es er = ap (λ (x : ℕ). not (eqb (length set) x)) (er ∙ ap₂ setLength en es)
+
+-- ---- number 9
+
+pub spare-none : (set : List ℕ) (n : ℕ) → n ≡ chainsOf set → length set < rowsAt n → false ≡ spareInRows set
+spare-none set n e h =
+    let empty : length (rowsOf set) ≡ 0 = length-drop (rowsAt (chainsOf set)) set ∙ omega arith in
+    spare-rows-none (chainsOf set) (rowsOf set) (2 * slicesOf set) empty ∙ sym (spare-of-rows set)
+
+pub spare-of : (set : List ℕ) (n s : ℕ) (r : Bool) → n ≡ chainsOf set → s ≡ slicesOf set
+    → r ≡ anyBelow (2 * s) (SpareRow n (take (length set - rowsAt n) (drop (rowsAt n) set))) → r ≡ spareInRows set
+spare-of set n s r en es er =
+    let whole : take (length set - rowsAt n) (drop (rowsAt n) set) ≡ drop (rowsAt n) set =
+    take-all (length set - rowsAt n) (drop (rowsAt n) set) (omega (arith, length-drop (rowsAt n) set)) in
+    er ∙ ap (λ (l : List ℕ). anyBelow (2 * s) (SpareRow n l)) whole
+    ∙ ap₂ (λ (k x : ℕ). anyBelow (2 * x) (SpareRow k (drop (rowsAt k) set))) en es ∙ sym (spare-of-rows set)
+
+-- a row of the list, as it is lent
+pub row-lent : (n : ℕ) (l : List ℕ) (t at bytes : ℕ) (r : Bool) → bytes ≡ rowBytes n → at ≡ rowBytes n * t
+    → r ≡ spareSet n (take (at + bytes - at) (drop at l)) → r ≡ SpareRow n l t
+unfolding listRow
+row-lent n l t at bytes r eb ea er =
+    let count : at + bytes - at ≡ rowBytes n = omega arith in
+    er ∙ ap₂ (λ (k i : ℕ). spareSet n (take k (drop i l))) count ea
+
+-- ---- number 10
+
+-- slice t's value row and mark row have a bit in common
+abbrev pub SharedIn : List ℕ → ℕ → Bool
+SharedIn set t = sharesBit (valueRow set t) (markRow set t)
+
+-- the slices before t share nothing, and `at` is the place of slice t's value row
+pub record Unshared (set : List ℕ) (t at : ℕ) : Type 0 where
+  pub place : at ≡ valueAt (chainsOf set) t
+  pub most : at ≤ 600000 + length set
+  pub none : anyBelow t (SharedIn set) ≡ false
+
+pub unshared-start : (set : List ℕ) (n : ℕ) → n ≡ chainsOf set → n < 65536 → Unshared set 0 (14 + 8 * n)
+unshared-start set n e h =
+    record { place = omega (arith, mul-zero (2 * rowBytes (chainsOf set))); most = omega arith; none = none-passed (SharedIn set) }
+
+module _ (set : List ℕ) (t at bytes : ℕ) (u : Unshared set t at) (eb : bytes ≡ rowBytes (chainsOf set)) where
+  pub rows-lent : (r : Bool) → r ≡ sharesBit (take (at + bytes - at) (drop at set)) (take (at + bytes + bytes - (at + bytes)) (drop (at + bytes) set))
+      → r ≡ SharedIn set t
+  unfolding valueRow markRow
+  rows-lent r er =
+      let first : at + bytes - at ≡ rowBytes (chainsOf set) = omega arith in
+      let second : at + bytes + bytes - (at + bytes) ≡ rowBytes (chainsOf set) = omega arith in
+      let mark : at + bytes ≡ markAt (chainsOf set) t = omega (arith, u .place) in
+      er
+      ∙ ap₂ sharesBit (ap₂ (λ (k i : ℕ). take k (drop i set)) first (u .place)) (ap₂ (λ (k i : ℕ). take k (drop i set)) second mark)
+
+  pub unshared-turn : (r : Bool) → at + bytes + bytes ≤ length set
+      → r ≡ sharesBit (take (at + bytes - at) (drop at set)) (take (at + bytes + bytes - (at + bytes)) (drop (at + bytes) set))
+      → r ≡ false → Unshared set (t + 1) (at + bytes + bytes)
+  unshared-turn r inside er off = record {
+    place = omega (arith, u .place, mul-add (2 * rowBytes (chainsOf set)) t 1, mul-one (2 * rowBytes (chainsOf set)));
+    most = omega arith;
+    none = one-passed (SharedIn set) t (u .none) (sym (rows-lent r er) ∙ off);
+  }
+
+-- ---- the three ways out: the set ends too soon, a bit is shared, no slice shares one
+
+abbrev pub Valued : List ℕ → Bool → Type 0
+Valued set r = length set ≡ setLength (chainsOf set) (slicesOf set) → spareInRows set ≡ false → r ≡ valuedUnknown set
+
+pub valued-short : (set : List ℕ) (t at bytes s : ℕ) → Unshared set t at → bytes ≡ rowBytes (chainsOf set) → s ≡ slicesOf set → t < s
+    → length set < at + bytes + bytes → Valued set false
+valued-short set t at bytes s u eb es l short long clean =
+    let z : ⊥ = omega (arith, slice-inside set long t (rw es at l), u .place) in absurd z
+
+module _ (set : List ℕ) (small : (i : ℕ) → getD set i 0 < 256) where
+  pub valued-found : (t at bytes s : ℕ) (r : Bool) → Unshared set t at → bytes ≡ rowBytes (chainsOf set) → s ≡ slicesOf set → t < s
+      → r ≡ sharesBit (take (at + bytes - at) (drop at set)) (take (at + bytes + bytes - (at + bytes)) (drop (at + bytes) set))
+      → r ≡ true → Valued set true
+  valued-found t at bytes s r u eb es l er on long clean =
+      one-found (SharedIn set) (slicesOf set) t (rw es at l) (sym (rows-lent set t at bytes u eb r er) ∙ on)
+      ∙ valued-of-bytes set long clean small
+
+  pub valued-none : (t at s : ℕ) → Unshared set t at → s ≡ slicesOf set → t ≡ s → Valued set false
+  valued-none t at s u es e long clean =
+      all-passed (SharedIn set) (slicesOf set) t (u .none) (e ∙ es) ∙ valued-of-bytes set long clean small
+
+-- ---- what the tests before leave
+
+pub chains-fit : (set : List ℕ) (r : Bool) → r ≡ (ltb (length set) 12 || badChains (chainsOf set)) → r ≡ false → chainsOf set ≤ 256
+unfolding badChains
+chains-fit set r e h =
+    ltb-false 256 (chainsOf set)
+    (or-false-right (ltb (chainsOf set) 1) _ (or-false-right (ltb (length set) 12) _ (sym e ∙ h)))
+
+pub length-fits : (set : List ℕ) (r : Bool) → r ≡ not (eqb (length set) (setLength (chainsOf set) (slicesOf set))) → r ≡ false
+    → length set ≡ setLength (chainsOf set) (slicesOf set)
+length-fits set r e h = eqb-true (length set) _ (not-false _ (sym e ∙ h))

@@ -1,0 +1,137 @@
+-- The laws that the crates above cite: what an accepted set knows, and what the reader's reply says of its set. A set is
+-- accepted where none of the numbers 1 to 10 applies to it. Assumes nothing.
+use mathlib.Core.Path.{_≡_, refl, sym, ap, _∙_}
+use mathlib.Core.Bool.{Bool, true, false, not, cond, _&&_, _||_}
+use mathlib.Core.List.{List}
+use Prim.Native.Nat.{ℕ, zero, suc, _≤_, _<_}
+use native.Mathlib.Omega.{arith}
+use borrow.Author.Tests.{eq-eqb, ltb-false, eqb-true, not-false}
+use lib.Dec.{eqb, ltb}
+use lib.ListN.{length}
+use Rattle.word.specs.Word.{badWidth}
+use Rattle.word.specs.Some.{anyBelow}
+use Rattle.word.specs.Reply.{Reply, answer, refusal, replied, firstOf}
+use Rattle.word.proofs.WordLaws.{good-width}
+use Rattle.word.proofs.SomeLaws.{any-below-false}
+use Rattle.word.proofs.BoolLaws.{or-false-left, or-false-right}
+use Rattle.word.proofs.ReplyLaws.{replied-refusal}
+use Rattle.register.specs.Row.{rowBytes, spareSet}
+use Rattle.register.specs.Circuit.{badTaps, badChains, badSpread}
+use Rattle.set_file.specs.Layout.{slicesAt, rowsAt, setLength, widthOf, tapsOf, chainsOf, spreadOf, slicesOf, valueRow, markRow, values, marks}
+use Rattle.set_file.specs.Reading.{badSlices, spareInRows, valuedUnknown, setTests, SetParts, partsOf, setReply}
+use Rattle.set_file.proofs.LayoutLaws.{words-length}
+use Rattle.set_file.proofs.SliceLaws as slices
+
+-- ---- a list of tests of which none applies, and replies
+
+none-and-rest : (b : Bool) (n k : ℕ) → cond b (suc n) k ≡ 0 → (b ≡ false) × (k ≡ 0)
+none-and-rest true n k h = let z : ⊥ = omega arith in absurd z
+none-and-rest false n k h = (refl, h)
+
+pub replied-answer : {A : Type 0} (n : ℕ) (a p : A) → replied n a ≡ answer p → (n ≡ 0) × (p ≡ a)
+replied-answer zero a p h = (refl, cc)
+replied-answer (suc n) a p h = let z : _≡_ {A = ℕ} 0 1 = cc in let w : ⊥ = omega arith in absurd w
+
+pub replied-number : {A : Type 0} (n : ℕ) (a : A) (k : ℕ) → replied n a ≡ refusal k → n ≡ k
+replied-number zero a k h = let z : _≡_ {A = ℕ} 0 1 = cc in let w : ⊥ = omega arith in absurd w
+replied-number (suc n) a k h = cc
+
+-- ---- the reader's reply
+
+pub set-answers : (set : List ℕ) → firstOf (setTests set) ≡ 0 → setReply set ≡ answer (partsOf set)
+unfolding setReply
+set-answers set h = ap (λ (n : ℕ). replied n (partsOf set)) h
+
+pub set-refuses : (set : List ℕ) (n : ℕ) → n ≡ firstOf (setTests set) → (n ≡ 0 → ⊥) → setReply set ≡ refusal n
+unfolding setReply
+set-refuses set n e h = ap (λ (k : ℕ). replied k (partsOf set)) (sym e) ∙ replied-refusal n (partsOf set) h
+
+pub set-answer-parts : (set : List ℕ) (p : SetParts) → setReply set ≡ answer p → p ≡ partsOf set
+unfolding setReply
+set-answer-parts set p h = replied-answer (firstOf (setTests set)) (partsOf set) p h .1
+
+pub set-answer-none : (set : List ℕ) (p : SetParts) → setReply set ≡ answer p → firstOf (setTests set) ≡ 0
+unfolding setReply
+set-answer-none set p h = replied-answer (firstOf (setTests set)) (partsOf set) p h .0
+
+pub set-refusal-first : (set : List ℕ) (k : ℕ) → setReply set ≡ refusal k → firstOf (setTests set) ≡ k
+unfolding setReply
+set-refusal-first set k h = replied-number (firstOf (setTests set)) (partsOf set) k h
+
+-- ---- an accepted set
+
+pub record Accepted (set : List ℕ) : Type 0 where
+  pub width : badWidth (widthOf set) ≡ false
+  pub taps : badTaps (widthOf set) (tapsOf set) ≡ false
+  pub chains : badChains (chainsOf set) ≡ false
+  pub spread : badSpread (widthOf set) (spreadOf set) ≡ false
+  pub slices : slicesOf set ≤ 512
+  pub long : length set ≡ setLength (chainsOf set) (slicesOf set)
+  pub clean : spareInRows set ≡ false
+  pub unvalued : valuedUnknown set ≡ false
+
+pub accepted : (set : List ℕ) → firstOf (setTests set) ≡ 0 → Accepted set
+unfolding setTests badSlices
+accepted set h =
+    let p1 = none-and-rest (ltb (length set) 10) 0 _ h in
+    let p2 = none-and-rest (badWidth (widthOf set)) 1 _ (p1 .1) in
+    let p3 = none-and-rest (badTaps (widthOf set) (tapsOf set)) 2 _ (p2 .1) in
+    let p4 = none-and-rest (ltb (length set) 12 || badChains (chainsOf set)) 3 _ (p3 .1) in
+    let p5 = none-and-rest (ltb (length set) (slicesAt (chainsOf set))) 4 _ (p4 .1) in
+    let p6 = none-and-rest (badSpread (widthOf set) (spreadOf set)) 5 _ (p5 .1) in
+    let p7 = none-and-rest (badSlices set) 6 _ (p6 .1) in
+    let p8 = none-and-rest (not (eqb (length set) (setLength (chainsOf set) (slicesOf set)))) 7 _ (p7 .1) in
+    let p9 = none-and-rest (spareInRows set) 8 _ (p8 .1) in
+    let p10 = none-and-rest (valuedUnknown set) 9 _ (p9 .1) in
+    record {
+      width = p2 .0;
+      taps = p3 .0;
+      chains = or-false-right (ltb (length set) 12) (badChains (chainsOf set)) (p4 .0);
+      spread = p6 .0;
+      slices = ltb-false 512 (slicesOf set) (or-false-right (ltb (length set) (rowsAt (chainsOf set))) (ltb 512 (slicesOf set)) (p7 .0));
+      long = eqb-true (length set) _ (not-false _ (p8 .0));
+      clean = p9 .0;
+      unvalued = p10 .0;
+    }
+
+pub accepted-answer : (set : List ℕ) (p : SetParts) → setReply set ≡ answer p → Accepted set
+accepted-answer set p h = accepted set (set-answer-none set p h)
+
+good-chains : (n : ℕ) → badChains n ≡ false → (1 ≤ n) × (n ≤ 256)
+unfolding badChains
+good-chains n h =
+    (ltb-false n 1 (or-false-left (ltb n 1) (ltb 256 n) h), ltb-false 256 n (or-false-right (ltb n 1) (ltb 256 n) h))
+
+pub spread-length : (set : List ℕ) → length (spreadOf set) ≡ chainsOf set
+spread-length set = words-length set 12 (chainsOf set)
+
+module _ (set : List ℕ) (a : Accepted set) where
+  pub accepted-width : (1 ≤ widthOf set) × (widthOf set ≤ 64)
+  accepted-width = good-width (widthOf set) (a .width)
+
+  pub accepted-chains : (1 ≤ chainsOf set) × (chainsOf set ≤ 256)
+  accepted-chains = good-chains (chainsOf set) (a .chains)
+
+  pub value-row-length : (t : ℕ) → t < slicesOf set → length (valueRow set t) ≡ rowBytes (chainsOf set)
+  value-row-length = slices.value-row-length set (a .long)
+
+  pub mark-row-length : (t : ℕ) → t < slicesOf set → length (markRow set t) ≡ rowBytes (chainsOf set)
+  mark-row-length = slices.mark-row-length set (a .long)
+
+  pub value-row-clean : (t : ℕ) → t < slicesOf set → spareSet (chainsOf set) (valueRow set t) ≡ false
+  value-row-clean = slices.value-row-clean set (a .clean)
+
+  pub mark-row-clean : (t : ℕ) → t < slicesOf set → spareSet (chainsOf set) (markRow set t) ≡ false
+  mark-row-clean = slices.mark-row-clean set (a .clean)
+
+  -- document 01: "An unknown cell's value bit is 0."
+  pub unknown-unvalued : (t c : ℕ) → t < slicesOf set → c < chainsOf set → values set t c ≡ 1 → marks set t c ≡ 1 → ⊥
+  unfolding valuedUnknown
+  unknown-unvalued t c ht hc v k =
+      let off : (eqb (values set t c) 1 && eqb (marks set t c) 1) ≡ false =
+      any-below-false (chainsOf set) (λ c. eqb (values set t c) 1 && eqb (marks set t c) 1)
+      (any-below-false (slicesOf set) (λ t. anyBelow (chainsOf set) (λ c. eqb (values set t c) 1 && eqb (marks set t c) 1)) (a .unvalued) t ht) c hc
+      in
+      let on : (eqb (values set t c) 1 && eqb (marks set t c) 1) ≡ true = rw (eq-eqb (values set t c) 1 v, eq-eqb (marks set t c) 1 k) in
+      let z : _≡_ {A = ℕ} 0 1 = cc in
+      omega arith

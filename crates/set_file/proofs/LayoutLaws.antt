@@ -1,0 +1,77 @@
+-- The set's words and rows: how many, and which stands where. Assumes nothing.
+use mathlib.Core.Path.{_≡_, refl, sym, ap, _∙_}
+use mathlib.Core.Logic.{dite}
+use mathlib.Core.List.{List, []}
+use Prim.Native.Nat.{ℕ, zero, suc, _+_, _-_, _*_, _≤_, _<_, min, suc-le-suc}
+use native.Mathlib.Nat.{mul-le-mul-left, mul-assoc, mul-suc, mul-zero, le-of-suc-le-suc, not-suc-le-zero}
+use native.Mathlib.Numerals.{add-one}
+use native.Mathlib.Decide.{decLt}
+use native.Mathlib.Omega.{arith}
+use lib.Dec.{lit<}
+use lib.ListN.{length, getD, take, drop, set, length-take, length-drop, List·getD-eq-default}
+use lib.Seq.{getD-take, getD-drop}
+use Rattle.word.specs.Bytes.{wordAt}
+use Rattle.word.specs.Reply.{front}
+use Rattle.word.proofs.FrontLaws.{front-next, front-nothing, front-whole, front-length, front-take-length}
+use Rattle.register.specs.Row.{rowBytes}
+use Rattle.set_file.specs.Layout.{rowsAt, setLength, wordsAt, chainsOf, spreadOf, slicesOf, valueAt, markAt, valueRow, markRow}
+use Rattle.set_file.specs.Writing.{listRow}
+use Rattle.set_file.specs.Code.{noWords}
+
+-- ---- words
+
+pub words-length : (l : List ℕ) (i k : ℕ) → length (wordsAt l i k) ≡ k
+unfolding wordsAt
+words-length l i zero = refl
+words-length l i (suc k) = ap suc (words-length l (i + 8) k)
+
+pub words-get : (l : List ℕ) (i k c : ℕ) → c < k → getD (wordsAt l i k) c 0 ≡ wordAt l (i + 8 * c)
+unfolding wordsAt
+words-get l i zero c h = absurd (not-suc-le-zero h)
+words-get l i (suc k) zero h = ap (wordAt l) (omega arith)
+words-get l i (suc k) (suc c) h = words-get l (i + 8) k c (le-of-suc-le-suc h) ∙ ap (wordAt l) (omega arith)
+
+pub no-words-length : length noWords ≡ 256
+unfolding noWords
+no-words-length = refl
+
+-- ---- the spread words read so far
+
+pub spread-start : (l : List ℕ) → l ≡ noWords → l ≡ front [] noWords
+spread-start l e = e ∙ sym (front-nothing noWords)
+
+pub spread-turn : (l ws : List ℕ) (n c w : ℕ) → ws ≡ front (take c (wordsAt l 12 n)) noWords → c < n → c < 256
+    → w ≡ wordAt l (12 + 8 * c) → set ws c w ≡ front (take (c + 1) (wordsAt l 12 n)) noWords
+spread-turn l ws n c w e h b r =
+    let inside : c < length (wordsAt l 12 n) = omega (arith, words-length l 12 n) in
+    let room : c < length noWords = omega (arith, no-words-length) in
+    ap (λ (v : ℕ). set ws c v) (r ∙ sym (words-get l 12 n c h))
+    ∙ ap (λ (x : List ℕ). set x c (getD (wordsAt l 12 n) c 0)) e
+    ∙ front-next c (wordsAt l 12 n) noWords inside room
+    ∙ ap (λ (k : ℕ). front (take k (wordsAt l 12 n)) noWords) (sym (add-one c))
+
+pub spread-end : (l ws : List ℕ) (n c : ℕ) → ws ≡ front (take c (wordsAt l 12 n)) noWords → c ≡ n → ws ≡ front (wordsAt l 12 n) noWords
+spread-end l ws n c e h =
+    e ∙ ap (λ (k : ℕ). front (take k (wordsAt l 12 n)) noWords) (h ∙ sym (words-length l 12 n)) ∙ front-whole (wordsAt l 12 n) noWords
+
+-- ---- rows
+
+-- one row more lies within the rows
+pub row-step : (b t s : ℕ) → t < s → b * t + b ≤ b * s
+row-step b t s h = rw mul-suc at (mul-le-mul-left b h)
+
+pub list-row-length : (n : ℕ) (l : List ℕ) (s t : ℕ) → length l ≡ rowBytes n * s → t < s → length (listRow n l t) ≡ rowBytes n
+unfolding listRow
+list-row-length n l s t e h = simp (length-take, length-drop) (omega (arith, row-step (rowBytes n) t s h))
+
+-- a part of a list of bytes is one
+pub part-bytes : (l : List ℕ) (at n : ℕ) → ((i : ℕ) → getD l i 0 < 256) → (i : ℕ) → getD (take n (drop at l)) i 0 < 256
+part-bytes l at n small i = dite (decLt i n) inside past
+  where
+    inside : i < n → getD (take n (drop at l)) i 0 < 256
+    inside h = rw (getD-take n (drop at l) i 0 h, getD-drop at l i 0) (small (at + i))
+
+    past : (i < n → ⊥) → getD (take n (drop at l)) i 0 < 256
+    past h =
+        let end : length (take n (drop at l)) ≤ i = omega (arith, length-take n (drop at l)) in
+        rw (List·getD-eq-default (take n (drop at l)) 0 end) (lit< tt)

@@ -1,0 +1,106 @@
+-- `has_valued_unknown` meets its contract: in the slices passed no value row shares a bit with its mark row.
+use borrow.Author.Needs.{needs}
+use Rattle.set_file.proofs.CodeLaws.{Unshared, unshared-start, unshared-turn, valued-short, valued-found, valued-none}
+use Rattle.register.specs.Row.{rowBytes}
+use native.Mathlib.Omega.{arith}
+use Prim.Native.Nat.{_≤_, _-_}
+use mathlib.Core.Path.{ap, _∙_}
+use Rattle.set_file.proofs.has_valued_unknown.Statement.{statement}
+use Rattle.set_file.proofs.has_valued_unknown.Tie as tie
+
+abbrev Inv-loop : tie.InvT-loop
+Inv-loop set n s bytes at₀ t₀ at t = (t ≤ s) × Unshared set t at
+
+abbrev μ-loop : tie.MeasureT-loop
+μ-loop set n s bytes at₀ t₀ at t = s - t
+
+chain-count-requires : tie.Need-chain-count-requires Inv-loop μ-loop
+chain-count-requires c κs = search needs
+
+slice-count-requires : tie.Need-slice-count-requires Inv-loop μ-loop
+slice-count-requires c κs = search needs
+
+row-bytes-requires : tie.Need-row-bytes-requires Inv-loop μ-loop
+row-bytes-requires c κs = search needs
+
+mul-at : tie.Need-mul-at Inv-loop μ-loop
+mul-at c = search needs
+
+add-at : tie.Need-add-at Inv-loop μ-loop
+add-at c = search needs
+
+loop-holds : tie.Need-loop-holds Inv-loop μ-loop
+loop-holds c = (search needs, unshared-start _ _ (c .before .before .chain-count .ensures .0) (c .before .before .chain-count .ensures .1))
+
+add-mark : tie.Need-add-mark Inv-loop μ-loop
+add-mark c = omega (arith, c .before .loop .inv .1 .most)
+
+add-end : tie.Need-add-end Inv-loop μ-loop
+add-end c = omega (arith, c .before .loop .inv .1 .most)
+
+returns : tie.Need-returns Inv-loop μ-loop
+returns c = valued-short _ _ _ _ _ (c .before .before .loop .inv .1) (c .before .before .before .row-bytes .ensures ∙ ap rowBytes (c .before .before .before .before .before .chain-count .ensures .0)) (c .before .before .before .before .slice-count .ensures .0) (c .before .loop-test .taken) (c .if1 .taken)
+
+sub-share-a-bit : tie.Need-sub-share-a-bit Inv-loop μ-loop
+sub-share-a-bit c = search needs
+
+part-share-a-bit-start : tie.Need-part-share-a-bit-start Inv-loop μ-loop
+part-share-a-bit-start c = search needs
+
+part-share-a-bit-end : tie.Need-part-share-a-bit-end Inv-loop μ-loop
+part-share-a-bit-end c = search needs
+
+sub-share-a-bit-2 : tie.Need-sub-share-a-bit-2 Inv-loop μ-loop
+sub-share-a-bit-2 c = search needs
+
+part-share-a-bit-start-2 : tie.Need-part-share-a-bit-start-2 Inv-loop μ-loop
+part-share-a-bit-start-2 c = search needs
+
+part-share-a-bit-end-2 : tie.Need-part-share-a-bit-end-2 Inv-loop μ-loop
+part-share-a-bit-end-2 c = search needs
+
+share-a-bit-requires : tie.Need-share-a-bit-requires Inv-loop μ-loop
+share-a-bit-requires c κs = search needs
+
+returns-2 : tie.Need-returns-2 Inv-loop μ-loop
+returns-2 c = valued-found _ (λ i. c .before .before .before .before .before .before .before .before .before .before .shared-slice-known .given i .fits) _ _ _ _ _ (c .before .before .before .before .before .before .loop .inv .1) (c .before .before .before .before .before .before .before .row-bytes .ensures ∙ ap rowBytes (c .before .before .before .before .before .before .before .before .before .chain-count .ensures .0)) (c .before .before .before .before .before .before .before .before .slice-count .ensures .0) (c .before .before .before .before .before .loop-test .taken) (c .before .share-a-bit .ensures) (c .if2 .taken)
+
+add-t : tie.Need-add-t Inv-loop μ-loop
+add-t c = search needs
+
+loop-less : tie.Need-loop-less Inv-loop μ-loop
+loop-less c = search needs
+
+loop-again : tie.Need-loop-again Inv-loop μ-loop
+loop-again c = (search needs, unshared-turn _ _ _ _ (c .before .before .before .before .before .before .loop .inv .1) (c .before .before .before .before .before .before .before .row-bytes .ensures ∙ ap rowBytes (c .before .before .before .before .before .before .before .before .before .chain-count .ensures .0)) _ (c .before .before .before .before .if1 .left) (c .before .share-a-bit .ensures) (c .if2 .left))
+
+returns-3 : tie.Need-returns-3 Inv-loop μ-loop
+returns-3 c = valued-none _ (λ i. c .before .before .before .before .before .shared-slice-known .given i .fits) _ _ _ (c .before .loop .inv .1) (c .before .before .before .slice-count .ensures .0) (search needs)
+
+pub has-valued-unknown-spec : {M : Type 1} → statement M
+has-valued-unknown-spec =
+    tie.close
+    (tie.spec
+    Inv-loop
+    μ-loop
+    chain-count-requires
+    slice-count-requires
+    row-bytes-requires
+    mul-at
+    add-at
+    loop-holds
+    add-mark
+    add-end
+    returns
+    sub-share-a-bit
+    part-share-a-bit-start
+    part-share-a-bit-end
+    sub-share-a-bit-2
+    part-share-a-bit-start-2
+    part-share-a-bit-end-2
+    share-a-bit-requires
+    returns-2
+    add-t
+    loop-less
+    loop-again
+    returns-3)
