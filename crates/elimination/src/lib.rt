@@ -6,7 +6,7 @@ ghost use lib.Bits.{bitXor, bitOr};
 ghost use lib.ListN.{length, take};
 ghost use Rattle.word.specs.Word.{parity, beyond};
 ghost use Rattle.word.specs.Some.{anyOf};
-ghost use Rattle.word.specs.Reply.{front, lent};
+ghost use Rattle.word.specs.Reply.{front, lent, numberOf};
 ghost use Rattle.elimination.specs.Reduced.{reducedList};
 ghost use Rattle.elimination.specs.Pass.{follows, withTop, onePass};
 ghost use Rattle.elimination.specs.Step.{byParity, step, steps, units};
@@ -218,4 +218,14 @@ pub fn is_reduced(m: u64, words: &[u64]) -> bool
         i += 1;
     }
     true
+}
+
+// The refusal's number; 0 of an answer.
+pub fn number_of(answer: Eliminated) -> u64
+    ensures { λ r. ⌜ r ≡ numberOf (said answer) ⌝ }
+{
+    match answer {
+        Eliminated::Done { rank: _, q: _ } => 0,
+        Eliminated::Refused { number } => number,
+    }
 }

@@ -1,6 +1,7 @@
 pub mod BoolLaws
 pub mod SomeLaws
 pub mod Laws
+pub mod ParityLaws
 pub mod WordLaws
 pub mod SpanLaws
 pub mod ByteLaws

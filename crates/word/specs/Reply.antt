@@ -6,6 +6,7 @@
 --   firstOf ts      the first number of ts that applies; 0 where none does
 --   Reply A         an answer with its data, or a refusal with its number
 --   reply ts a      the refusal with the first number of ts that applies; the answer a where none does
+--   numberOf r      the refusal's number; 0 of an answer
 --   front vs l      the list l with vs written over its front
 --   lent r vs l     a lent list l after the reply r: vs at its front after an answer, untouched after a refusal
 use mathlib.Core.Bool.{Bool, cond}
@@ -31,6 +32,10 @@ replied (suc n) a = refusal (suc n)
 
 abbrev pub reply : {A : Type 0} → List Test → A → Reply A
 reply ts a = replied (firstOf ts) a
+
+abbrev pub numberOf : {A : Type 0} → Reply A → ℕ
+numberOf (answer a) = 0
+numberOf (refusal n) = n
 
 unfoldable pub front : {A : Type 0} → List A → List A → List A
 front vs l = vs ++ drop (length vs) l

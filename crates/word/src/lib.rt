@@ -1,10 +1,11 @@
 // Words of 64 bits, and numbers in lists of bytes. Every function is total.
 ghost use mathlib.Core.Path.{_≡_};
 ghost use mathlib.Core.List.{[], _∷_};
-ghost use Prim.Native.Nat.{_<_};
-ghost use lib.ListN.{getD, set};
+ghost use Prim.Native.Nat.{min, _<_};
+ghost use lib.ListN.{getD, take, set};
 ghost use lib.Seq.{sets};
 ghost use Rattle.word.specs.Word.{lowMask, beyond, parity, highestBit, badWidth};
+ghost use Rattle.word.specs.Parities.{parities};
 ghost use Rattle.word.specs.Bytes.{number, countAt, wordAt, bytesOf};
 
 // The word with bits 0 to m - 1 set; all 64 bits from m = 64 on.
@@ -30,6 +31,25 @@ pub fn shared_parity(a: u64, b: u64) -> u64
     ensures { λ r. ⌜ r ≡ parity a b ⌝ }
 {
     (u64::count_ones(a & b) % 2) as u64
+}
+
+fn at_most_64(n: usize) -> usize
+    ensures { λ r. ⌜ r ≡ min n 64 ⌝ }
+{
+    if n < 64 { n } else { 64 }
+}
+
+// The parities of the first 64 words with y as one word, bit i for word i.
+pub fn word_parities(words: &[u64], y: u64) -> u64
+    ensures { λ r. ⌜ r ≡ parities (take 64 (now (words .entry))) y ⌝ }
+{
+    let mut i = at_most_64(words.len());
+    let mut bits: u64 = 0;
+    while 0 < i {
+        i -= 1;
+        bits = 2 * bits + shared_parity(words[i], y);
+    }
+    bits
 }
 
 // The place of w's highest bit; 0 for the word 0.
