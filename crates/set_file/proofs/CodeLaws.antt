@@ -14,23 +14,25 @@ use Rattle.word.specs.Reply.{front}
 use Rattle.word.proofs.BoolLaws.{or-false-right}
 use Rattle.register.specs.Row.{rowBytes, spareSet}
 use Rattle.register.specs.Circuit.{badChains, badSpread}
-use Rattle.set_file.specs.Layout.{rowsAt, setLength, wordsAt, widthOf, chainsOf, spreadOf, slicesOf, valueAt, markAt, valueRow, markRow}
+use Rattle.set_file.specs.Layout.{rowsAt, setLength, widthOf, chainsOf, spreadOf, slicesOf, valueAt, markAt, valueRow, markRow}
 use Rattle.set_file.specs.Reading.{spareInRows, valuedUnknown}
 use Rattle.set_file.specs.Writing.{listRow}
 use Rattle.set_file.specs.Code.{noWords, sharesBit}
-use Rattle.set_file.proofs.LayoutLaws.{words-length, row-step}
+use Rattle.set_file.proofs.LayoutLaws.{row-step}
 use Rattle.set_file.proofs.RangeLaws.{none-passed, one-passed, one-found, all-passed}
 use Rattle.set_file.proofs.RowLaws.{SpareRow, spare-rows-none}
 use Rattle.set_file.proofs.SliceLaws.{rowsOf, spare-of-rows, slice-inside, valued-of-bytes}
+use Rattle.word.specs.Bytes.{wordsAt}
+use Rattle.word.proofs.ByteLaws.{length-words-at}
 
 -- counts of 2 bytes keep a set's length small
-pub rows-small : (b s : ℕ) → b ≤ 8192 → s ≤ 65536 → 2 * b * s ≤ 1073741824
-rows-small b s hb hs = le-trans (mul-le-mul-left (2 * b) hs) (omega arith)
+pub rows-small : (b s : ℕ) → b ≤ 8192 → s ≤ 65536 → b * s ≤ 536870912
+rows-small b s hb hs = le-trans (mul-le-mul-left b hs) (omega arith)
 
 -- the spread words stand at the front of the 256
 pub spread-front : (l spread : List ℕ) (n : ℕ) → spread ≡ front (wordsAt l 12 n) noWords → take n spread ≡ wordsAt l 12 n
 unfolding front
-spread-front l spread n e = ap (take n) e ∙ take-at (wordsAt l 12 n) _ n (words-length l 12 n)
+spread-front l spread n e = ap (take n) e ∙ take-at (wordsAt l 12 n) _ n (length-words-at l 12 n)
 
 pub bad-spread-of : (set spread : List ℕ) (m n : ℕ) (r : Bool) → m ≡ widthOf set → n ≡ chainsOf set → r ≡ badSpread m (take n spread)
     → spread ≡ front (spreadOf set) noWords → r ≡ badSpread (widthOf set) (spreadOf set)

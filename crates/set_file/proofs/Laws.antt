@@ -1,40 +1,27 @@
 -- The laws that the crates above cite: what an accepted set knows, and what the reader's reply says of its set. A set is
 -- accepted where none of the numbers 1 to 10 applies to it. Assumes nothing.
 use mathlib.Core.Path.{_≡_, refl, sym, ap, _∙_}
-use mathlib.Core.Bool.{Bool, true, false, not, cond, _&&_, _||_}
+use mathlib.Core.Bool.{true, false, not, _&&_, _||_}
 use mathlib.Core.List.{List}
-use Prim.Native.Nat.{ℕ, zero, suc, _≤_, _<_}
+use Prim.Native.Nat.{ℕ, _≤_, _<_}
 use native.Mathlib.Omega.{arith}
 use borrow.Author.Tests.{eq-eqb, ltb-false, eqb-true, not-false}
 use lib.Dec.{eqb, ltb}
 use lib.ListN.{length}
 use Rattle.word.specs.Word.{badWidth}
 use Rattle.word.specs.Some.{anyBelow}
-use Rattle.word.specs.Reply.{Reply, answer, refusal, replied, firstOf}
+use Rattle.word.specs.Reply.{answer, refusal, replied, firstOf}
 use Rattle.word.proofs.WordLaws.{good-width}
 use Rattle.word.proofs.SomeLaws.{any-below-false}
 use Rattle.word.proofs.BoolLaws.{or-false-left, or-false-right}
 use Rattle.word.proofs.ReplyLaws.{replied-refusal}
+use Rattle.word.proofs.TestLaws.{none-and-rest, replied-answer, replied-number}
 use Rattle.register.specs.Row.{rowBytes, spareSet}
 use Rattle.register.specs.Circuit.{badTaps, badChains, badSpread}
 use Rattle.set_file.specs.Layout.{slicesAt, rowsAt, setLength, widthOf, tapsOf, chainsOf, spreadOf, slicesOf, valueRow, markRow, values, marks}
 use Rattle.set_file.specs.Reading.{badSlices, spareInRows, valuedUnknown, setTests, SetParts, partsOf, setReply}
-use Rattle.set_file.proofs.LayoutLaws.{words-length}
 use Rattle.set_file.proofs.SliceLaws as slices
-
--- ---- a list of tests of which none applies, and replies
-
-none-and-rest : (b : Bool) (n k : ℕ) → cond b (suc n) k ≡ 0 → (b ≡ false) × (k ≡ 0)
-none-and-rest true n k h = let z : ⊥ = omega arith in absurd z
-none-and-rest false n k h = (refl, h)
-
-pub replied-answer : {A : Type 0} (n : ℕ) (a p : A) → replied n a ≡ answer p → (n ≡ 0) × (p ≡ a)
-replied-answer zero a p h = (refl, cc)
-replied-answer (suc n) a p h = let z : _≡_ {A = ℕ} 0 1 = cc in let w : ⊥ = omega arith in absurd w
-
-pub replied-number : {A : Type 0} (n : ℕ) (a : A) (k : ℕ) → replied n a ≡ refusal k → n ≡ k
-replied-number zero a k h = let z : _≡_ {A = ℕ} 0 1 = cc in let w : ⊥ = omega arith in absurd w
-replied-number (suc n) a k h = cc
+use Rattle.word.proofs.ByteLaws.{length-words-at}
 
 -- ---- the reader's reply
 
@@ -103,7 +90,7 @@ good-chains n h =
     (ltb-false n 1 (or-false-left (ltb n 1) (ltb 256 n) h), ltb-false 256 n (or-false-right (ltb n 1) (ltb 256 n) h))
 
 pub spread-length : (set : List ℕ) → length (spreadOf set) ≡ chainsOf set
-spread-length set = words-length set 12 (chainsOf set)
+spread-length set = length-words-at set 12 (chainsOf set)
 
 module _ (set : List ℕ) (a : Accepted set) where
   pub accepted-width : (1 ≤ widthOf set) × (widthOf set ≤ 64)

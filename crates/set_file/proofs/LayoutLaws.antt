@@ -10,20 +10,16 @@ use native.Mathlib.Omega.{arith}
 use lib.Dec.{lit<}
 use lib.ListN.{length, getD, take, drop, set, length-take, length-drop, List·getD-eq-default}
 use lib.Seq.{getD-take, getD-drop}
-use Rattle.word.specs.Bytes.{wordAt}
+use Rattle.word.specs.Bytes.{wordAt, wordsAt}
 use Rattle.word.specs.Reply.{front}
 use Rattle.word.proofs.FrontLaws.{front-next, front-nothing, front-whole, front-length, front-take-length}
 use Rattle.register.specs.Row.{rowBytes}
-use Rattle.set_file.specs.Layout.{rowsAt, setLength, wordsAt, chainsOf, spreadOf, slicesOf, valueAt, markAt, valueRow, markRow}
+use Rattle.set_file.specs.Layout.{rowsAt, setLength, chainsOf, spreadOf, slicesOf, valueAt, markAt, valueRow, markRow}
 use Rattle.set_file.specs.Writing.{listRow}
 use Rattle.set_file.specs.Code.{noWords}
+use Rattle.word.proofs.ByteLaws.{length-words-at}
 
 -- ---- words
-
-pub words-length : (l : List ℕ) (i k : ℕ) → length (wordsAt l i k) ≡ k
-unfolding wordsAt
-words-length l i zero = refl
-words-length l i (suc k) = ap suc (words-length l (i + 8) k)
 
 pub words-get : (l : List ℕ) (i k c : ℕ) → c < k → getD (wordsAt l i k) c 0 ≡ wordAt l (i + 8 * c)
 unfolding wordsAt
@@ -43,7 +39,7 @@ spread-start l e = e ∙ sym (front-nothing noWords)
 pub spread-turn : (l ws : List ℕ) (n c w : ℕ) → ws ≡ front (take c (wordsAt l 12 n)) noWords → c < n → c < 256
     → w ≡ wordAt l (12 + 8 * c) → set ws c w ≡ front (take (c + 1) (wordsAt l 12 n)) noWords
 spread-turn l ws n c w e h b r =
-    let inside : c < length (wordsAt l 12 n) = omega (arith, words-length l 12 n) in
+    let inside : c < length (wordsAt l 12 n) = omega (arith, length-words-at l 12 n) in
     let room : c < length noWords = omega (arith, no-words-length) in
     ap (λ (v : ℕ). set ws c v) (r ∙ sym (words-get l 12 n c h))
     ∙ ap (λ (x : List ℕ). set x c (getD (wordsAt l 12 n) c 0)) e
@@ -52,7 +48,7 @@ spread-turn l ws n c w e h b r =
 
 pub spread-end : (l ws : List ℕ) (n c : ℕ) → ws ≡ front (take c (wordsAt l 12 n)) noWords → c ≡ n → ws ≡ front (wordsAt l 12 n) noWords
 spread-end l ws n c e h =
-    e ∙ ap (λ (k : ℕ). front (take k (wordsAt l 12 n)) noWords) (h ∙ sym (words-length l 12 n)) ∙ front-whole (wordsAt l 12 n) noWords
+    e ∙ ap (λ (k : ℕ). front (take k (wordsAt l 12 n)) noWords) (h ∙ sym (length-words-at l 12 n)) ∙ front-whole (wordsAt l 12 n) noWords
 
 -- ---- rows
 

@@ -5,3 +5,7 @@ pub mod SliceLaws
 pub mod CodeLaws
 pub mod Laws
 pub mod ReadLaws
+pub mod PlaceLaws
+pub mod WriteLaws
+pub mod ContentLaws
+pub mod FileLaws

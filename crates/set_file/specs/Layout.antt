@@ -5,7 +5,6 @@
 --   slicesAt n          the place of the slice count, for n chains
 --   rowsAt n            the place of the first row
 --   setLength n s       the bytes of a set of n chains and s slices
---   wordsAt l i k       the k words of 8 bytes from place i
 --   widthOf set         document 01: m
 --   tapsOf set          the tap word
 --   chainsOf set        document 01: n
@@ -21,7 +20,7 @@
 use mathlib.Core.List.{List, [], _∷_}
 use Prim.Native.Nat.{ℕ, zero, suc, _+_, _*_}
 use lib.ListN.{take, drop}
-use Rattle.word.specs.Bytes.{countAt, wordAt}
+use Rattle.word.specs.Bytes.{countAt, wordAt, wordsAt}
 use Rattle.register.specs.Row.{Cells, cell, rowBytes}
 use Rattle.register.specs.Circuit.{Circuit}
 
@@ -36,10 +35,6 @@ rowsAt n = 14 + 8 * n
 
 abbrev pub setLength : ℕ → ℕ → ℕ
 setLength n s = rowsAt n + 2 * rowBytes n * s
-
-unfoldable pub wordsAt : List ℕ → ℕ → ℕ → List ℕ
-wordsAt l i zero = []
-wordsAt l i (suc k) = wordAt l i ∷ wordsAt l (i + 8) k
 
 abbrev pub widthOf : List ℕ → ℕ
 widthOf set = countAt set 0

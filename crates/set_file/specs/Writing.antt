@@ -2,8 +2,8 @@
 -- slice count." It meets 2, 3, 4, 6, 7, 8, 9, 10 and 24 and answers with the length of the file.
 --
 --   SetContent          what the writer is handed: m, the tap word, the spread words, the value rows, the mark rows, s
+--   contentOf m t ws v k s    the content of these: m, the tap word, the spread words, the value rows, the mark rows, s
 --   listRow n l t       row t of a list of rows of n chains
---   wordBytes ws        the words ws, 8 bytes each
 --   slicesBytes k s     the first s slices, each a value row and a mark row
 --   setBytes k          the set file of the content k
 --   writeTests k room   the numbers that the writer meets, in order, for an output of `room` bytes
@@ -16,7 +16,7 @@ use lib.Dec.{eqb, ltb}
 use lib.ListN.{length, take, drop}
 use Rattle.word.specs.Word.{badWidth}
 use Rattle.word.specs.Some.{anyBelow}
-use Rattle.word.specs.Bytes.{bytesOf}
+use Rattle.word.specs.Bytes.{bytesOf, wordBytes}
 use Rattle.word.specs.Reply.{Test, _when_, Reply, answer, refusal, reply}
 use Rattle.register.specs.Row.{cell, rowBytes, spareSet}
 use Rattle.register.specs.Circuit.{badTaps, badChains, badSpread}
@@ -32,15 +32,14 @@ pub record SetContent : Type 0 where
   pub marks : List ℕ
   pub s : ℕ
 
+abbrev pub contentOf : ℕ → ℕ → List ℕ → List ℕ → List ℕ → ℕ → SetContent
+contentOf m t ws v k s = record { m = m; taps = t; spread = ws; values = v; marks = k; s = s }
+
 abbrev pub chainCount : SetContent → ℕ
 chainCount k = length (k .spread)
 
 unfoldable pub listRow : ℕ → List ℕ → ℕ → List ℕ
 listRow n l t = take (rowBytes n) (drop (rowBytes n * t) l)
-
-unfoldable pub wordBytes : List ℕ → List ℕ
-wordBytes [] = []
-wordBytes (w ∷ ws) = bytesOf 8 w ++ wordBytes ws
 
 unfoldable pub slicesBytes : SetContent → ℕ → List ℕ
 slicesBytes k zero = []

@@ -1,18 +1,21 @@
 // The set file of document 01: its reader, the rows of one slice, and its writer.
 ghost use mathlib.Core.Path.{_≡_};
 ghost use mathlib.Core.Bool.{false, not, _||_};
-ghost use Prim.Native.Nat.{min, _≤_, _<_};
+ghost use Prim.Native.Nat.{min, _*_, _≤_, _<_};
 ghost use lib.Dec.{eqb, ltb};
 ghost use lib.ListN.{length};
+ghost use lib.Seq.{sets};
 ghost use Rattle.word.specs.Some.{anyBelow};
 ghost use Rattle.word.specs.Word.{badWidth};
-ghost use Rattle.word.specs.Reply.{firstOf, front};
+ghost use Rattle.word.specs.Reply.{firstOf, front, lent};
 ghost use Rattle.register.specs.Row.{rowBytes, spareSet};
 ghost use Rattle.register.specs.Circuit.{badTaps, badChains, badSpread};
-ghost use Rattle.set_file.specs.Layout.{slicesAt, setLength, widthOf, tapsOf, chainsOf, spreadOf, slicesOf};
+ghost use Rattle.set_file.specs.Layout.{slicesAt, rowsAt, setLength, widthOf, tapsOf, chainsOf, spreadOf, slicesOf};
 ghost use Rattle.set_file.specs.Reading.{badSlices, spareInRows, valuedUnknown, setTests, setReply, spreadBeside, said};
-ghost use Rattle.set_file.specs.Writing.{listRow};
-ghost use Rattle.set_file.specs.Code.{noWords, sharesBit};
+ghost use Rattle.set_file.specs.Rows.{rowTests, valueReply, markReply, stretch, saidPlace};
+ghost use Rattle.set_file.specs.Writing.{contentOf, listRow, setBytes, writeTests, writeReply, saidWritten};
+ghost use Rattle.set_file.specs.Code.{noWords, sharesBit, inTurn, headBytes};
+ghost use Rattle.word.specs.Bytes.{wordBytes};
 
 // What the set reader answers: m, the tap word, n and s, or the first number that applies.
 pub enum SetAnswer {
@@ -124,22 +127,36 @@ fn has_bad_spread(set: &[u8]) -> bool
     register::is_bad_spread(word::read_count(set, 0), &spread[..n])
 }
 
+// Whether s is above 512.
+fn is_bad_slices(s: u64) -> bool
+    ensures { λ r. ⌜ r ≡ ltb 512 s ⌝ }
+{
+    register::Register::LARGEST_SLICES < s
+}
+
 // Number 7.
 fn has_bad_slices(set: &[u8]) -> bool
     ensures { λ r. ⌜ r ≡ badSlices (now (set .entry)) ⌝ }
 {
     let n = chain_count(set);
     let s = slice_count(set);
-    (set.len() < 14 + 8 * n) | (512 < s)
+    (set.len() < 14 + 8 * n) | is_bad_slices(s as u64)
 }
 
-// The bytes of a set of n chains and s slices, and so the place of slice s's value row. Counts of 2 bytes keep it small.
+// The bytes of s rows of n chains. Counts of 2 bytes keep it small.
+fn rows_length(n: u16, s: u16) -> usize
+    ensures { λ r. ⌜ (r ≡ rowBytes n * s) × (r ≤ 536870912) ⌝ }
+{
+    let slices = s as usize;
+    register::row_bytes(n as usize) * slices
+}
+
+// The bytes of a set of n chains and s slices, and so the place of slice s's value row.
 fn set_length(n: u16, s: u16) -> usize
     ensures { λ r. ⌜ r ≡ setLength n s ⌝ }
 {
     let chains = n as usize;
-    let slices = s as usize;
-    14 + 8 * chains + 2 * register::row_bytes(chains) * slices
+    14 + 8 * chains + 2 * rows_length(n, s)
 }
 
 // Number 8.
@@ -287,5 +304,237 @@ pub fn read_set(set: &[u8]) -> SetRead
             s: slice_count(set) as u64,
         },
         spread: spread_words(set),
+    }
+}
+
+// Number 11.
+fn is_past_slices(set: &[u8], slice: u64) -> bool
+    ensures { λ r. ⌜ r ≡ not (ltb slice (slicesOf (now (set .entry)))) ⌝ }
+{
+    !(slice < slice_count(set) as u64)
+}
+
+// The first number that applies to a slice of the set; 0 where none does.
+fn first_row_refusal(set: &[u8], slice: u64) -> u64
+    ensures { λ r. ⌜ r ≡ firstOf (rowTests (now (set .entry)) slice) ⌝ }
+{
+    let number = first_refusal(set);
+    if number != 0 {
+        return number;
+    }
+    if is_past_slices(set, slice) {
+        return 11;
+    }
+    0
+}
+
+// Where the value row of a slice stands in the set. It meets 1 to 11, in that order.
+pub fn value_place(set: &[u8], slice: u64) -> Place
+    ensures { λ r. ⌜ saidPlace r ≡ valueReply (now (set .entry)) slice ⌝ }
+{
+    let number = first_row_refusal(set, slice);
+    if number != 0 {
+        return Place::Declined { number };
+    }
+    let n = chain_count(set);
+    Place::At {
+        start: set_length(n as u16, slice as u16),
+        bytes: register::row_bytes(n),
+    }
+}
+
+// Where the row of unknown marks of a slice stands in the set. It meets 1 to 11, in that order.
+pub fn mark_place(set: &[u8], slice: u64) -> Place
+    ensures { λ r. ⌜ saidPlace r ≡ markReply (now (set .entry)) slice ⌝ }
+{
+    let place = value_place(set, slice);
+    let Place::At { start, bytes } = place else {
+        return place;
+    };
+    Place::At {
+        start: start + bytes,
+        bytes,
+    }
+}
+
+// The value row of a slice, the stretch of the set itself; empty where `value_place` declines.
+pub fn value_row(set: &[u8], slice: u64) -> &[u8]
+    ensures { λ r. ⌜ now r ≡ stretch (valueReply (now (set .entry)) slice) (now (set .entry)) ⌝ }
+{
+    let place = value_place(set, slice);
+    let Place::At { start, bytes } = place else {
+        return &set[..0];
+    };
+    let end = start + bytes;
+    &set[start..end]
+}
+
+// The row of unknown marks of a slice, the stretch of the set itself; empty where `mark_place` declines.
+pub fn mark_row(set: &[u8], slice: u64) -> &[u8]
+    ensures { λ r. ⌜ now r ≡ stretch (markReply (now (set .entry)) slice) (now (set .entry)) ⌝ }
+{
+    let place = mark_place(set, slice);
+    let Place::At { start, bytes } = place else {
+        return &set[..0];
+    };
+    let end = start + bytes;
+    &set[start..end]
+}
+
+// Whether the length of a list of rows isn't that of s rows of n chains.
+fn are_bad_rows(n: u16, s: u16, values: &[u8], marks: &[u8]) -> bool
+    ensures { λ r. ⌜ r ≡ (not (eqb (length (now (values .entry))) (rowBytes n * s)) || not (eqb (length (now (marks .entry))) (rowBytes n * s))) ⌝ }
+{
+    let bytes = rows_length(n, s);
+    (values.len() != bytes) | (marks.len() != bytes)
+}
+
+// Whether one of the first s rows of either list has a spare bit set.
+fn has_spare_list(n: usize, s: usize, values: &[u8], marks: &[u8]) -> bool
+    ensures { λ r. ⌜ r ≡ anyBelow s (λ t. spareSet n (listRow n (now (values .entry)) t) || spareSet n (listRow n (now (marks .entry)) t)) ⌝ }
+{
+    has_spare_row(n, values, s) | has_spare_row(n, marks, s)
+}
+
+// Number 24: whether `room` bytes are too few for a set of n chains and s slices.
+fn lacks_room(room: usize, n: u16, s: u16) -> bool
+    ensures { λ r. ⌜ r ≡ ltb room (setLength n s) ⌝ }
+{
+    room < set_length(n, s)
+}
+
+// The first number that the writer meets with this input and an output of `room` bytes; 0 where none applies.
+fn first_write_refusal(
+    m: u64,
+    taps: u64,
+    spread: &[u64],
+    values: &[u8],
+    marks: &[u8],
+    s: u64,
+    room: usize,
+) -> u64
+    ensures { λ r. ⌜ r ≡ firstOf (writeTests (contentOf m taps (now (spread .entry)) (now (values .entry)) (now (marks .entry)) s) room) ⌝ }
+{
+    if word::is_bad_width(m) {
+        return 2;
+    }
+    if register::is_bad_taps(m, taps) {
+        return 3;
+    }
+    if register::is_bad_chains(spread.len()) {
+        return 4;
+    }
+    if register::is_bad_spread(m, spread) {
+        return 6;
+    }
+    if is_bad_slices(s) {
+        return 7;
+    }
+    let n = spread.len() as u16;
+    let slices = s as u16;
+    if are_bad_rows(n, slices, values, marks) {
+        return 8;
+    }
+    if has_spare_list(n as usize, slices as usize, values, marks) {
+        return 9;
+    }
+    if share_a_bit(values, marks) {
+        return 10;
+    }
+    if lacks_room(room, n, slices) {
+        return 24;
+    }
+    0
+}
+
+// The words, 8 bytes each, from place `at` of out on; nothing past its end.
+fn write_words(out: &mut [u8], at: usize, words: &[u64])
+    ensures { λ _. ⌜ now (out .exit) ≡ sets (now (out .entry)) at (wordBytes (now (words .entry))) ⌝ }
+{
+    let mut i = at;
+    let mut c = 0;
+    while c < words.len() {
+        if out.len() <= i {
+            return;
+        }
+        word::write_word(out, i, words[c]);
+        i += 8;
+        c += 1;
+    }
+}
+
+// The bytes from place `at` of out on; nothing past its end.
+fn write_bytes(out: &mut [u8], at: usize, bytes: &[u8])
+    ensures { λ _. ⌜ now (out .exit) ≡ sets (now (out .entry)) at (now (bytes .entry)) ⌝ }
+{
+    if out.len() <= at {
+        return;
+    }
+    let count = shorter(bytes.len(), out.len() - at);
+    let mut i = 0;
+    while i < count {
+        out[at + i] = bytes[i];
+        i += 1;
+    }
+}
+
+// What a set file has before its rows; nothing past the end of out.
+fn write_head(out: &mut [u8], m: u64, taps: u64, spread: &[u64], s: u64)
+    ensures { λ _. ⌜ now (out .exit) ≡ sets (now (out .entry)) 0 (headBytes m taps (now (spread .entry)) s) ⌝ }
+{
+    let n = spread.len();
+    word::write_count(out, 0, m);
+    word::write_word(out, 2, taps);
+    word::write_count(out, 10, n as u64);
+    write_words(out, 12, spread);
+    word::write_count(out, 12 + 8 * n, s);
+}
+
+// The first s value rows and mark rows of n chains, in turn, where a set of n chains has its rows.
+fn write_slices(out: &mut [u8], n: u16, s: u16, values: &[u8], marks: &[u8])
+    ensures { λ _. ⌜ (length (now (values .entry)) ≡ rowBytes n * s → length (now (marks .entry)) ≡ rowBytes n * s → now (out .exit) ≡ sets (now (out .entry)) (rowsAt n) (inTurn (rowBytes n) (now (values .entry)) (now (marks .entry)) s)) ⌝ }
+{
+    let bytes = register::row_bytes(n as usize);
+    let mut to = 14 + 8 * (n as usize);
+    let mut from = 0;
+    let mut t: u16 = 0;
+    while t < s {
+        let end = from + bytes;
+        if (values.len() < end) | (marks.len() < end) {
+            return;
+        }
+        write_bytes(out, to, &values[from..end]);
+        write_bytes(out, to + bytes, &marks[from..end]);
+        to += 2 * bytes;
+        from = end;
+        t += 1;
+    }
+}
+
+// The set writer: the set file of this content, over the front of the output; the rest of it stays. It meets 2, 3, 4, 6, 7, 8
+// (the length of a list of rows), 9, 10 and 24, in that order, and answers with the length of the file; a refusal writes
+// nothing.
+pub fn write_set(
+    m: u64,
+    taps: u64,
+    spread: &[u64],
+    values: &[u8],
+    marks: &[u8],
+    s: u64,
+    out: &mut [u8],
+) -> Written
+    ensures answer { λ r. ⌜ saidWritten r ≡ writeReply (contentOf m taps (now (spread .entry)) (now (values .entry)) (now (marks .entry)) s) (length (now (out .entry))) ⌝ }
+    ensures file { λ _. ⌜ now (out .exit) ≡ lent (writeReply (contentOf m taps (now (spread .entry)) (now (values .entry)) (now (marks .entry)) s) (length (now (out .entry)))) (setBytes (contentOf m taps (now (spread .entry)) (now (values .entry)) (now (marks .entry)) s)) (now (out .entry)) ⌝ }
+{
+    let number = first_write_refusal(m, taps, spread, values, marks, s, out.len());
+    if number != 0 {
+        return Written::Refused { number };
+    }
+    let n = spread.len() as u16;
+    let slices = s as u16;
+    write_head(out, m, taps, spread, s);
+    write_slices(out, n, slices, values, marks);
+    Written::Done {
+        length: set_length(n, slices),
     }
 }

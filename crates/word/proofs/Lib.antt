@@ -7,4 +7,5 @@ pub mod SpanLaws
 pub mod ByteLaws
 pub mod FrontLaws
 pub mod ReplyLaws
+pub mod TestLaws
 pub mod WorkedLaws

@@ -1,5 +1,4 @@
 -- `spread_words` meets its contract: the words of the chains passed are read.
-use Rattle.set_file.specs.Layout.{wordsAt}
 use Prim.Native.Nat.{ℕ, _≤_, _-_}
 use borrow.Author.Needs.{needs}
 use Rattle.set_file.proofs.LayoutLaws.{no-words-length, spread-start, spread-turn, spread-end}
@@ -10,6 +9,7 @@ use native.Mathlib.Omega.{arith}
 use mathlib.Core.Path.{_≡_, ap, _∙_}
 use Rattle.set_file.proofs.spread_words.Statement.{statement}
 use Rattle.set_file.proofs.spread_words.Tie as tie
+use Rattle.word.specs.Bytes.{wordsAt}
 
 abbrev Inv-loop : tie.InvT-loop
 Inv-loop set n words₀ c₀ words c = (c ≤ n) × (c ≤ 256) × (length words ≡ 256) × (words ≡ front (take c (wordsAt set 12 n)) noWords)

@@ -1,0 +1,28 @@
+-- `first_row_refusal` meets its contract: the set's numbers, then 11.
+use Rattle.set_file.proofs.PlaceLaws.{row-set-refused, row-past, row-there}
+use borrow.Author.Needs.{needs}
+use Rattle.set_file.proofs.first_row_refusal.Statement.{statement}
+use Rattle.set_file.proofs.first_row_refusal.Tie as tie
+use Rattle.set_file.proofs.first_row_refusal.Reads as reads
+use Rattle.set_file.proofs.first_row_refusal.Lts as lts
+use Rattle.set_file.proofs.first_refusal.Reads as first-refusal-reads
+use Rattle.set_file.proofs.is_past_slices.Reads as is-past-slices-reads
+
+first-refusal-requires : tie.Need-first-refusal-requires
+first-refusal-requires c κs = search needs
+
+returns : tie.Need-returns
+returns c = row-set-refused _ _ _ (c .before .first-refusal .ensures) (c .if1 .taken)
+
+is-past-slices-requires : tie.Need-is-past-slices-requires
+is-past-slices-requires c κs = search needs
+
+returns-2 : tie.Need-returns-2
+returns-2 c = row-past _ _ _ _ (c .before .before .before .first-refusal .ensures) (search needs) (c .before .is-past-slices .ensures) (c .if2 .taken)
+
+returns-3 : tie.Need-returns-3
+returns-3 c = row-there _ _ _ _ (c .before .before .before .first-refusal .ensures) (search needs) (c .before .is-past-slices .ensures) (c .if2 .left)
+
+pub first-row-refusal-spec : {M : Type 1} → statement M
+first-row-refusal-spec =
+    tie.close (tie.spec first-refusal-requires returns is-past-slices-requires returns-2 returns-3)

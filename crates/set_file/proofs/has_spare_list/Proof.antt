@@ -1,0 +1,24 @@
+-- `has_spare_list` meets its contract.
+use Rattle.set_file.proofs.RowLaws.{SpareRow}
+use Rattle.set_file.proofs.RangeLaws.{any-below-or}
+use mathlib.Core.Bool.{Bool, _||_}
+use mathlib.Core.Path.{sym, ap₂, _∙_}
+use borrow.Author.Needs.{needs}
+use Rattle.set_file.proofs.has_spare_list.Statement.{statement}
+use Rattle.set_file.proofs.has_spare_list.Tie as tie
+use Rattle.set_file.proofs.has_spare_list.Reads as reads
+use Rattle.set_file.proofs.has_spare_list.Lts as lts
+use Rattle.set_file.proofs.has_spare_row.Reads as has-spare-row-reads
+
+has-spare-row-requires : tie.Need-has-spare-row-requires
+has-spare-row-requires c κs = search needs
+
+has-spare-row-requires-2 : tie.Need-has-spare-row-requires-2
+has-spare-row-requires-2 c κs = search needs
+
+returns : tie.Need-returns
+returns c = ap₂ (λ (a b : Bool). a || b) (c .before .has-spare-row .ensures) (c .has-spare-row2 .ensures)
+    ∙ sym (any-below-or (c .before .before .before .before .args .s) (SpareRow (c .before .before .before .before .args .n) (c .before .before .before .before .args .values .now)) (SpareRow (c .before .before .before .before .args .n) (c .before .before .before .before .args .marks .now)))
+
+pub has-spare-list-spec : {M : Type 1} → statement M
+has-spare-list-spec = tie.close (tie.spec has-spare-row-requires has-spare-row-requires-2 returns)

@@ -1,0 +1,51 @@
+-- Lists of tests of which none applies, lists of tests one after the other, and what a reply says of its tests. Assumes nothing.
+use mathlib.Core.Path.{_≡_, refl, sym, _∙_}
+use mathlib.Core.Bool.{Bool, true, false, cond}
+use mathlib.Core.Logic.{dite}
+use mathlib.Core.List.{List, [], _∷_, _++_}
+use Prim.Native.Nat.{ℕ, zero, suc}
+use native.Mathlib.Decide.{ℕ-discrete}
+use native.Mathlib.Omega.{arith}
+use Rattle.word.specs.Reply.{Test, _when_, answer, refusal, replied, firstOf}
+
+pub none-and-rest : (b : Bool) (n k : ℕ) → cond b (suc n) k ≡ 0 → (b ≡ false) × (k ≡ 0)
+none-and-rest true n k h = let z : ⊥ = omega arith in absurd z
+none-and-rest false n k h = (refl, h)
+
+-- no test of the list has the number 0
+abbrev pub numbered : List Test → Bool
+numbered [] = true
+numbered (zero when b ∷ ts) = false
+numbered (suc n when b ∷ ts) = numbered ts
+
+-- where none of the first tests applies, the later ones decide
+pub first-of-later : (ts us : List Test) → numbered ts ≡ true → firstOf ts ≡ 0 → firstOf (ts ++ us) ≡ firstOf us
+first-of-later [] us d h = refl
+first-of-later (zero when b ∷ ts) us d h = let z : _≡_ {A = ℕ} 0 1 = cc in let w : ⊥ = omega arith in absurd w
+first-of-later (suc n when true ∷ ts) us d h = let z : ⊥ = omega arith in absurd z
+first-of-later (suc n when false ∷ ts) us d h = first-of-later ts us d h
+
+-- where one of the first tests applies, the later ones are not looked at
+pub first-of-sooner : (ts us : List Test) → (firstOf ts ≡ 0 → ⊥) → firstOf (ts ++ us) ≡ firstOf ts
+first-of-sooner [] us h = absurd (h refl)
+first-of-sooner (n when true ∷ ts) us h = refl
+first-of-sooner (n when false ∷ ts) us h = first-of-sooner ts us h
+
+-- where no test of two lists applies, none of the first does
+pub first-of-none : (ts us : List Test) → firstOf (ts ++ us) ≡ 0 → firstOf ts ≡ 0
+first-of-none ts us h =
+    dite (ℕ-discrete (firstOf ts) 0) (λ (z : firstOf ts ≡ 0). z)
+    (λ (d : firstOf ts ≡ 0 → ⊥). absurd (d (sym (first-of-sooner ts us d) ∙ h)))
+
+pub replied-answer : {A : Type 0} (n : ℕ) (a p : A) → replied n a ≡ answer p → (n ≡ 0) × (p ≡ a)
+replied-answer zero a p h = (refl, cc)
+replied-answer (suc n) a p h = let z : _≡_ {A = ℕ} 0 1 = cc in let w : ⊥ = omega arith in absurd w
+
+pub replied-number : {A : Type 0} (n : ℕ) (a : A) (k : ℕ) → replied n a ≡ refusal k → n ≡ k
+replied-number zero a k h = let z : _≡_ {A = ℕ} 0 1 = cc in let w : ⊥ = omega arith in absurd w
+replied-number (suc n) a k h = cc
+
+-- a reply whose tests refuse with the number k refuses so whatever its answer would be
+pub replied-alike : {A : Type 0} {B : Type 0} (n : ℕ) (a : A) (b : B) (k : ℕ) → replied n a ≡ refusal k → replied n b ≡ refusal k
+replied-alike zero a b k h = let z : _≡_ {A = ℕ} 0 1 = cc in let w : ⊥ = omega arith in absurd w
+replied-alike (suc n) a b k h = cc
