@@ -7,7 +7,7 @@ ghost use lib.ListN.{length};
 ghost use lib.Seq.{sets};
 ghost use Rattle.word.specs.Some.{anyBelow};
 ghost use Rattle.word.specs.Word.{badWidth};
-ghost use Rattle.word.specs.Reply.{firstOf, front, lent};
+ghost use Rattle.word.specs.Reply.{firstOf, front, lent, numberOf};
 ghost use Rattle.register.specs.Row.{rowBytes, spareSet};
 ghost use Rattle.register.specs.Circuit.{badTaps, badChains, badSpread};
 ghost use Rattle.set_file.specs.Layout.{slicesAt, rowsAt, setLength, widthOf, tapsOf, chainsOf, spreadOf, slicesOf};
@@ -536,5 +536,20 @@ pub fn write_set(
     write_slices(out, n, slices, values, marks);
     Written::Done {
         length: set_length(n, slices),
+    }
+}
+
+// The number of the reader's refusal; 0 where it took the set.
+pub fn number_of(answer: SetAnswer) -> u64
+    ensures { λ r. ⌜ r ≡ numberOf (said answer) ⌝ }
+{
+    match answer {
+        SetAnswer::Read {
+            m: _,
+            taps: _,
+            n: _,
+            s: _,
+        } => 0,
+        SetAnswer::Refused { number } => number,
     }
 }

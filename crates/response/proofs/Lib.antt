@@ -1,0 +1,14 @@
+pub mod SignatureLaws
+pub mod ColumnLaws
+pub mod FillingLaws
+pub mod BackLaws
+pub mod PlaceLaws
+pub mod ListLaws
+pub mod AdvanceLaws
+pub mod CountLaws
+pub mod TableLaws
+pub mod RunLaws
+pub mod FillLaws
+pub mod SignLaws
+pub mod SetLaws
+pub mod CallLaws

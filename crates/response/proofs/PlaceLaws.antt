@@ -1,0 +1,97 @@
+-- Parts that stand in a list as far as it goes, and what each small function writes or answers. Assumes nothing.
+use mathlib.Core.Path.{_≡_, refl, sym, ap, _∙_}
+use mathlib.Core.Logic.{dite}
+use mathlib.Core.List.{List, [], _∷_, _++_}
+use Prim.Native.Nat.{ℕ, zero, suc, _+_, _-_, _*_, _/_, _%_, _≤_, min}
+use native.Mathlib.Nat.{mul-suc, mul-zero}
+use native.Mathlib.Numerals.{add-one}
+use native.Mathlib.Decide.{decLe}
+use native.Mathlib.Omega.{arith}
+use borrow.Author.Tests.{eq-eqb, ne-eqb}
+use lib.ListN.{length, take, drop, getD, set, length-drop, drop-of-length-le}
+use lib.Seq.{take-all, drop-drop, set-split}
+use Rattle.response.specs.Columns.{listed}
+use Rattle.response.specs.Code.{back, stepDown}
+use Rattle.response.proofs.BackLaws.{back-none, back-fits, back-empty}
+
+pub drop-same : (l : List ℕ) (i j : ℕ) → min i (length l) ≡ min j (length l) → drop i l ≡ drop j l
+drop-same l i j e =
+    dite (decLe (length l) i)
+    (λ (h : length l ≤ i). drop-of-length-le l h ∙ sym (drop-of-length-le l {i = j} (omega arith)))
+    (λ (h : length l ≤ i → ⊥). let same : i ≡ j = omega arith in ap (λ (k : ℕ). drop k l) same)
+
+pub take-same : (l : List ℕ) (i j : ℕ) → min i (length l) ≡ min j (length l) → take i l ≡ take j l
+take-same l i j e =
+    dite (decLe (length l) i)
+    (λ (h : length l ≤ i). take-all i l h ∙ sym (take-all j l (omega arith)))
+    (λ (h : length l ≤ i → ⊥). let same : i ≡ j = omega arith in ap (λ (k : ℕ). take k l) same)
+
+pub part-clamped : (l : List ℕ) (at count start end : ℕ) → start ≡ min (at + 0) (length l) → end ≡ min (start + count) (length l)
+    → take (end - start) (drop start l) ≡ take count (drop at l)
+part-clamped l at count start end es ee =
+    take-same (drop start l) (end - start) count (omega (arith, length-drop start l))
+    ∙ ap (take count) (drop-same l start at (omega arith))
+
+-- a limit on how many are taken, where the list is no longer
+pub take-limit : (l : List ℕ) (n k : ℕ) → k ≡ min n (length l) → take k l ≡ take n l
+take-limit l n k e = take-same l k n (omega arith)
+
+-- ---- rows one after the other
+
+-- the row c of those that begin at place i, d bytes apart, stands at `place`, or past the end of the list as `place` is
+module _ (l : List ℕ) (i d : ℕ) where
+  abbrev pub Placed : ℕ → ℕ → Type 0
+  Placed place c = drop place l ≡ drop (i + d * c) l
+
+  pub placed-starts : (place : ℕ) → place ≡ min (i + 0) (length l) → Placed place 0
+  placed-starts place e = drop-same l place (i + d * 0) (omega (arith, mul-zero d))
+
+  pub placed-turns : (place place′ c : ℕ) → Placed place c → place′ ≡ min (place + d) (length l) → Placed place′ (c + 1)
+  placed-turns place place′ c k e =
+      drop-same l place′ (place + d) (omega arith) ∙ sym (drop-drop d place l) ∙ ap (drop d) k ∙ drop-drop d (i + d * c) l
+      ∙ ap (λ (x : ℕ). drop x l) further
+    where
+      further : i + d * c + d ≡ i + d * (c + 1)
+      further = rw (add-one c, mul-suc) (omega arith)
+
+-- ---- the list's last place
+
+module _ (l : List ℕ) (d w : ℕ) where
+  pub put-none : d ≡ 0 → (length l ≡ length l - length (listed d w)) × (l ≡ back (listed d w) l)
+  put-none e = rw e (omega arith, sym (back-none l))
+
+  pub put-full : (d ≡ 0 → ⊥) → length l ≡ 0 → (0 ≡ length l - length (listed d w)) × (l ≡ back (listed d w) l)
+  put-full h e = (omega arith, empty l e)
+    where
+      empty : (l : List ℕ) → length l ≡ 0 → l ≡ back (listed d w) l
+      empty [] f = sym (back-empty (listed d w))
+      empty (x ∷ l) f = let z : ⊥ = omega arith in absurd z
+
+  pub put-one : (d ≡ 0 → ⊥) → (length l ≡ 0 → ⊥)
+      → (length l - 1 ≡ length l - length (listed d w)) × (set l (length l - 1) w ≡ back (listed d w) l)
+  put-one h e = go d h
+    where
+      write : set l (length l - 1) w ≡ back (w ∷ []) l
+      write =
+          set-split l (length l - 1) w (omega arith)
+          ∙ ap (λ (r : List ℕ). take (length l - 1) l ++ w ∷ r) (drop-of-length-le l {i = suc (length l - 1)} (omega arith))
+          ∙ sym (back-fits (w ∷ []) l (omega arith))
+
+      go : (d : ℕ) → (d ≡ 0 → ⊥) → (length l - 1 ≡ length l - length (listed d w)) × (set l (length l - 1) w ≡ back (listed d w) l)
+      go zero f = absurd (f refl)
+      go (suc d) f = (omega arith, write)
+
+-- ---- how many chains at once
+
+module _ (row : List ℕ) (c : ℕ) where
+  pub step-one : (c % 8 ≡ 7 → ⊥) → 1 ≡ stepDown row c
+  unfolding stepDown
+  step-one h = rw (ne-eqb (c % 8) 7 h)
+
+  pub step-marked : (b : ℕ) → c % 8 ≡ 7 → b ≡ getD row (c / 8) 0 → (b ≡ 0 → ⊥) → 1 ≡ stepDown row c
+  unfolding stepDown
+  step-marked b h e n = rw (eq-eqb (c % 8) 7 h, ne-eqb (getD row (c / 8) 0) 0 (λ (z : getD row (c / 8) 0 ≡ 0). n (e ∙ z)))
+
+  pub step-eight : (b : ℕ) → c % 8 ≡ 7 → b ≡ getD row (c / 8) 0 → b ≡ 0 → 8 ≡ stepDown row c
+  unfolding stepDown
+  step-eight b h e n = rw (eq-eqb (c % 8) 7 h, eq-eqb (getD row (c / 8) 0) 0 (sym e ∙ n))

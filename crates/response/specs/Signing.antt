@@ -1,0 +1,39 @@
+-- A record's signature. Document 01: "A record is a 0 or 1 for every cell as a tester saw it; its signature uses all of them
+-- as recorded." The call meets the set's 1 to 10, then 12 and 13.
+--
+--   spareInRecord set r   document 01, 13: the record has a spare bit set
+--   signTests set r       the numbers that the call meets, in order
+--   signReply set r       its reply: the signature
+--   saidSigned a          the paper's reading of what the call hands back
+use mathlib.Core.Bool.{Bool, not}
+use mathlib.Core.List.{List, [], _∷_, _++_}
+use Prim.Native.Nat.{ℕ, _*_}
+use lib.Dec.{eqb}
+use lib.ListN.{length}
+use Rattle.word.specs.Some.{anyBelow}
+use Rattle.word.specs.Reply.{Test, _when_, Reply, answer, refusal, reply}
+use Rattle.register.specs.Row.{rowBytes, spareSet}
+use Rattle.set_file.specs.Layout.{circuitOf, chainsOf, slicesOf}
+use Rattle.set_file.specs.Reading.{setTests}
+use Rattle.set_file.specs.Writing.{listRow}
+use Rattle.response.specs.Signature.{signature}
+use Rattle.response.specs.Columns.{recordCells}
+use Rattle.response.specs.declared.Signed.{Signed}
+use Rattle.response.specs.declared.Signed.the-variants.{Signature, Refused}
+
+unfoldable pub spareInRecord : List ℕ → List ℕ → Bool
+spareInRecord set r = anyBelow (slicesOf set) (λ t. spareSet (chainsOf set) (listRow (chainsOf set) r t))
+
+unfoldable pub signTests : List ℕ → List ℕ → List Test
+signTests set r =
+    setTests set
+    ++ 12 when not (eqb (length r) (rowBytes (chainsOf set) * slicesOf set))
+    ∷ 13 when spareInRecord set r
+    ∷ []
+
+unfoldable pub signReply : List ℕ → List ℕ → Reply ℕ
+signReply set r = reply (signTests set r) (signature (circuitOf set) (recordCells (chainsOf set) r) (slicesOf set))
+
+abbrev pub saidSigned : Signed → Reply ℕ
+saidSigned (Signature y) = answer y
+saidSigned (Refused n) = refusal n

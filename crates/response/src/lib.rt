@@ -1,0 +1,395 @@
+// Responses: a record's signature, the signature for all unknowns 0, and the columns of the unknown cells.
+ghost use mathlib.Core.Path.{_≡_};
+ghost use mathlib.Core.List.{map};
+ghost use Prim.Native.Nat.{ℕ, min, _+_, _-_, _*_, _≤_, _<_};
+ghost use lib.Bits.{bitXor};
+ghost use lib.ListN.{length, take, drop, getD, replicate};
+ghost use Rattle.register.specs.Row.{cell, rowBytes};
+ghost use Rattle.register.specs.Circuit.{advanced};
+ghost use Rattle.set_file.specs.Layout.{markAt};
+ghost use Rattle.word.specs.Some.{anyBelow};
+ghost use Rattle.word.specs.Reply.{lent};
+ghost use Rattle.register.specs.Row.{spareSet};
+ghost use Rattle.set_file.specs.Writing.{listRow};
+ghost use Rattle.response.specs.Signature.{signature};
+ghost use Rattle.response.specs.Columns.{listed, columnsBelow, columnsOf, total};
+ghost use Rattle.response.specs.Signing.{signReply, saidSigned};
+ghost use Rattle.response.specs.Listing.{listReply, saidListed};
+ghost use Rattle.response.specs.Code.{circuit, valueCells, markCells, marksBelow, rowsFrom, halfByte, topPlace, entryFrom, tableEnd, looked, chosenWords, back, stepDown};
+
+// What signing a record answers: its signature, or the first number that applies.
+pub enum Signed {
+    Signature { signature: u64 },
+    Refused { number: u64 },
+}
+
+// What listing the columns answers: the number of unknown cells, or the first number that applies.
+pub enum Listed {
+    Count { unknowns: u64 },
+    Declined { number: u64 },
+}
+
+// A number of chains, 256 at most.
+fn chain_limit(n: u64) -> usize
+    ensures { λ r. ⌜ r ≡ min n 256 ⌝ }
+{
+    let largest = register::Register::LARGEST_CHAINS;
+    if n < largest as u64 {
+        n as usize
+    } else {
+        largest
+    }
+}
+
+// A number of slices, 512 at most.
+fn slice_limit(s: u64) -> usize
+    ensures { λ r. ⌜ r ≡ min s 512 ⌝ }
+{
+    let largest = register::Register::LARGEST_SLICES;
+    if s < largest {
+        s as usize
+    } else {
+        largest as usize
+    }
+}
+
+// The place `step` places after `at`, and no further than `end`.
+fn moved(at: usize, step: usize, end: usize) -> usize
+    ensures { λ r. ⌜ r ≡ min (at + step) end ⌝ }
+{
+    if end <= at {
+        return end;
+    }
+    if end - at < step {
+        return end;
+    }
+    at + step
+}
+
+// The `count` bytes at place `at`, as far as they are there.
+fn part(bytes: &[u8], at: usize, count: usize) -> &[u8]
+    ensures { λ r. ⌜ now r ≡ take count (drop at (now (bytes .entry))) ⌝ }
+{
+    let start = moved(at, 0, bytes.len());
+    let end = moved(start, count, bytes.len());
+    &bytes[start..end]
+}
+
+// The word of place c; 0 past the end.
+fn word_at(words: &[u64], c: usize) -> u64
+    ensures { λ r. ⌜ r ≡ getD (now (words .entry)) c 0 ⌝ }
+{
+    if c < words.len() { words[c] } else { 0 }
+}
+
+// The next state of a register of width m and tap word taps, in which the chains drive this word.
+fn next_state(m: u64, taps: u64, state: u64, drive: u64) -> u64
+    ensures { λ r. ⌜ r ≡ bitXor (advanced (min m 64) taps state) drive ⌝ }
+{
+    let next = register::Register { m, taps, state }.advance(drive);
+    next.state
+}
+
+fn no_entries() -> [u64; 1024]
+    ensures { λ r. ⌜ r ≡ replicate 1024 0 ⌝ }
+{
+    [0u64; 1024]
+}
+
+// The place of the highest bit of a half byte; 0 for 0.
+fn top_place(half: usize) -> usize
+    ensures { λ r. ⌜ r ≡ topPlace half ⌝ }
+{
+    if half < 2 {
+        return 0;
+    }
+    if half < 4 {
+        return 1;
+    }
+    if half < 8 { 2 } else { 3 }
+}
+
+// Entry e of the table of half bytes, where the entries before it stand.
+fn table_entry(table: &[u64], spread: &[u64], e: usize) -> u64
+    ensures { λ r. ⌜ r ≡ entryFrom (now (table .entry)) (now (spread .entry)) e ⌝ }
+{
+    let half = e % 16;
+    if half == 0 {
+        return 0;
+    }
+    let top = top_place(half);
+    word_at(table, e - (1usize << top)) ^ word_at(spread, 4 * (e / 16) + top)
+}
+
+// How many entries of the table of half bytes can differ from 0, for n chains.
+fn table_end(n: usize) -> usize
+    ensures { λ r. ⌜ r ≡ tableEnd n ⌝ }
+{
+    if n < 256 { 16 * ((n + 3) / 4) } else { 1024 }
+}
+
+// The table of half bytes: for each four chains of the first 256, the XORs of some of their spread words, by which of their
+// cells are 1. So a slice costs one look for each half byte of its row.
+fn half_bytes(spread: &[u64]) -> [u64; 1024]
+    ensures { λ r. ⌜ ((e : ℕ) → e < 1024 → getD r e 0 ≡ halfByte (now (spread .entry)) e) ⌝ }
+{
+    let mut table = no_entries();
+    let end = table_end(spread.len());
+    let mut e = 0;
+    while e < end {
+        let word = table_entry(&table[..], spread, e);
+        table[e] = word;
+        e += 1;
+    }
+    table
+}
+
+// The XOR of the table's entries for the half bytes of a row of 32 bytes at most.
+fn looked_up(table: &[u64; 1024], row: &[u8]) -> u64
+    ensures { λ r. ⌜ r ≡ looked (now (table .entry)) (now (row .entry)) (min (length (now (row .entry))) 32) ⌝ }
+{
+    let count = moved(0, row.len(), 32);
+    let mut drive = 0u64;
+    let mut i = 0;
+    while i < count {
+        let b = word::wide(row[i]) as usize;
+        drive = drive ^ table[32 * i + b % 16] ^ table[32 * i + 16 + b / 16];
+        i += 1;
+    }
+    drive
+}
+
+// Writes the word over the list's last place where the digit is 1, and answers with how many places stand before what it wrote.
+fn put_last(columns: &mut [u64], digit: u64, word: u64) -> usize
+    ensures { λ r. ⌜ r ≡ length (now (columns .entry)) - length (listed digit word) ⌝ }
+    ensures { λ _. ⌜ now (columns .exit) ≡ back (listed digit word) (now (columns .entry)) ⌝ }
+{
+    let room = columns.len();
+    if digit == 0 {
+        return room;
+    }
+    if room == 0 {
+        return 0;
+    }
+    columns[room - 1] = word;
+    room - 1
+}
+
+// How many chains, chain c the last of them, are dealt with at once: a byte of the row without a mark is passed over whole.
+fn step_down(row: &[u8], c: usize) -> usize
+    ensures { λ r. ⌜ r ≡ stepDown (now (row .entry)) c ⌝ }
+{
+    if c % 8 != 7 {
+        return 1;
+    }
+    if word::byte_at(row, c / 8) != 0 {
+        return 1;
+    }
+    8
+}
+
+// Writes the words of the chains whose cell in the row is 1 over the list's end, and answers with how many places stand before them.
+fn list_row(columns: &mut [u64], words: &[u64], row: &[u8]) -> usize
+    ensures { λ r. ⌜ r ≡ length (now (columns .entry)) - length (chosenWords (now (words .entry)) (cell (now (row .entry))) (length (now (words .entry)))) ⌝ }
+    ensures { λ _. ⌜ now (columns .exit) ≡ back (chosenWords (now (words .entry)) (cell (now (row .entry))) (length (now (words .entry)))) (now (columns .entry)) ⌝ }
+{
+    let mut place = columns.len();
+    let mut c = words.len();
+    while 0 < c {
+        c -= step_down(row, c - 1);
+        place = put_last(&mut columns[..place], register::cell_at(row, c), words[c]);
+    }
+    place
+}
+
+// Advances each word by one clock with all cells 0.
+fn advance_words(m: u64, taps: u64, words: &mut [u64])
+    ensures { λ _. ⌜ now (words .exit) ≡ map (advanced (min m 64) taps) (now (words .entry)) ⌝ }
+{
+    let mut c = 0;
+    while c < words.len() {
+        words[c] = next_state(m, taps, words[c], 0);
+        c += 1;
+    }
+}
+
+// The number of cells among the first 256 of a row that are 1.
+fn count_row(row: &[u8]) -> u64
+    ensures { λ r. ⌜ r ≡ total 256 (cell (now (row .entry))) ⌝ }
+{
+    let count = moved(0, row.len(), 32);
+    let mut found = 0u64;
+    let mut i = 0;
+    while i < count {
+        found += u8::count_ones(row[i]) as u64;
+        i += 1;
+    }
+    found
+}
+
+// Where a response's rows stand: `count` bytes each, the first at place `at` and each `stride` bytes after the one before.
+struct Rows {
+    at: usize,
+    stride: usize,
+    count: usize,
+}
+
+// The signature of the response of s slices whose rows stand in `bytes`, each lent to the register as it stands there. It meets
+// no number: a width above 64 counts as 64, the chains after 256 drive nothing, and a row past the end is all 0.
+fn run_rows(m: u64, taps: u64, spread: &[u64], bytes: &[u8], rows: Rows, s: u64) -> u64
+    ensures { λ r. ⌜ r ≡ signature (circuit (min m 64) taps (take 256 (now (spread .entry)))) (rowsFrom (now (bytes .entry)) (rows .at) (rows .stride) (rows .count)) s ⌝ }
+{
+    let table = half_bytes(spread);
+    let at = rows.at;
+    let stride = rows.stride;
+    let count = rows.count;
+    let mut place = moved(at, 0, bytes.len());
+    let mut state = 0u64;
+    let mut t = 0;
+    while t < s {
+        let drive = looked_up(&table, part(bytes, place, count));
+        state = next_state(m, taps, state, drive);
+        place = moved(place, stride, bytes.len());
+        t += 1;
+    }
+    state
+}
+
+// The signature for all unknowns 0 of a set that the reader has taken: it answered with these m, tap word, spread words, n
+// and s. It meets no number.
+pub fn zero_signature(set: &[u8], m: u64, taps: u64, spread: [u64; 256], n: u64, s: u64) -> u64
+    ensures { λ r. ⌜ r ≡ signature (circuit (min m 64) taps (take n spread)) (valueCells (min n 256) (now (set .entry))) s ⌝ }
+{
+    let chains = chain_limit(n);
+    let count = register::row_bytes(chains);
+    let rows = Rows {
+        at: 14 + 8 * chains,
+        stride: 2 * count,
+        count,
+    };
+    run_rows(m, taps, &spread[..chains], set, rows, s)
+}
+
+// The row of unknown marks of slice t in a set of n chains, as far as it is there.
+fn mark_row(set: &[u8], n: usize, t: usize) -> &[u8]
+    requires { ⌜ (n ≤ 256) × (t < 512) ⌝ }
+    ensures { λ r. ⌜ now r ≡ take (rowBytes n) (drop (markAt n t) (now (set .entry))) ⌝ }
+{
+    let count = register::row_bytes(n);
+    part(set, 14 + 8 * n + 2 * count * t + count, count)
+}
+
+// The number of unknown cells of a set that the reader has taken: it answered with these n and s. It meets no number.
+pub fn count_unknowns(set: &[u8], n: u64, s: u64) -> u64
+    ensures { λ r. ⌜ r ≡ marksBelow (min n 256) (now (set .entry)) (min s 512) ⌝ }
+{
+    let chains = chain_limit(n);
+    let slices = slice_limit(s);
+    let mut found = 0u64;
+    let mut t = 0;
+    while t < slices {
+        found += count_row(mark_row(set, chains, t));
+        t += 1;
+    }
+    found
+}
+
+// Writes the columns of a set that the reader has taken over the end of the list: it answered with these m, tap word, spread
+// words, n and s. It goes from the last slice, whose columns are the spread words, to the first, and advances every word once
+// for each. It meets no number; where the list is shorter than the columns, the first of them are lost.
+pub fn fill_columns(
+    set: &[u8],
+    m: u64,
+    taps: u64,
+    spread: [u64; 256],
+    n: u64,
+    s: u64,
+    columns: &mut [u64],
+)
+    ensures { λ _. ⌜ now (columns .exit) ≡ back (columnsBelow (circuit (min m 64) taps (take n spread)) (min s 512) (markCells (min n 256) (now (set .entry))) (min s 512)) (now (columns .entry)) ⌝ }
+{
+    let chains = chain_limit(n);
+    let mut words = spread;
+    let mut place = columns.len();
+    let mut t = slice_limit(s);
+    while 0 < t {
+        t -= 1;
+        place = list_row(
+            &mut columns[..place],
+            &words[..chains],
+            mark_row(set, chains, t),
+        );
+        advance_words(m, taps, &mut words[..chains]);
+    }
+}
+
+// Number 13: whether one of the s rows of n chains has a spare bit set.
+fn has_spare_row(n: usize, rows: &[u8], s: usize) -> bool
+    ensures { λ r. ⌜ r ≡ anyBelow s (λ t. spareSet n (listRow n (now (rows .entry)) t)) ⌝ }
+{
+    let count = register::row_bytes(n);
+    let mut place = 0;
+    let mut t = 0;
+    while t < s {
+        if register::has_spare_bit(n, part(rows, place, count)) {
+            return true;
+        }
+        place = moved(place, count, rows.len());
+        t += 1;
+    }
+    false
+}
+
+// The signature of a record: all its cells as recorded, those of unknown cells too. It meets the set's 1 to 10, then 12 and 13.
+pub fn sign_record(set: &[u8], record: &[u8]) -> Signed
+    ensures { λ r. ⌜ saidSigned r ≡ signReply (now (set .entry)) (now («record» .entry)) ⌝ }
+{
+    let read = set_file::read_set(set);
+    let answer = read.answer;
+    let set_file::SetAnswer::Read { m, taps, n, s } = answer else {
+        return Signed::Refused {
+            number: set_file::number_of(answer),
+        };
+    };
+    let chains = chain_limit(n);
+    let slices = slice_limit(s);
+    let count = register::row_bytes(chains);
+    if record.len() != count * slices {
+        return Signed::Refused { number: 12 };
+    }
+    if has_spare_row(chains, record, slices) {
+        return Signed::Refused { number: 13 };
+    }
+    let spread = read.spread;
+    let rows = Rows {
+        at: 0,
+        stride: count,
+        count,
+    };
+    Signed::Signature {
+        signature: run_rows(m, taps, &spread[..chains], record, rows, s),
+    }
+}
+
+// The columns of a set's unknown cells, by slice and then by chain, at the front of the lent list, and how many there are. It
+// meets the set's 1 to 10, then 14; a refusal leaves the list as it was.
+pub fn list_columns(set: &[u8], columns: &mut [u64]) -> Listed
+    ensures { λ r. ⌜ saidListed r ≡ listReply (now (set .entry)) (length (now (columns .entry))) ⌝ }
+    ensures { λ _. ⌜ now (columns .exit) ≡ lent (listReply (now (set .entry)) (length (now (columns .entry)))) (columnsOf (now (set .entry))) (now (columns .entry)) ⌝ }
+{
+    let read = set_file::read_set(set);
+    let answer = read.answer;
+    let set_file::SetAnswer::Read { m, taps, n, s } = answer else {
+        return Listed::Declined {
+            number: set_file::number_of(answer),
+        };
+    };
+    let unknowns = count_unknowns(set, n, s);
+    if (columns.len() as u64) < unknowns {
+        return Listed::Declined { number: 14 };
+    }
+    let spread = read.spread;
+    let end = unknowns as usize;
+    fill_columns(set, m, taps, spread, n, s, &mut columns[..end]);
+    Listed::Count { unknowns }
+}
