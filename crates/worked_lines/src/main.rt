@@ -126,4 +126,14 @@ fn main() {
     sets::read_edge(3, 3, 257, 0);
     sets::read_edge(3, 3, 1, 513);
     sets::read_edge(3, 3, 1, 512);
+    sets::rows(&sets::sample(), 0);
+    sets::rows(&sets::sample(), 1);
+    sets::rows(&sets::sample(), 2);
+    sets::columns(&sets::sample());
+    sets::sign(&sets::sample(), &[1, 1]);
+    sets::sign(&sets::sample(), &[3, 1]);
+    sets::sign(&sets::sample(), &[1]);
+    sets::sign(&sets::sample(), &[4, 1]);
+    sets::sign(&sets::without_slices(), &[]);
+    sets::columns(&sets::without_slices());
 }
