@@ -1,0 +1,4 @@
+pub mod Worked
+pub mod Verdicts
+pub mod Laws
+pub mod CallLaws

@@ -1,0 +1,259 @@
+-- What the writer writes the reader reads back, and a plan that is taken is the one that the writer makes of its content:
+--
+--   Content, content   what is known of a content that the writer takes
+--   written-width      the plan file of a content has its m
+--   written-words      .. its words
+--   written-expected   .. its expected bits
+--   written-taken      .. and meets no number
+--   plan-of-content    a plan that meets no number is the plan file of its m, its words and its expected bits
+-- Assumes nothing.
+use mathlib.Core.Path.{_≡_, refl, sym, ap, ap₂, _∙_, subst}
+use mathlib.Core.Bool.{true, false, not, _&&_}
+use mathlib.Core.List.{List, [], _∷_, _++_, append-assoc, append-nil}
+use Prim.Native.Nat.{ℕ, zero, suc, _+_, _*_, _^_, _<_, _≤_}
+use native.Mathlib.Nat.{mod-eq-of-lt, lt-of-lt-of-le, pow-suc}
+use native.Mathlib.Omega.{arith}
+use borrow.Author.Tests.{ltb-false, le-ltb, eq-eqb, not-true, not-false}
+use lib.Dec.{eqb, ltb, lit<}
+use lib.ListN.{length, take, drop, getD, length-append, length-take, length-drop, take-append-drop}
+use lib.Pow.{pow-mono, pow-add}
+use lib.Seq.{take-all, take-add, drop-drop, getD-drop}
+use Rattle.word.specs.Word.{badWidth, beyond}
+use Rattle.word.specs.Some.{allOf}
+use Rattle.word.specs.Bytes.{number, numberAt, countAt, wordAt, wordsAt, bytesOf, wordBytes}
+use Rattle.word.specs.Reply.{firstOf}
+use Rattle.word.proofs.BoolLaws.{and-left, and-right, or-false-left, or-false-right}
+use Rattle.word.proofs.ByteLaws.{bytes-of-length, number-at-append, number-bytes-of, bytes-of-number, length-word-bytes}
+use Rattle.word.proofs.WordLaws.{good-width, within, not-beyond}
+use Rattle.elimination.specs.Reduced.{isReduced, ascending, topsClear}
+use Rattle.plan_file.specs.Layout.{againAt, bitBytes, bitsAt, planLength, widthOf, countOf, wordsOf, againOf, expectedOf}
+use Rattle.plan_file.specs.Reading.{badPlanWidth, badPlanCount, badPlanEnd, planTests}
+use Rattle.plan_file.specs.Writing.{PlanContent, contentOf, wordCount, planBytes, writeTests}
+use Rattle.plan_file.proofs.Laws.{Taken, taken}
+use Rattle.plan_file.proofs.WordPlaces.{plan-words-length}
+use Rattle.plan_file.proofs.WriteLaws.{none-of-write, length-plan-bytes}
+
+-- ---- a content that the writer takes
+
+pub record Content (k : PlanContent) : Type 0 where
+  pub width-positive : 1 ≤ k .m
+  pub width-most : k .m ≤ 64
+  pub count-positive : 1 ≤ wordCount k
+  pub count-most : wordCount k ≤ k .m
+  pub reduced : isReduced (k .m) (k .words) ≡ true
+  pub expected-inside : k .expected < 2 ^ wordCount k
+
+pub content : (k : PlanContent) (room : ℕ) → firstOf (writeTests k room) ≡ 0 → Content k
+content k room h =
+    let none = none-of-write k room h in
+    record {
+      width-positive = good-width (k .m) (none .width) .0;
+      width-most = good-width (k .m) (none .width) .1;
+      count-positive = ltb-false (wordCount k) 1 (or-false-left (ltb (wordCount k) 1) (ltb (k .m) (wordCount k)) (none .count));
+      count-most = ltb-false (k .m) (wordCount k) (or-false-right (ltb (wordCount k) 1) (ltb (k .m) (wordCount k)) (none .count));
+      reduced = not-false _ (none .words);
+      expected-inside = within (wordCount k) (k .expected) (none .bits);
+    }
+
+-- ---- a plan that is right in each part meets no number
+
+pub taken-back : (plan : List ℕ) → Taken plan → firstOf (planTests plan) ≡ 0
+unfolding planTests badPlanWidth badPlanCount badPlanEnd badWidth
+taken-back plan t =
+    let q = countOf plan in
+    let a1 : ltb (length plan) 2 ≡ false = le-ltb (length plan) 2 (omega (arith, t .exact)) in
+    let a2 : ltb (widthOf plan) 1 ≡ false = le-ltb (widthOf plan) 1 (t .width-positive) in
+    let a3 : ltb 64 (widthOf plan) ≡ false = le-ltb 64 (widthOf plan) (t .width-most) in
+    let b1 : ltb (length plan) 4 ≡ false = le-ltb (length plan) 4 (omega (arith, t .exact)) in
+    let b2 : ltb q 1 ≡ false = le-ltb q 1 (t .count-positive) in
+    let b3 : ltb (widthOf plan) q ≡ false = le-ltb (widthOf plan) q (t .count-most) in
+    let b4 : ltb (length plan) (againAt q) ≡ false = le-ltb (length plan) (againAt q) (omega (arith, t .exact)) in
+    let d1 : ltb (length plan) (bitsAt q) ≡ false = le-ltb (length plan) (bitsAt q) (omega (arith, t .exact)) in
+    let d2 : eqb (againOf plan) q ≡ true = eq-eqb (againOf plan) q (t .again) in
+    let d3 : eqb (length plan) (planLength q) ≡ true = eq-eqb (length plan) (planLength q) (t .exact) in
+    let d4 : beyond q (expectedOf plan) ≡ false = not-beyond q (expectedOf plan) (t .expected-inside) in
+    rw (a1, a2, a3, b1, b2, b3, b4, t .reduced, d1, d2, d3, d4)
+
+-- ---- the parts of the file that was written
+
+-- a number that fits its bytes is read back where they begin
+number-back : (k x : ℕ) (a b : List ℕ) (i : ℕ) → length a ≡ i → x < 256 ^ k → numberAt k (a ++ (bytesOf k x ++ b)) i ≡ x
+number-back k x a b i e h =
+    ap₂ (λ (s : List ℕ) (n : ℕ). numberAt k s n) (sym (append-assoc a (bytesOf k x) b)) (sym e)
+    ∙ number-at-append k a (bytesOf k x) b (bytes-of-length k x) ∙ number-bytes-of k x ∙ mod-eq-of-lt h
+
+data Below (b : ℕ) : List ℕ → Type 0 where
+  below-nil : Below b []
+  below-cons : {w : ℕ} {ws : List ℕ} → w < b → Below b ws → Below b (w ∷ ws)
+
+words-back : (ws a b : List ℕ) (i : ℕ) → length a ≡ i → Below (256 ^ 8) ws → wordsAt (a ++ (wordBytes ws ++ b)) i (length ws) ≡ ws
+unfolding wordsAt wordBytes
+words-back [] a b i e below-nil = refl
+words-back (w ∷ ws) a b i e (below-cons h r) =
+    let first : a ++ (bytesOf 8 w ++ wordBytes ws ++ b) ≡ a ++ (bytesOf 8 w ++ (wordBytes ws ++ b)) =
+    ap (λ (l : List ℕ). a ++ l) (append-assoc (bytesOf 8 w) (wordBytes ws) b)
+    in
+    let later : a ++ (bytesOf 8 w ++ wordBytes ws ++ b) ≡ a ++ bytesOf 8 w ++ (wordBytes ws ++ b) =
+    first ∙ sym (append-assoc a (bytesOf 8 w) (wordBytes ws ++ b))
+    in
+    let long : length (a ++ bytesOf 8 w) ≡ i + 8 = length-append a (bytesOf 8 w) ∙ omega (arith, bytes-of-length 8 w) in
+    ap₂ (λ (x : ℕ) (l : List ℕ). x ∷ l)
+    (ap (λ (s : List ℕ). wordAt s i) first ∙ number-back 8 w a (wordBytes ws ++ b) i e h)
+    (ap (λ (s : List ℕ). wordsAt s (i + 8) (length ws)) later ∙ words-back ws (a ++ bytesOf 8 w) b (i + 8) long r)
+
+listed-below : (m : ℕ) (ws : List ℕ) → m ≤ 64 → allOf (λ w. not (eqb w 0) && not (beyond m w)) ws ≡ true → Below (256 ^ 8) ws
+unfolding allOf
+listed-below m [] h e = below-nil
+listed-below m (w ∷ ws) h e =
+    let here = and-left (not (eqb w 0) && not (beyond m w)) _ e in
+    below-cons
+    (lt-of-lt-of-le (within m w (not-true _ (and-right (not (eqb w 0)) _ here))) (pow-mono h))
+    (listed-below m ws h (and-right (not (eqb w 0) && not (beyond m w)) _ e))
+
+reduced-below : (m : ℕ) (ws : List ℕ) → m ≤ 64 → isReduced m ws ≡ true → Below (256 ^ 8) ws
+unfolding isReduced
+reduced-below m ws h e = listed-below m ws h (and-left _ (ascending ws && topsClear ws) e)
+
+pow-bytes : (k : ℕ) → 256 ^ k ≡ 2 ^ (8 * k)
+pow-bytes zero = refl
+pow-bytes (suc k) =
+    let split : 8 * suc k ≡ 8 * k + 8 = omega arith in
+    pow-suc 256 k ∙ ap (λ (x : ℕ). x * 256) (pow-bytes k) ∙ sym (ap (λ (x : ℕ). 2 ^ x) split ∙ pow-add 2 (8 * k) 8)
+
+-- q bits fit their bytes
+bits-fit : (q e : ℕ) → e < 2 ^ q → e < 256 ^ bitBytes q
+bits-fit q e h =
+    let most : q ≤ 8 * bitBytes q = omega arith in
+    rw (pow-bytes (bitBytes q)) (lt-of-lt-of-le h (pow-mono most))
+
+module _ (k : PlanContent) (c : Content k) where
+  abbrev q : ℕ
+  q = wordCount k
+
+  abbrev bits : List ℕ
+  bits = bytesOf (bitBytes q) (k .expected)
+
+  count-fits : q < 256 ^ 2
+  count-fits = omega (arith, c .count-most, c .width-most)
+
+  pub written-width : widthOf (planBytes k) ≡ k .m
+  unfolding planBytes
+  written-width = number-back 2 (k .m) [] _ 0 refl (omega (arith, c .width-most))
+
+  pub written-count : countOf (planBytes k) ≡ q
+  unfolding planBytes
+  written-count = number-back 2 q (bytesOf 2 (k .m)) _ 2 (bytes-of-length 2 (k .m)) count-fits
+
+  start-long : length (bytesOf 2 (k .m) ++ bytesOf 2 q) ≡ 4
+  start-long = length-append (bytesOf 2 (k .m)) (bytesOf 2 q) ∙ omega (arith, bytes-of-length 2 (k .m), bytes-of-length 2 q)
+
+  words-long : length (bytesOf 2 (k .m) ++ bytesOf 2 q ++ wordBytes (k .words)) ≡ againAt q
+  words-long =
+      length-append (bytesOf 2 (k .m) ++ bytesOf 2 q) (wordBytes (k .words)) ∙ omega (arith, start-long, length-word-bytes (k .words))
+
+  again-long : length (bytesOf 2 (k .m) ++ bytesOf 2 q ++ wordBytes (k .words) ++ bytesOf 2 q) ≡ bitsAt q
+  again-long =
+      length-append (bytesOf 2 (k .m) ++ bytesOf 2 q ++ wordBytes (k .words)) (bytesOf 2 q) ∙ omega (arith, words-long, bytes-of-length 2 q)
+
+  pub written-words : wordsOf (planBytes k) ≡ k .words
+  unfolding planBytes
+  written-words =
+      ap (wordsAt (planBytes k) 4) written-count
+      ∙ ap (λ (s : List ℕ). wordsAt s 4 q) (sym (append-assoc (bytesOf 2 (k .m)) (bytesOf 2 q) _))
+      ∙ words-back (k .words) (bytesOf 2 (k .m) ++ bytesOf 2 q) _ 4 start-long (reduced-below (k .m) (k .words) (c .width-most) (c .reduced))
+
+  written-again : againOf (planBytes k) ≡ q
+  unfolding planBytes
+  written-again =
+      ap (λ (n : ℕ). countAt (planBytes k) (againAt n)) written-count
+      ∙ ap (λ (s : List ℕ). countAt s (againAt q))
+      (sym (append-assoc (bytesOf 2 (k .m)) (bytesOf 2 q) _) ∙ sym (append-assoc (bytesOf 2 (k .m) ++ bytesOf 2 q) (wordBytes (k .words)) _))
+      ∙ number-back 2 q (bytesOf 2 (k .m) ++ bytesOf 2 q ++ wordBytes (k .words)) bits (againAt q) words-long count-fits
+
+  pub written-expected : expectedOf (planBytes k) ≡ k .expected
+  unfolding planBytes
+  written-expected =
+      ap (λ (n : ℕ). numberAt (bitBytes n) (planBytes k) (bitsAt n)) written-count
+      ∙ ap (λ (s : List ℕ). numberAt (bitBytes q) s (bitsAt q))
+      (sym (append-assoc (bytesOf 2 (k .m)) (bytesOf 2 q) _) ∙ sym (append-assoc (bytesOf 2 (k .m) ++ bytesOf 2 q) (wordBytes (k .words)) _)
+      ∙ sym (append-assoc (bytesOf 2 (k .m) ++ bytesOf 2 q ++ wordBytes (k .words)) (bytesOf 2 q) bits)
+      ∙ ap (λ (l : List ℕ). bytesOf 2 (k .m) ++ bytesOf 2 q ++ wordBytes (k .words) ++ bytesOf 2 q ++ l) (sym (append-nil bits)))
+      ∙ number-back (bitBytes q) (k .expected) (bytesOf 2 (k .m) ++ bytesOf 2 q ++ wordBytes (k .words) ++ bytesOf 2 q) [] (bitsAt q) again-long
+      (bits-fit q (k .expected) (c .expected-inside))
+
+  pub written-taken : firstOf (planTests (planBytes k)) ≡ 0
+  written-taken =
+      taken-back (planBytes k)
+      (record {
+        width-positive = omega (arith, written-width, c .width-positive);
+        width-most = omega (arith, written-width, c .width-most);
+        count-positive = omega (arith, written-count, c .count-positive);
+        count-most = omega (arith, written-width, written-count, c .count-most);
+        reduced = ap₂ isReduced written-width written-words ∙ c .reduced;
+        again = written-again ∙ sym written-count;
+        exact = length-plan-bytes k ∙ ap planLength (sym written-count);
+        expected-inside =
+            subst (λ (x : ℕ). x < 2 ^ countOf (planBytes k)) (sym written-expected)
+            (subst (λ (n : ℕ). k .expected < 2 ^ n) (sym written-count) (c .expected-inside));
+      })
+
+-- ---- a plan of bytes, part after part
+
+take-small : (k : ℕ) (l : List ℕ) → ((j : ℕ) → getD l j 0 < 256) → (j : ℕ) → getD (take k l) j 0 < 256
+take-small zero l h j = lit< tt
+take-small (suc k) [] h j = lit< tt
+take-small (suc k) (x ∷ l) h zero = h zero
+take-small (suc k) (x ∷ l) h (suc j) = take-small k l (λ i. h (suc i)) j
+
+module _ (s : List ℕ) (small : (i : ℕ) → getD s i 0 < 256) where
+  part-small : (i k j : ℕ) → getD (take k (drop i s)) j 0 < 256
+  part-small i k j = take-small k (drop i s) (λ n. rw getD-drop (small (i + n))) j
+
+  number-bytes : (k i : ℕ) → i + k ≤ length s → bytesOf k (numberAt k s i) ≡ take k (drop i s)
+  unfolding numberAt
+  number-bytes k i h =
+      let long : length (take k (drop i s)) ≡ k = length-take k (drop i s) ∙ omega (arith, length-drop i s) in
+      ap (λ (n : ℕ). bytesOf n (number (take k (drop i s)))) (sym long) ∙ bytes-of-number (take k (drop i s)) (part-small i k)
+
+  words-bytes : (k i : ℕ) → i + 8 * k ≤ length s → wordBytes (wordsAt s i k) ≡ take (8 * k) (drop i s)
+  unfolding wordBytes wordsAt
+  words-bytes zero i h = refl
+  words-bytes (suc k) i h =
+      let more : 8 * suc k ≡ 8 + 8 * k = omega arith in
+      ap₂ (λ (a b : List ℕ). a ++ b) (number-bytes 8 i (omega arith)) (words-bytes k (i + 8) (omega arith))
+      ∙ ap (λ (l : List ℕ). take 8 (drop i s) ++ take (8 * k) l) (sym (drop-drop 8 i s))
+      ∙ sym (take-add 8 (8 * k) (drop i s)) ∙ ap (λ (n : ℕ). take n (drop i s)) (sym more)
+
+-- a part and what follows it
+part-joins : (s : List ℕ) (i n j : ℕ) → i + n ≡ j → take n (drop i s) ++ drop j s ≡ drop i s
+part-joins s i n j e =
+    ap (λ (x : ℕ). take n (drop i s) ++ drop x s) (sym e)
+    ∙ ap (λ (l : List ℕ). take n (drop i s) ++ l) (sym (drop-drop n i s)) ∙ take-append-drop n (drop i s)
+
+pub plan-of-content : (plan : List ℕ) → ((i : ℕ) → getD plan i 0 < 256) → firstOf (planTests plan) ≡ 0
+    → planBytes (contentOf (widthOf plan) (wordsOf plan) (expectedOf plan)) ≡ plan
+unfolding planBytes
+plan-of-content plan small h =
+    let t : Taken plan = taken plan h in
+    let q = countOf plan in
+    let long : length plan ≡ planLength q = t .exact in
+    let same : length (wordsOf plan) ≡ q = plan-words-length plan in
+    let p1 : bytesOf 2 (widthOf plan) ≡ take 2 (drop 0 plan) = number-bytes plan small 2 0 (omega arith) in
+    let p2 : bytesOf 2 (length (wordsOf plan)) ≡ take 2 (drop 2 plan) = ap (bytesOf 2) same ∙ number-bytes plan small 2 2 (omega arith) in
+    let p3 : wordBytes (wordsOf plan) ≡ take (8 * q) (drop 4 plan) = words-bytes plan small q 4 (omega arith) in
+    let p4 : bytesOf 2 (length (wordsOf plan)) ≡ take 2 (drop (againAt q) plan) =
+    ap (bytesOf 2) (same ∙ sym (t .again)) ∙ number-bytes plan small 2 (againAt q) (omega arith)
+    in
+    let p5 : bytesOf (bitBytes (length (wordsOf plan))) (expectedOf plan) ≡ take (bitBytes q) (drop (bitsAt q) plan) =
+    ap (λ (n : ℕ). bytesOf (bitBytes n) (expectedOf plan)) same ∙ number-bytes plan small (bitBytes q) (bitsAt q) (omega arith)
+    in
+    let rest : length (drop (bitsAt q) plan) ≤ bitBytes q = omega (arith, length-drop (bitsAt q) plan) in
+    let j5 : take (bitBytes q) (drop (bitsAt q) plan) ≡ drop (bitsAt q) plan = take-all (bitBytes q) (drop (bitsAt q) plan) rest in
+    let j4 : take 2 (drop (againAt q) plan) ++ drop (bitsAt q) plan ≡ drop (againAt q) plan = part-joins plan (againAt q) 2 (bitsAt q) (omega arith) in
+    let j3 : take (8 * q) (drop 4 plan) ++ drop (againAt q) plan ≡ drop 4 plan = part-joins plan 4 (8 * q) (againAt q) (omega arith) in
+    let j2 : take 2 (drop 2 plan) ++ drop 4 plan ≡ drop 2 plan = part-joins plan 2 2 4 (omega arith) in
+    let j1 : take 2 (drop 0 plan) ++ drop 2 plan ≡ drop 0 plan = part-joins plan 0 2 2 (omega arith) in
+    ap₂ (λ (a b : List ℕ). a ++ b) p1
+    (ap₂ (λ (a b : List ℕ). a ++ b) p2
+    (ap₂ (λ (a b : List ℕ). a ++ b) p3 (ap₂ (λ (a b : List ℕ). a ++ b) p4 (p5 ∙ j5) ∙ j4) ∙ j3) ∙ j2)
+    ∙ j1

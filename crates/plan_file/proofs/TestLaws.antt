@@ -1,0 +1,92 @@
+-- The tests of a plan file: what the code looks at is what the numbers say. Assumes nothing.
+use mathlib.Core.Path.{_≡_, refl, sym, ap, ap₂, _∙_}
+use mathlib.Core.Bool.{Bool, true, false, not, _||_}
+use mathlib.Core.List.{List}
+use Prim.Native.Nat.{ℕ, _+_, _*_, _/_, _≤_}
+use native.Mathlib.Omega.{arith}
+use borrow.Author.Tests.{ltb-false, le-ltb, eq-eqb, ne-eqb}
+use lib.Dec.{eqb, ltb}
+use lib.ListN.{length, drop, length-drop}
+use lib.Seq.{take-all}
+use Rattle.word.specs.Word.{badWidth, beyond}
+use Rattle.word.specs.Bytes.{number, numberAt, countAt, wordAt}
+use Rattle.word.proofs.BoolLaws.{or-false-left, or-false-right, or-true-left, or-true-right}
+use Rattle.word.proofs.WordLaws.{good-width}
+use Rattle.plan_file.specs.Layout.{againAt, bitsAt, bitBytes, planLength, widthOf, countOf, againOf, expectedOf}
+use Rattle.plan_file.specs.Reading.{badPlanWidth, badPlanCount, badPlanEnd}
+
+-- of two numbers that reach the end of the list neither sees a byte more
+pub number-to-end : (j k : ℕ) (s : List ℕ) (i : ℕ) → length s ≤ i + j → length s ≤ i + k → numberAt j s i ≡ numberAt k s i
+unfolding numberAt
+number-to-end j k s i a b =
+    let short : length (drop i s) ≤ j = omega (arith, length-drop i s) in
+    let short′ : length (drop i s) ≤ k = omega (arith, length-drop i s) in
+    ap number (take-all j (drop i s) short ∙ sym (take-all k (drop i s) short′))
+
+-- in a plan of the exact length the expected bits of at most 64 words are the word at their place
+pub bits-to-end : (plan : List ℕ) → length plan ≡ planLength (countOf plan) → countOf plan ≤ 64
+    → wordAt plan (bitsAt (countOf plan)) ≡ expectedOf plan
+bits-to-end plan e h =
+    number-to-end 8 (bitBytes (countOf plan)) plan (bitsAt (countOf plan)) (omega arith) (omega arith)
+
+pub width-test : (plan : List ℕ) (m : ℕ) (b : Bool) → m ≡ widthOf plan → b ≡ badWidth m → (ltb (length plan) 2 || b) ≡ badPlanWidth plan
+unfolding badPlanWidth
+width-test plan m b e h = rw (h, e)
+
+pub count-test : (plan : List ℕ) (m q : ℕ) → m ≡ widthOf plan → q ≡ countOf plan
+    → (ltb (length plan) 4 || ltb q 1 || ltb m q || ltb (length plan) (4 + 8 * q)) ≡ badPlanCount plan
+unfolding badPlanCount
+count-test plan m q e h = rw (h, e)
+
+-- a plan of another length is refused, whatever its end holds
+pub end-inexact : (plan : List ℕ) (q : ℕ) → q ≡ countOf plan → (length plan ≡ 6 + 8 * q + (q + 7) / 8 → ⊥) → true ≡ badPlanEnd plan
+unfolding badPlanEnd
+end-inexact plan q e n =
+    let inexact : length plan ≡ planLength (countOf plan) → ⊥ = rw e at n in
+    sym
+    (or-true-left _ _
+    (or-true-right (ltb (length plan) (bitsAt (countOf plan)) || not (eqb (againOf plan) (countOf plan))) _
+    (ap not (ne-eqb (length plan) (planLength (countOf plan)) inexact))))
+
+exact-tests : (plan : List ℕ) → length plan ≡ planLength (countOf plan)
+    → (not (eqb (againOf plan) (countOf plan)) || beyond (countOf plan) (expectedOf plan)) ≡ badPlanEnd plan
+unfolding badPlanEnd
+exact-tests plan e =
+    let long : ltb (length plan) (bitsAt (countOf plan)) ≡ false = le-ltb (length plan) (bitsAt (countOf plan)) (omega arith) in
+    let exact : eqb (length plan) (planLength (countOf plan)) ≡ true = eq-eqb (length plan) (planLength (countOf plan)) e in
+    sym
+    (ap₂ (λ (a b : Bool). a || not (eqb (againOf plan) (countOf plan)) || not b || beyond (countOf plan) (expectedOf plan)) long exact
+    ∙ no-more (not (eqb (againOf plan) (countOf plan))) (beyond (countOf plan) (expectedOf plan)))
+  where
+    no-more : (a b : Bool) → (false || a || not true || b) ≡ (a || b)
+    no-more true b = refl
+    no-more false b = refl
+
+pub end-exact : (plan : List ℕ) (q again bits : ℕ) (b : Bool) → q ≡ countOf plan → length plan ≡ 6 + 8 * q + (q + 7) / 8
+    → again ≡ countAt plan (4 + 8 * q) → bits ≡ wordAt plan (bitsAt (countOf plan)) → b ≡ beyond q bits
+    → countOf plan ≤ 64 → (not (eqb again q) || b) ≡ badPlanEnd plan
+end-exact plan q again bits b e l a w f h =
+    let exact : length plan ≡ planLength (countOf plan) = rw e at l in
+    let same : again ≡ againOf plan = rw e at a in
+    let expected : bits ≡ expectedOf plan = w ∙ bits-to-end plan exact h in
+    ap₂ (λ (x : Bool) (y : Bool). not x || y) (ap₂ eqb same e) (f ∙ ap₂ beyond e expected) ∙ exact-tests plan exact
+
+-- ---- what a test that does not apply leaves known
+
+pub width-good : (plan : List ℕ) → badPlanWidth plan ≡ false → (1 ≤ widthOf plan) × (widthOf plan ≤ 64)
+unfolding badPlanWidth
+width-good plan h = good-width (widthOf plan) (or-false-right (ltb (length plan) 2) (badWidth (widthOf plan)) h)
+
+pub count-good : (plan : List ℕ) → badPlanCount plan ≡ false → (1 ≤ countOf plan) × (countOf plan ≤ widthOf plan)
+unfolding badPlanCount
+count-good plan h =
+    let q = countOf plan in
+    let start = or-false-left (ltb (length plan) 4 || ltb q 1 || ltb (widthOf plan) q) (ltb (length plan) (againAt q)) h in
+    let first = or-false-left (ltb (length plan) 4 || ltb q 1) (ltb (widthOf plan) q) start in (
+      ltb-false q 1 (or-false-right (ltb (length plan) 4) (ltb q 1) first),
+      ltb-false (widthOf plan) q (or-false-right (ltb (length plan) 4 || ltb q 1) (ltb (widthOf plan) q) start),
+    )
+
+-- past 19 and 20 there are at most 64 words
+pub few-words : (plan : List ℕ) → badPlanWidth plan ≡ false → badPlanCount plan ≡ false → countOf plan ≤ 64
+few-words plan a b = omega (arith, width-good plan a .1, count-good plan b .1)

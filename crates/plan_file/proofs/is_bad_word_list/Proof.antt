@@ -1,0 +1,63 @@
+-- `is_bad_word_list` meets its contract: what is left of the pass decides.
+use Prim.Native.Nat.{_-_}
+use Rattle.plan_file.proofs.WordPlaces.{Passed, passed-start, passed-stop, passed-turn, passed-end}
+use borrow.Author.Needs.{needs}
+use Rattle.plan_file.proofs.is_bad_word_list.Statement.{statement}
+use Rattle.plan_file.proofs.is_bad_word_list.Tie as tie
+
+abbrev Inv-loop : tie.InvT-loop
+Inv-loop plan m q last₀ seen₀ i₀ last seen i = Passed plan m q last seen i
+
+abbrev μ-loop : tie.MeasureT-loop
+μ-loop plan m q last₀ seen₀ i₀ last seen i = q - i
+
+width-requires : tie.Need-width-requires Inv-loop μ-loop
+width-requires c κs = search needs
+
+count-requires : tie.Need-count-requires Inv-loop μ-loop
+count-requires c κs = search needs
+
+loop-holds : tie.Need-loop-holds Inv-loop μ-loop
+loop-holds c = passed-start _ _ _ (c .before .width .ensures .0) (c .count .ensures .0)
+
+plan-word-requires : tie.Need-plan-word-requires Inv-loop μ-loop
+plan-word-requires c κs = search needs
+
+is-next-requires : tie.Need-is-next-requires Inv-loop μ-loop
+is-next-requires c κs = search needs
+
+returns : tie.Need-returns Inv-loop μ-loop
+returns c = passed-stop _ _ _ _ _ _ _ _ (c .before .before .before .before .loop .inv) (search needs) (c .before .before .plan-word .ensures) (c .before .is-next .ensures) (c .if1 .taken)
+
+with-highest-requires : tie.Need-with-highest-requires Inv-loop μ-loop
+with-highest-requires c κs = search needs
+
+add-i : tie.Need-add-i Inv-loop μ-loop
+add-i c = search needs
+
+loop-less : tie.Need-loop-less Inv-loop μ-loop
+loop-less c = search needs
+
+loop-again : tie.Need-loop-again Inv-loop μ-loop
+loop-again c = passed-turn _ _ _ _ _ _ _ _ _ (c .before .before .before .before .before .loop .inv) (search needs) (c .before .before .before .plan-word .ensures) (c .before .before .is-next .ensures) (c .before .if1 .left) (c .with-highest .ensures)
+
+returns-2 : tie.Need-returns-2 Inv-loop μ-loop
+returns-2 c = passed-end _ _ _ _ _ _ (c .before .loop .inv) (search needs)
+
+pub is-bad-word-list-spec : {M : Type 1} → statement M
+is-bad-word-list-spec =
+    tie.close
+    (tie.spec
+    Inv-loop
+    μ-loop
+    width-requires
+    count-requires
+    loop-holds
+    plan-word-requires
+    is-next-requires
+    returns
+    with-highest-requires
+    add-i
+    loop-less
+    loop-again
+    returns-2)

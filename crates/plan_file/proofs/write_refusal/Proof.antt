@@ -1,0 +1,77 @@
+-- `write_refusal` meets its contract: one test for each number, in the order of the list.
+use Prim.Native.Nat.{_≤_}
+use Rattle.word.proofs.ReplyLaws.{refusals}
+use Rattle.plan_file.specs.Writing.{writeTests}
+use Rattle.plan_file.proofs.WriteLaws.{width-most, room-short, room-enough}
+use borrow.Author.Needs.{needs}
+use Rattle.plan_file.proofs.write_refusal.Statement.{statement}
+use Rattle.plan_file.proofs.write_refusal.Tie as tie
+
+-- past 19
+narrow : (c : tie.After-is-no-reduced-list) → c .before .before .before .before .before .before .args .m ≤ 64
+narrow c = width-most _ _ (c .before .before .before .before .is-bad-width .ensures) (c .before .before .before .if1 .left)
+
+is-bad-width-requires : tie.Need-is-bad-width-requires
+is-bad-width-requires c κs = search needs
+
+returns : tie.Need-returns
+unfolding writeTests
+returns c = search refusals depth 20 fits 20000
+
+is-bad-word-count-requires : tie.Need-is-bad-word-count-requires
+is-bad-word-count-requires c κs = search needs
+
+returns-2 : tie.Need-returns-2
+unfolding writeTests
+returns-2 c = search refusals depth 20 fits 20000
+
+is-no-reduced-list-requires : tie.Need-is-no-reduced-list-requires
+is-no-reduced-list-requires c κs = search needs
+
+returns-3 : tie.Need-returns-3
+unfolding writeTests
+returns-3 c =
+    let listed = c .before .is-no-reduced-list .ensures (narrow (c .before)) in
+    search refusals depth 20 fits 20000
+
+is-beyond-requires : tie.Need-is-beyond-requires
+is-beyond-requires c κs = search needs
+
+returns-4 : tie.Need-returns-4
+unfolding writeTests
+returns-4 c =
+    let listed = c .before .before .before .is-no-reduced-list .ensures (narrow (c .before .before .before)) in
+    search refusals depth 20 fits 20000
+
+plan-length-requires : tie.Need-plan-length-requires
+plan-length-requires c κs = search needs
+
+returns-5 : tie.Need-returns-5
+unfolding writeTests
+returns-5 c =
+    let listed = c .before .before .before .before .before .is-no-reduced-list .ensures (narrow (c .before .before .before .before .before)) in
+    let short = room-short _ _ _ (c .before .plan-length .ensures) (c .if5 .taken) in
+    search refusals depth 20 fits 20000
+
+returns-6 : tie.Need-returns-6
+unfolding writeTests
+returns-6 c =
+    let listed = c .before .before .before .before .before .is-no-reduced-list .ensures (narrow (c .before .before .before .before .before)) in
+    let enough = room-enough _ _ _ (c .before .plan-length .ensures) (c .if5 .left) in
+    search refusals depth 20 fits 20000
+
+pub write-refusal-spec : {M : Type 1} → statement M
+write-refusal-spec =
+    tie.close
+    (tie.spec
+    is-bad-width-requires
+    returns
+    is-bad-word-count-requires
+    returns-2
+    is-no-reduced-list-requires
+    returns-3
+    is-beyond-requires
+    returns-4
+    plan-length-requires
+    returns-5
+    returns-6)
