@@ -1,7 +1,7 @@
 -- What the inner functions' answers come to, from what the functions that they call ensure. Assumes nothing.
-use mathlib.Core.Path.{_≡_, refl, sym, ap, ap₂, _∙_}
+use mathlib.Core.Path.{_≡_, sym, ap, ap₂, _∙_}
 use mathlib.Core.Bool.{Bool, true, false, not, _||_}
-use mathlib.Core.List.{List, _++_}
+use mathlib.Core.List.{List}
 use Prim.Native.Nat.{ℕ, _+_, _-_, _*_, _≤_, _<_}
 use native.Mathlib.Nat.{mul-le-mul-left, le-trans, mul-add, mul-one, mul-zero}
 use native.Mathlib.Omega.{arith}
@@ -14,11 +14,10 @@ use Rattle.word.specs.Reply.{front}
 use Rattle.word.proofs.BoolLaws.{or-false-right}
 use Rattle.register.specs.Row.{rowBytes, spareSet}
 use Rattle.register.specs.Circuit.{badChains, badSpread}
-use Rattle.set_file.specs.Layout.{rowsAt, setLength, widthOf, chainsOf, spreadOf, slicesOf, valueAt, markAt, valueRow, markRow}
+use Rattle.set_file.specs.Layout.{spreadAt, rowsAt, setLength, widthOf, chainsOf, spreadOf, slicesOf, valueAt, markAt, valueRow, markRow}
 use Rattle.set_file.specs.Reading.{spareInRows, valuedUnknown}
 use Rattle.set_file.specs.Writing.{listRow}
 use Rattle.set_file.specs.Code.{noWords, sharesBit}
-use Rattle.set_file.proofs.LayoutLaws.{row-step}
 use Rattle.set_file.proofs.RangeLaws.{none-passed, one-passed, one-found, all-passed}
 use Rattle.set_file.proofs.RowLaws.{SpareRow, spare-rows-none}
 use Rattle.set_file.proofs.SliceLaws.{rowsOf, spare-of-rows, slice-inside, valued-of-bytes}
@@ -30,9 +29,9 @@ pub rows-small : (b s : ℕ) → b ≤ 8192 → s ≤ 65536 → b * s ≤ 536870
 rows-small b s hb hs = le-trans (mul-le-mul-left b hs) (omega arith)
 
 -- the spread words stand at the front of the 256
-pub spread-front : (l spread : List ℕ) (n : ℕ) → spread ≡ front (wordsAt l 12 n) noWords → take n spread ≡ wordsAt l 12 n
+pub spread-front : (l spread : List ℕ) (n : ℕ) → spread ≡ front (wordsAt l spreadAt n) noWords → take n spread ≡ wordsAt l spreadAt n
 unfolding front
-spread-front l spread n e = ap (take n) e ∙ take-at (wordsAt l 12 n) _ n (length-words-at l 12 n)
+spread-front l spread n e = ap (take n) e ∙ take-at (wordsAt l spreadAt n) _ n (length-words-at l spreadAt n)
 
 pub bad-spread-of : (set spread : List ℕ) (m n : ℕ) (r : Bool) → m ≡ widthOf set → n ≡ chainsOf set → r ≡ badSpread m (take n spread)
     → spread ≡ front (spreadOf set) noWords → r ≡ badSpread (widthOf set) (spreadOf set)
@@ -45,18 +44,20 @@ wrong-length-of set n s r en es er = ap (λ (x : ℕ). not (eqb (length set) x))
 
 -- ---- number 9
 
-pub spare-none : (set : List ℕ) (n : ℕ) → n ≡ chainsOf set → length set < rowsAt n → false ≡ spareInRows set
-spare-none set n e h =
+pub spare-none : (set : List ℕ) (n at : ℕ) → n ≡ chainsOf set → at ≡ rowsAt n → length set < at → false ≡ spareInRows set
+spare-none set n at e a h =
     let empty : length (rowsOf set) ≡ 0 = length-drop (rowsAt (chainsOf set)) set ∙ omega arith in
     spare-rows-none (chainsOf set) (rowsOf set) (2 * slicesOf set) empty ∙ sym (spare-of-rows set)
 
-pub spare-of : (set : List ℕ) (n s : ℕ) (r : Bool) → n ≡ chainsOf set → s ≡ slicesOf set
-    → r ≡ anyBelow (2 * s) (SpareRow n (take (length set - rowsAt n) (drop (rowsAt n) set))) → r ≡ spareInRows set
-spare-of set n s r en es er =
-    let whole : take (length set - rowsAt n) (drop (rowsAt n) set) ≡ drop (rowsAt n) set =
-    take-all (length set - rowsAt n) (drop (rowsAt n) set) (omega (arith, length-drop (rowsAt n) set)) in
-    er ∙ ap (λ (l : List ℕ). anyBelow (2 * s) (SpareRow n l)) whole
-    ∙ ap₂ (λ (k x : ℕ). anyBelow (2 * x) (SpareRow k (drop (rowsAt k) set))) en es ∙ sym (spare-of-rows set)
+pub spare-of : (set : List ℕ) (n s at : ℕ) (r : Bool) → n ≡ chainsOf set → s ≡ slicesOf set → at ≡ rowsAt n
+    → r ≡ anyBelow (2 * s) (SpareRow n (take (length set - at) (drop at set))) → r ≡ spareInRows set
+spare-of set n s at r en es ea er =
+    let whole : take (length set - at) (drop at set) ≡ drop at set =
+    take-all (length set - at) (drop at set) (omega (arith, length-drop at set))
+    in
+    let place : at ≡ rowsAt (chainsOf set) = omega arith in
+    er ∙ ap (λ (l : List ℕ). anyBelow (2 * s) (SpareRow n l)) (whole ∙ ap (λ (k : ℕ). drop k set) place)
+    ∙ ap₂ (λ (k x : ℕ). anyBelow (2 * x) (SpareRow k (rowsOf set))) en es ∙ sym (spare-of-rows set)
 
 -- a row of the list, as it is lent
 pub row-lent : (n : ℕ) (l : List ℕ) (t at bytes : ℕ) (r : Bool) → bytes ≡ rowBytes n → at ≡ rowBytes n * t
@@ -78,8 +79,8 @@ pub record Unshared (set : List ℕ) (t at : ℕ) : Type 0 where
   pub most : at ≤ 600000 + length set
   pub none : anyBelow t (SharedIn set) ≡ false
 
-pub unshared-start : (set : List ℕ) (n : ℕ) → n ≡ chainsOf set → n < 65536 → Unshared set 0 (14 + 8 * n)
-unshared-start set n e h =
+pub unshared-start : (set : List ℕ) (n at : ℕ) → n ≡ chainsOf set → n < 65536 → at ≡ rowsAt n → Unshared set 0 at
+unshared-start set n at e h ea =
     record { place = omega (arith, mul-zero (2 * rowBytes (chainsOf set))); most = omega arith; none = none-passed (SharedIn set) }
 
 module _ (set : List ℕ) (t at bytes : ℕ) (u : Unshared set t at) (eb : bytes ≡ rowBytes (chainsOf set)) where

@@ -1,14 +1,14 @@
 -- The writer's content: its rows in two lists, tested byte by byte, and how long its file is. Assumes nothing.
 use mathlib.Core.Path.{_≡_, refl, sym, ap, ap₂, _∙_}
-use mathlib.Core.Bool.{Bool, true, false, not, _||_}
+use mathlib.Core.Bool.{Bool, false, not, _||_}
 use mathlib.Core.List.{List, [], _∷_, _++_}
-use Prim.Native.Nat.{ℕ, zero, suc, _+_, _-_, _*_, _≤_, _<_, min}
+use Prim.Native.Nat.{ℕ, zero, suc, _+_, _*_, _<_, min}
 use native.Mathlib.Nat.{mul-assoc}
 use native.Mathlib.Omega.{arith}
 use borrow.Author.Tests.{ltb-false, eqb-true, not-false}
 use lib.Bits.{bitAnd}
 use lib.Dec.{eqb, ltb}
-use lib.ListN.{length, getD, take, drop, length-append}
+use lib.ListN.{length, getD, drop, length-append}
 use lib.Seq.{getD-take, getD-drop}
 use Rattle.word.specs.Some.{anyBelow}
 use Rattle.word.specs.Bytes.{bytesOf, wordBytes}
@@ -20,7 +20,7 @@ use Rattle.register.specs.Circuit.{badChains}
 use Rattle.set_file.specs.Layout.{setLength}
 use Rattle.set_file.specs.Writing.{SetContent, contentOf, chainCount, listRow, slicesBytes, setBytes, badRows, spareInLists, valuedInLists}
 use Rattle.set_file.specs.Code.{sharesBit, inTurn}
-use Rattle.set_file.proofs.LayoutLaws.{row-step, list-row-length, part-bytes}
+use Rattle.set_file.proofs.LayoutLaws.{list-row-length, part-bytes}
 use Rattle.set_file.proofs.RangeLaws.{any-below-blocks}
 use Rattle.set_file.proofs.RowLaws.{valued-bytes}
 use Rattle.set_file.proofs.WriteLaws.{in-turn-length}

@@ -1,30 +1,29 @@
 -- The set writer: what a content that is written knows, and each way out of the call. Assumes nothing.
 use mathlib.Core.Path.{_≡_, refl, sym, ap, ap₂, _∙_}
-use mathlib.Core.Bool.{Bool, true, false, not, _||_}
+use mathlib.Core.Bool.{false}
 use mathlib.Core.List.{List, _++_, append-assoc}
 use Prim.Native.Nat.{ℕ, _+_, _*_, _≤_, _<_}
 use native.Mathlib.Nat.{zero-add}
 use native.Mathlib.Omega.{arith}
 use borrow.Author.Tests.{ltb-false}
 use lib.Dec.{ltb}
-use lib.ListN.{length, take, drop, length-append}
+use lib.ListN.{length, drop, length-append}
 use lib.Seq.{sets, sets-eq}
 use Rattle.word.specs.Word.{badWidth}
 use Rattle.word.specs.Bytes.{bytesOf, wordBytes}
 use Rattle.word.specs.Reply.{Reply, answer, refusal, replied, firstOf, front, lent}
 use Rattle.word.proofs.ReplyLaws.{replied-refusal}
 use Rattle.word.proofs.ByteLaws.{bytes-of-length, length-word-bytes}
-use Rattle.word.proofs.BoolLaws.{or-false-right}
 use Rattle.register.specs.Row.{rowBytes}
 use Rattle.register.specs.Circuit.{badTaps, badChains, badSpread}
 use Rattle.set_file.specs.Layout.{rowsAt, setLength}
-use Rattle.set_file.specs.Writing.{SetContent, contentOf, chainCount, slicesBytes, setBytes, badRows, spareInLists, valuedInLists, writeTests, writeReply, saidWritten}
+use Rattle.set_file.specs.Writing.{SetContent, chainCount, slicesBytes, setBytes, badRows, spareInLists, valuedInLists, writeTests, writeReply, saidWritten}
 use Rattle.set_file.specs.Code.{inTurn, headBytes}
 use Rattle.set_file.specs.declared.Written.{Written}
 use Rattle.set_file.specs.declared.Written.the-variants.{Done, Refused}
 use Rattle.word.proofs.TestLaws.{none-and-rest}
 use Rattle.set_file.proofs.WriteLaws.{sets-next}
-use Rattle.set_file.proofs.ContentLaws.{chains-small, slices-small, values-length, marks-length, slices-in-turn, set-bytes-length}
+use Rattle.set_file.proofs.ContentLaws.{chains-small, values-length, marks-length, slices-in-turn, set-bytes-length}
 
 -- ---- a content to which no number applies
 

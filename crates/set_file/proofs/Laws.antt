@@ -1,6 +1,6 @@
 -- The laws that the crates above cite: what an accepted set knows, and what the reader's reply says of its set. A set is
 -- accepted where none of the numbers 1 to 10 applies to it. Assumes nothing.
-use mathlib.Core.Path.{_≡_, refl, sym, ap, _∙_}
+use mathlib.Core.Path.{_≡_, sym, ap, _∙_}
 use mathlib.Core.Bool.{true, false, not, _&&_, _||_}
 use mathlib.Core.List.{List}
 use Prim.Native.Nat.{ℕ, _≤_, _<_}
@@ -18,7 +18,7 @@ use Rattle.word.proofs.ReplyLaws.{replied-refusal}
 use Rattle.word.proofs.TestLaws.{none-and-rest, replied-answer, replied-number}
 use Rattle.register.specs.Row.{rowBytes, spareSet}
 use Rattle.register.specs.Circuit.{badTaps, badChains, badSpread}
-use Rattle.set_file.specs.Layout.{slicesAt, rowsAt, setLength, widthOf, tapsOf, chainsOf, spreadOf, slicesOf, valueRow, markRow, values, marks}
+use Rattle.set_file.specs.Layout.{spreadAt, slicesAt, rowsAt, setLength, widthOf, tapsOf, chainsOf, spreadOf, slicesOf, valueRow, markRow, values, marks}
 use Rattle.set_file.specs.Reading.{badSlices, spareInRows, valuedUnknown, setTests, SetParts, partsOf, setReply}
 use Rattle.set_file.proofs.SliceLaws as slices
 use Rattle.word.proofs.ByteLaws.{length-words-at}
@@ -90,7 +90,7 @@ good-chains n h =
     (ltb-false n 1 (or-false-left (ltb n 1) (ltb 256 n) h), ltb-false 256 n (or-false-right (ltb n 1) (ltb 256 n) h))
 
 pub spread-length : (set : List ℕ) → length (spreadOf set) ≡ chainsOf set
-spread-length set = length-words-at set 12 (chainsOf set)
+spread-length set = length-words-at set spreadAt (chainsOf set)
 
 module _ (set : List ℕ) (a : Accepted set) where
   pub accepted-width : (1 ≤ widthOf set) × (widthOf set ≤ 64)

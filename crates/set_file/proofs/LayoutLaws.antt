@@ -2,8 +2,8 @@
 use mathlib.Core.Path.{_≡_, refl, sym, ap, _∙_}
 use mathlib.Core.Logic.{dite}
 use mathlib.Core.List.{List, []}
-use Prim.Native.Nat.{ℕ, zero, suc, _+_, _-_, _*_, _≤_, _<_, min, suc-le-suc}
-use native.Mathlib.Nat.{mul-le-mul-left, mul-assoc, mul-suc, mul-zero, le-of-suc-le-suc, not-suc-le-zero}
+use Prim.Native.Nat.{ℕ, zero, suc, _+_, _*_, _≤_, _<_}
+use native.Mathlib.Nat.{mul-le-mul-left, mul-suc, le-of-suc-le-suc, not-suc-le-zero}
 use native.Mathlib.Numerals.{add-one}
 use native.Mathlib.Decide.{decLt}
 use native.Mathlib.Omega.{arith}
@@ -12,9 +12,9 @@ use lib.ListN.{length, getD, take, drop, set, length-take, length-drop, List·ge
 use lib.Seq.{getD-take, getD-drop}
 use Rattle.word.specs.Bytes.{wordAt, wordsAt}
 use Rattle.word.specs.Reply.{front}
-use Rattle.word.proofs.FrontLaws.{front-next, front-nothing, front-whole, front-length, front-take-length}
+use Rattle.word.proofs.FrontLaws.{front-next, front-nothing, front-whole}
 use Rattle.register.specs.Row.{rowBytes}
-use Rattle.set_file.specs.Layout.{rowsAt, setLength, chainsOf, spreadOf, slicesOf, valueAt, markAt, valueRow, markRow}
+use Rattle.set_file.specs.Layout.{spreadAt}
 use Rattle.set_file.specs.Writing.{listRow}
 use Rattle.set_file.specs.Code.{noWords}
 use Rattle.word.proofs.ByteLaws.{length-words-at}
@@ -36,19 +36,19 @@ no-words-length = refl
 pub spread-start : (l : List ℕ) → l ≡ noWords → l ≡ front [] noWords
 spread-start l e = e ∙ sym (front-nothing noWords)
 
-pub spread-turn : (l ws : List ℕ) (n c w : ℕ) → ws ≡ front (take c (wordsAt l 12 n)) noWords → c < n → c < 256
-    → w ≡ wordAt l (12 + 8 * c) → set ws c w ≡ front (take (c + 1) (wordsAt l 12 n)) noWords
+pub spread-turn : (l ws : List ℕ) (n c w : ℕ) → ws ≡ front (take c (wordsAt l spreadAt n)) noWords → c < n → c < 256
+    → w ≡ wordAt l (spreadAt + 8 * c) → set ws c w ≡ front (take (c + 1) (wordsAt l spreadAt n)) noWords
 spread-turn l ws n c w e h b r =
-    let inside : c < length (wordsAt l 12 n) = omega (arith, length-words-at l 12 n) in
+    let inside : c < length (wordsAt l spreadAt n) = omega (arith, length-words-at l spreadAt n) in
     let room : c < length noWords = omega (arith, no-words-length) in
-    ap (λ (v : ℕ). set ws c v) (r ∙ sym (words-get l 12 n c h))
-    ∙ ap (λ (x : List ℕ). set x c (getD (wordsAt l 12 n) c 0)) e
-    ∙ front-next c (wordsAt l 12 n) noWords inside room
-    ∙ ap (λ (k : ℕ). front (take k (wordsAt l 12 n)) noWords) (sym (add-one c))
+    ap (λ (v : ℕ). set ws c v) (r ∙ sym (words-get l spreadAt n c h))
+    ∙ ap (λ (x : List ℕ). set x c (getD (wordsAt l spreadAt n) c 0)) e
+    ∙ front-next c (wordsAt l spreadAt n) noWords inside room
+    ∙ ap (λ (k : ℕ). front (take k (wordsAt l spreadAt n)) noWords) (sym (add-one c))
 
-pub spread-end : (l ws : List ℕ) (n c : ℕ) → ws ≡ front (take c (wordsAt l 12 n)) noWords → c ≡ n → ws ≡ front (wordsAt l 12 n) noWords
+pub spread-end : (l ws : List ℕ) (n c : ℕ) → ws ≡ front (take c (wordsAt l spreadAt n)) noWords → c ≡ n → ws ≡ front (wordsAt l spreadAt n) noWords
 spread-end l ws n c e h =
-    e ∙ ap (λ (k : ℕ). front (take k (wordsAt l 12 n)) noWords) (h ∙ sym (length-words-at l 12 n)) ∙ front-whole (wordsAt l 12 n) noWords
+    e ∙ ap (λ (k : ℕ). front (take k (wordsAt l spreadAt n)) noWords) (h ∙ sym (length-words-at l spreadAt n)) ∙ front-whole (wordsAt l spreadAt n) noWords
 
 -- ---- rows
 

@@ -1,12 +1,12 @@
 -- Tests over a range: how a loop that looks for the first number stands, and how ranges are put together. Assumes nothing.
 use mathlib.Core.Path.{_≡_, refl, sym, ap, ap₂, _∙_}
 use mathlib.Core.Bool.{Bool, true, false, _||_}
-use Prim.Native.Nat.{ℕ, zero, suc, _+_, _*_, _≤_, _<_}
+use Prim.Native.Nat.{ℕ, zero, suc, _+_, _*_, _<_}
 use native.Mathlib.Nat.{add-zero, add-suc, mul-suc, mul-zero}
 use native.Mathlib.Numerals.{add-one}
 use native.Mathlib.Omega.{arith}
 use Rattle.word.specs.Some.{anyBelow}
-use Rattle.word.proofs.SomeLaws.{any-below-true, any-below-ext}
+use Rattle.word.proofs.SomeLaws.{any-below-true}
 use Rattle.word.proofs.BoolLaws.{or-false}
 
 -- two tests are the same where each fails if the other does

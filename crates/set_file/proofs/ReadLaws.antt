@@ -1,5 +1,5 @@
 -- Each way out of the set reader, and what it answers and hands back beside it. Assumes nothing.
-use mathlib.Core.Path.{_≡_, refl, sym, ap, ap₂, _∙_}
+use mathlib.Core.Path.{_≡_, sym, ap, _∙_}
 use mathlib.Core.List.{List}
 use Prim.Native.Nat.{ℕ, _≤_}
 use lib.ListN.{replicate}
@@ -9,7 +9,7 @@ use Rattle.set_file.specs.Reading.{SetParts, setTests, partsOf, setReply
 use Rattle.set_file.specs.Code.{noWords}
 use Rattle.set_file.specs.declared.SetAnswer.{SetAnswer}
 use Rattle.set_file.specs.declared.SetAnswer.the-variants.{Read, Refused}
-use Rattle.set_file.proofs.Laws.{Accepted, accepted, accepted-chains, set-answers, set-refuses}
+use Rattle.set_file.proofs.Laws.{accepted, accepted-chains, set-answers, set-refuses}
 
 -- what the reader answers, a, and the words beside it, ws
 abbrev pub Reads : List ℕ → SetAnswer → List ℕ → Type 0

@@ -4,21 +4,20 @@ use mathlib.Core.Bool.{Bool, true, false, not, _&&_, _||_}
 use mathlib.Core.Logic.{⊎-elim, dite}
 use mathlib.Core.List.{List}
 use Prim.Native.Nat.{ℕ, zero, suc, _+_, _-_, _*_, _/_, _%_, _^_, _≤_, _<_, min}
-use native.Mathlib.Nat.{mul-le-mul-left, le-step, lt-suc-self, not-suc-le-zero}
+use native.Mathlib.Nat.{mul-le-mul-left, le-step, lt-suc-self}
 use native.Mathlib.Decide.{decLt}
 use native.Mathlib.Numerals.{add-one}
 use native.Mathlib.Omega.{arith}
-use borrow.Author.Tests.{eq-eqb, ne-eqb, eqb-true, eqb-false, not-true, not-false}
+use borrow.Author.Tests.{eq-eqb, eqb-true, eqb-false, not-false}
 use lib.Bits.{bitAnd, bitOr, and-step, and-shr, and-le-r}
 use lib.Dec.{eqb}
-use lib.ListN.{length, getD, take, drop, length-take, length-drop, List·getD-eq-default}
-use lib.Seq.{getD-take, getD-drop, drop-drop}
+use lib.ListN.{length, getD, drop, length-take, length-drop, List·getD-eq-default}
 use lib.Pow.{shr-le}
 use Rattle.word.specs.Word.{digit}
 use Rattle.word.specs.Some.{anyBelow}
 use Rattle.word.proofs.Laws.{bit-cases, or-zero-left, or-zero-right}
 use Rattle.word.proofs.WordLaws.{below-top}
-use Rattle.word.proofs.SomeLaws.{any-below-none, any-below-false, any-below-ext}
+use Rattle.word.proofs.SomeLaws.{any-below-none, any-below-false}
 use Rattle.word.proofs.BoolLaws.{or-false-left, or-false-right}
 use Rattle.register.specs.Row.{rowBytes, cell, spareSet}
 use Rattle.register.proofs.Laws.{cell-lt}

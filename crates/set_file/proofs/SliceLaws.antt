@@ -1,14 +1,14 @@
 -- The slices of a set: its rows lie one after the other, value row and mark row in turn, and what the tests of them come to.
-use mathlib.Core.Path.{_≡_, refl, sym, ap, ap₂, _∙_}
-use mathlib.Core.Bool.{Bool, true, false, _||_}
-use mathlib.Core.List.{List, []}
-use Prim.Native.Nat.{ℕ, _+_, _-_, _*_, _≤_, _<_}
+use mathlib.Core.Path.{_≡_, sym, ap, ap₂, _∙_}
+use mathlib.Core.Bool.{false, _||_}
+use mathlib.Core.List.{List}
+use Prim.Native.Nat.{ℕ, _+_, _*_, _≤_, _<_}
 use native.Mathlib.Nat.{mul-assoc, mul-comm, mul-add, mul-one}
 use native.Mathlib.Omega.{arith}
-use lib.ListN.{length, getD, take, drop, length-take, length-drop, drop-of-length-le}
-use lib.Seq.{drop-drop, getD-take, getD-drop, take-nil, drop-nil}
+use lib.ListN.{length, getD, take, drop, length-take, length-drop}
+use lib.Seq.{drop-drop}
 use Rattle.word.specs.Some.{anyBelow}
-use Rattle.word.proofs.SomeLaws.{any-below-none, any-below-false, any-below-ext}
+use Rattle.word.proofs.SomeLaws.{any-below-false, any-below-ext}
 use Rattle.word.proofs.BoolLaws.{or-false-left, or-false-right}
 use Rattle.register.specs.Row.{rowBytes, spareSet}
 use Rattle.set_file.specs.Layout.{rowsAt, setLength, chainsOf, slicesOf, valueAt, markAt, valueRow, markRow}
@@ -17,7 +17,7 @@ use Rattle.set_file.specs.Writing.{listRow}
 use Rattle.set_file.specs.Code.{sharesBit}
 use Rattle.set_file.proofs.LayoutLaws.{row-step, part-bytes}
 use Rattle.set_file.proofs.RangeLaws.{any-below-pairs}
-use Rattle.set_file.proofs.RowLaws.{SpareRow, BothSet, valued-bytes}
+use Rattle.set_file.proofs.RowLaws.{SpareRow, valued-bytes}
 
 -- the rows of a set, from its first
 abbrev pub rowsOf : List ℕ → List ℕ

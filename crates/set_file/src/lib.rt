@@ -41,106 +41,26 @@ pub enum Written {
     Refused { number: u64 },
 }
 
-// n, as the set gives it.
-fn chain_count(set: &[u8]) -> usize
-    ensures { λ r. ⌜ (r ≡ chainsOf (now (set .entry))) × (r < 65536) ⌝ }
+// The places of the tap word, of n and of the first spread word.
+const TAPS_AT: usize = 2;
+
+const CHAINS_AT: usize = 10;
+
+const SPREAD_AT: usize = 12;
+
+// The place of the slice count, for n chains.
+fn slices_at(n: u16) -> usize
+    ensures { λ r. ⌜ r ≡ slicesAt n ⌝ }
 {
-    word::read_count(set, 10) as usize
+    let chains = n as usize;
+    SPREAD_AT + 8 * chains
 }
 
-// s, as the set gives it.
-fn slice_count(set: &[u8]) -> usize
-    ensures { λ r. ⌜ (r ≡ slicesOf (now (set .entry))) × (r < 65536) ⌝ }
+// The place of the first row, for n chains.
+fn rows_at(n: u16) -> usize
+    ensures { λ r. ⌜ r ≡ rowsAt n ⌝ }
 {
-    let n = chain_count(set);
-    word::read_count(set, 12 + 8 * n) as usize
-}
-
-fn no_words() -> [u64; 256]
-    ensures { λ r. ⌜ r ≡ noWords ⌝ }
-{
-    [0u64; 256]
-}
-
-// The spread words, and zeros after them.
-fn spread_words(set: &[u8]) -> [u64; 256]
-    ensures { λ r. ⌜ (chainsOf (now (set .entry)) ≤ 256 → r ≡ front (spreadOf (now (set .entry))) noWords) ⌝ }
-{
-    let n = chain_count(set);
-    let mut words = no_words();
-    let mut c = 0;
-    while c < n {
-        if register::Register::LARGEST_CHAINS <= c {
-            return words;
-        }
-        words[c] = word::read_word(set, 12 + 8 * c);
-        c += 1;
-    }
-    words
-}
-
-// Number 1.
-fn is_short(set: &[u8]) -> bool
-    ensures { λ r. ⌜ r ≡ ltb (length (now (set .entry))) 10 ⌝ }
-{
-    set.len() < 10
-}
-
-// Number 2.
-fn has_bad_width(set: &[u8]) -> bool
-    ensures { λ r. ⌜ r ≡ badWidth (widthOf (now (set .entry))) ⌝ }
-{
-    word::is_bad_width(word::read_count(set, 0))
-}
-
-// Number 3.
-fn has_bad_taps(set: &[u8]) -> bool
-    ensures { λ r. ⌜ r ≡ badTaps (widthOf (now (set .entry))) (tapsOf (now (set .entry))) ⌝ }
-{
-    register::is_bad_taps(word::read_count(set, 0), word::read_word(set, 2))
-}
-
-// Number 4.
-fn has_bad_chains(set: &[u8]) -> bool
-    ensures { λ r. ⌜ r ≡ (ltb (length (now (set .entry))) 12 || badChains (chainsOf (now (set .entry)))) ⌝ }
-{
-    (set.len() < 12) | register::is_bad_chains(chain_count(set))
-}
-
-// Number 5.
-fn ends_in_spread(set: &[u8]) -> bool
-    ensures { λ r. ⌜ r ≡ ltb (length (now (set .entry))) (slicesAt (chainsOf (now (set .entry)))) ⌝ }
-{
-    let n = chain_count(set);
-    set.len() < 12 + 8 * n
-}
-
-// Number 6, for up to 256 chains.
-fn has_bad_spread(set: &[u8]) -> bool
-    ensures { λ r. ⌜ (chainsOf (now (set .entry)) ≤ 256 → r ≡ badSpread (widthOf (now (set .entry))) (spreadOf (now (set .entry)))) ⌝ }
-{
-    let n = chain_count(set);
-    if register::Register::LARGEST_CHAINS < n {
-        return true;
-    }
-    let spread = spread_words(set);
-    register::is_bad_spread(word::read_count(set, 0), &spread[..n])
-}
-
-// Whether s is above 512.
-fn is_bad_slices(s: u64) -> bool
-    ensures { λ r. ⌜ r ≡ ltb 512 s ⌝ }
-{
-    register::Register::LARGEST_SLICES < s
-}
-
-// Number 7.
-fn has_bad_slices(set: &[u8]) -> bool
-    ensures { λ r. ⌜ r ≡ badSlices (now (set .entry)) ⌝ }
-{
-    let n = chain_count(set);
-    let s = slice_count(set);
-    (set.len() < 14 + 8 * n) | is_bad_slices(s as u64)
+    slices_at(n) + 2
 }
 
 // The bytes of s rows of n chains. Counts of 2 bytes keep it small.
@@ -155,17 +75,113 @@ fn rows_length(n: u16, s: u16) -> usize
 fn set_length(n: u16, s: u16) -> usize
     ensures { λ r. ⌜ r ≡ setLength n s ⌝ }
 {
-    let chains = n as usize;
-    14 + 8 * chains + 2 * rows_length(n, s)
+    rows_at(n) + 2 * rows_length(n, s)
 }
 
-// Number 8.
+// n, as the set gives it.
+fn chain_count(set: &[u8]) -> u16
+    ensures { λ r. ⌜ r ≡ chainsOf (now (set .entry)) ⌝ }
+{
+    word::read_count(set, CHAINS_AT) as u16
+}
+
+// s, as the set gives it.
+fn slice_count(set: &[u8]) -> u16
+    ensures { λ r. ⌜ r ≡ slicesOf (now (set .entry)) ⌝ }
+{
+    word::read_count(set, slices_at(chain_count(set))) as u16
+}
+
+// 256 zero words.
+fn no_words() -> [u64; 256]
+    ensures { λ r. ⌜ r ≡ noWords ⌝ }
+{
+    [0u64; 256]
+}
+
+// The spread words, up to 256, and zeros after them.
+fn spread_words(set: &[u8]) -> [u64; 256]
+    ensures { λ r. ⌜ (chainsOf (now (set .entry)) ≤ 256 → r ≡ front (spreadOf (now (set .entry))) noWords) ⌝ }
+{
+    let n = chain_count(set) as usize;
+    let mut words = no_words();
+    let mut c = 0;
+    while c < n {
+        if register::Register::LARGEST_CHAINS <= c {
+            return words;
+        }
+        words[c] = word::read_word(set, SPREAD_AT + 8 * c);
+        c += 1;
+    }
+    words
+}
+
+// Number 1: whether the set has fewer than 10 bytes.
+fn is_short(set: &[u8]) -> bool
+    ensures { λ r. ⌜ r ≡ ltb (length (now (set .entry))) 10 ⌝ }
+{
+    set.len() < CHAINS_AT
+}
+
+// Number 2: whether m isn't 1 to 64.
+fn has_bad_width(set: &[u8]) -> bool
+    ensures { λ r. ⌜ r ≡ badWidth (widthOf (now (set .entry))) ⌝ }
+{
+    word::is_bad_width(word::read_count(set, 0))
+}
+
+// Number 3: whether the tap word has bit 0 clear or a bit at or above m.
+fn has_bad_taps(set: &[u8]) -> bool
+    ensures { λ r. ⌜ r ≡ badTaps (widthOf (now (set .entry))) (tapsOf (now (set .entry))) ⌝ }
+{
+    register::is_bad_taps(word::read_count(set, 0), word::read_word(set, TAPS_AT))
+}
+
+// Number 4: whether the chain count is absent or isn't 1 to 256.
+fn has_bad_chains(set: &[u8]) -> bool
+    ensures { λ r. ⌜ r ≡ (ltb (length (now (set .entry))) 12 || badChains (chainsOf (now (set .entry)))) ⌝ }
+{
+    (set.len() < SPREAD_AT) | register::is_bad_chains(chain_count(set) as usize)
+}
+
+// Number 5: whether the set ends before the last spread word.
+fn ends_in_spread(set: &[u8]) -> bool
+    ensures { λ r. ⌜ r ≡ ltb (length (now (set .entry))) (slicesAt (chainsOf (now (set .entry)))) ⌝ }
+{
+    set.len() < slices_at(chain_count(set))
+}
+
+// Number 6, for up to 256 chains: whether a spread word is zero or has a bit at or above m.
+fn has_bad_spread(set: &[u8]) -> bool
+    ensures { λ r. ⌜ (chainsOf (now (set .entry)) ≤ 256 → r ≡ badSpread (widthOf (now (set .entry))) (spreadOf (now (set .entry)))) ⌝ }
+{
+    let n = chain_count(set) as usize;
+    if register::Register::LARGEST_CHAINS < n {
+        return true;
+    }
+    let spread = spread_words(set);
+    register::is_bad_spread(word::read_count(set, 0), &spread[..n])
+}
+
+// Whether s is above 512.
+fn is_bad_slices(s: u64) -> bool
+    ensures { λ r. ⌜ r ≡ ltb 512 s ⌝ }
+{
+    register::Register::LARGEST_SLICES < s
+}
+
+// Number 7: whether the slice count is absent or above 512.
+fn has_bad_slices(set: &[u8]) -> bool
+    ensures { λ r. ⌜ r ≡ badSlices (now (set .entry)) ⌝ }
+{
+    (set.len() < rows_at(chain_count(set))) | is_bad_slices(slice_count(set) as u64)
+}
+
+// Number 8: whether the set's length isn't what its counts give.
 fn has_wrong_length(set: &[u8]) -> bool
     ensures { λ r. ⌜ r ≡ not (eqb (length (now (set .entry))) (setLength (chainsOf (now (set .entry))) (slicesOf (now (set .entry))))) ⌝ }
 {
-    let n = chain_count(set);
-    let s = slice_count(set);
-    set.len() != set_length(n as u16, s as u16)
+    set.len() != set_length(chain_count(set), slice_count(set))
 }
 
 // Whether one of the first `count` rows of a list of rows of n chains has a spare bit set.
@@ -189,19 +205,20 @@ fn has_spare_row(n: usize, rows: &[u8], count: usize) -> bool
     false
 }
 
-// Number 9.
+// Number 9: whether a row of the set has a spare bit set.
 fn has_spare_bits(set: &[u8]) -> bool
     ensures { λ r. ⌜ r ≡ spareInRows (now (set .entry)) ⌝ }
 {
     let n = chain_count(set);
-    let s = slice_count(set);
-    let at = 14 + 8 * n;
+    let rows = 2 * (slice_count(set) as usize);
+    let at = rows_at(n);
     if set.len() < at {
         return false;
     }
-    has_spare_row(n, &set[at..], 2 * s)
+    has_spare_row(n as usize, &set[at..], rows)
 }
 
+// The shorter of two lengths.
 fn shorter(a: usize, b: usize) -> usize
     ensures { λ r. ⌜ r ≡ min a b ⌝ }
 {
@@ -222,15 +239,16 @@ fn share_a_bit(values: &[u8], marks: &[u8]) -> bool
     shared != 0
 }
 
-// Number 10, for a set of the right length in which no spare bit is set: whole bytes are compared.
+// Number 10, for a set of the right length in which no spare bit is set: whether an unknown cell has its value bit set. Whole
+// bytes are compared.
 fn has_valued_unknown(set: &[u8]) -> bool
     ensures { λ r. ⌜ (length (now (set .entry)) ≡ setLength (chainsOf (now (set .entry))) (slicesOf (now (set .entry))) → spareInRows (now (set .entry)) ≡ false → r ≡ valuedUnknown (now (set .entry))) ⌝ }
 {
     let n = chain_count(set);
     let s = slice_count(set);
-    let bytes = register::row_bytes(n);
-    let mut at = 14 + 8 * n;
-    let mut t = 0;
+    let bytes = register::row_bytes(n as usize);
+    let mut at = rows_at(n);
+    let mut t: u16 = 0;
     while t < s {
         let mark = at + bytes;
         let end = mark + bytes;
@@ -299,7 +317,7 @@ pub fn read_set(set: &[u8]) -> SetRead
     SetRead {
         answer: SetAnswer::Read {
             m: word::read_count(set, 0),
-            taps: word::read_word(set, 2),
+            taps: word::read_word(set, TAPS_AT),
             n: chain_count(set) as u64,
             s: slice_count(set) as u64,
         },
@@ -307,7 +325,7 @@ pub fn read_set(set: &[u8]) -> SetRead
     }
 }
 
-// Number 11.
+// Number 11: whether the slice number isn't below s.
 fn is_past_slices(set: &[u8], slice: u64) -> bool
     ensures { λ r. ⌜ r ≡ not (ltb slice (slicesOf (now (set .entry)))) ⌝ }
 {
@@ -338,8 +356,8 @@ pub fn value_place(set: &[u8], slice: u64) -> Place
     }
     let n = chain_count(set);
     Place::At {
-        start: set_length(n as u16, slice as u16),
-        bytes: register::row_bytes(n),
+        start: set_length(n, slice as u16),
+        bytes: register::row_bytes(n as usize),
     }
 }
 
@@ -484,10 +502,10 @@ fn write_head(out: &mut [u8], m: u64, taps: u64, spread: &[u64], s: u64)
 {
     let n = spread.len();
     word::write_count(out, 0, m);
-    word::write_word(out, 2, taps);
-    word::write_count(out, 10, n as u64);
-    write_words(out, 12, spread);
-    word::write_count(out, 12 + 8 * n, s);
+    word::write_word(out, TAPS_AT, taps);
+    word::write_count(out, CHAINS_AT, n as u64);
+    write_words(out, SPREAD_AT, spread);
+    word::write_count(out, SPREAD_AT + 8 * n, s);
 }
 
 // The first s value rows and mark rows of n chains, in turn, where a set of n chains has its rows.
@@ -495,7 +513,7 @@ fn write_slices(out: &mut [u8], n: u16, s: u16, values: &[u8], marks: &[u8])
     ensures { λ _. ⌜ (length (now (values .entry)) ≡ rowBytes n * s → length (now (marks .entry)) ≡ rowBytes n * s → now (out .exit) ≡ sets (now (out .entry)) (rowsAt n) (inTurn (rowBytes n) (now (values .entry)) (now (marks .entry)) s)) ⌝ }
 {
     let bytes = register::row_bytes(n as usize);
-    let mut to = 14 + 8 * (n as usize);
+    let mut to = rows_at(n);
     let mut from = 0;
     let mut t: u16 = 0;
     while t < s {

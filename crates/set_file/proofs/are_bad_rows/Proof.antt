@@ -7,9 +7,6 @@ use mathlib.Core.Path.{ap}
 use borrow.Author.Needs.{needs}
 use Rattle.set_file.proofs.are_bad_rows.Statement.{statement}
 use Rattle.set_file.proofs.are_bad_rows.Tie as tie
-use Rattle.set_file.proofs.are_bad_rows.Reads as reads
-use Rattle.set_file.proofs.are_bad_rows.Lts as lts
-use Rattle.set_file.proofs.rows_length.Reads as rows-length-reads
 
 rows-length-requires : tie.Need-rows-length-requires
 rows-length-requires c κs = search needs

@@ -3,10 +3,6 @@ use Rattle.set_file.proofs.PlaceLaws.{row-set-refused, row-past, row-th
 use borrow.Author.Needs.{needs}
 use Rattle.set_file.proofs.first_row_refusal.Statement.{statement}
 use Rattle.set_file.proofs.first_row_refusal.Tie as tie
-use Rattle.set_file.proofs.first_row_refusal.Reads as reads
-use Rattle.set_file.proofs.first_row_refusal.Lts as lts
-use Rattle.set_file.proofs.first_refusal.Reads as first-refusal-reads
-use Rattle.set_file.proofs.is_past_slices.Reads as is-past-slices-reads
 
 first-refusal-requires : tie.Need-first-refusal-requires
 first-refusal-requires c κs = search needs

@@ -5,17 +5,6 @@ use Rattle.word.proofs.ReplyLaws.{refusals}
 use borrow.Author.Needs.{needs}
 use Rattle.set_file.proofs.first_write_refusal.Statement.{statement}
 use Rattle.set_file.proofs.first_write_refusal.Tie as tie
-use Rattle.set_file.proofs.first_write_refusal.Reads as reads
-use Rattle.set_file.proofs.first_write_refusal.Lts as lts
-use Rattle.register.proofs.is_bad_chains.Reads as is-bad-chains-reads
-use Rattle.register.proofs.is_bad_spread.Reads as is-bad-spread-reads
-use Rattle.register.proofs.is_bad_taps.Reads as is-bad-taps-reads
-use Rattle.set_file.proofs.are_bad_rows.Reads as are-bad-rows-reads
-use Rattle.set_file.proofs.has_spare_list.Reads as has-spare-list-reads
-use Rattle.set_file.proofs.is_bad_slices.Reads as is-bad-slices-reads
-use Rattle.set_file.proofs.lacks_room.Reads as lacks-room-reads
-use Rattle.set_file.proofs.share_a_bit.Reads as share-a-bit-reads
-use Rattle.word.proofs.is_bad_width.Reads as is-bad-width-reads
 
 is-bad-width-requires : tie.Need-is-bad-width-requires
 is-bad-width-requires c κs = search needs

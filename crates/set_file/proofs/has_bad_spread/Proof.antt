@@ -10,6 +10,9 @@ use Rattle.set_file.proofs.has_bad_spread.Tie as tie
 chain-count-requires : tie.Need-chain-count-requires
 chain-count-requires c κs = search needs
 
+cast-n : tie.Need-cast-n
+cast-n c = search needs
+
 returns : tie.Need-returns
 returns c = λ h. let z : ⊥ = omega arith in absurd z
 
@@ -29,13 +32,14 @@ is-bad-spread-requires : tie.Need-is-bad-spread-requires
 is-bad-spread-requires c κs = search needs
 
 returns-2 : tie.Need-returns-2
-returns-2 c = λ h. bad-spread-of _ _ _ _ _ (c .before .before .read-count .ensures .0) (c .before .before .before .before .before .chain-count .ensures .0) (c .is-bad-spread .ensures) (c .before .before .before .spread-words .ensures h)
+returns-2 c = λ h. bad-spread-of _ _ _ _ _ (c .before .before .read-count .ensures .0) (c .before .before .before .before .before .chain-count .ensures) (c .is-bad-spread .ensures) (c .before .before .before .spread-words .ensures h)
 
 pub has-bad-spread-spec : {M : Type 1} → statement M
 has-bad-spread-spec =
     tie.close
     (tie.spec
     chain-count-requires
+    cast-n
     returns
     spread-words-requires
     read-count-requires

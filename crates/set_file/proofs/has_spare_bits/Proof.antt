@@ -10,14 +10,20 @@ chain-count-requires c κs = search needs
 slice-count-requires : tie.Need-slice-count-requires
 slice-count-requires c κs = search needs
 
-mul-at : tie.Need-mul-at
-mul-at c = search needs
+cast-rows : tie.Need-cast-rows
+cast-rows c = search needs
 
-add-at : tie.Need-add-at
-add-at c = search needs
+mul-rows : tie.Need-mul-rows
+mul-rows c = search needs
+
+rows-at-requires : tie.Need-rows-at-requires
+rows-at-requires c κs = search needs
 
 returns : tie.Need-returns
-returns c = spare-none _ _ (c .before .before .chain-count .ensures .0) (c .if1 .taken)
+returns c = spare-none _ _ _ (c .before .before .before .chain-count .ensures) (c .before .rows-at .ensures) (c .if1 .taken)
+
+cast-has-spare-row : tie.Need-cast-has-spare-row
+cast-has-spare-row c = search needs
 
 sub-has-spare-row : tie.Need-sub-has-spare-row
 sub-has-spare-row c = search needs
@@ -28,14 +34,11 @@ part-has-spare-row-start c = search needs
 part-has-spare-row-end : tie.Need-part-has-spare-row-end
 part-has-spare-row-end c = search needs
 
-mul-has-spare-row : tie.Need-mul-has-spare-row
-mul-has-spare-row c = search needs
-
 has-spare-row-requires : tie.Need-has-spare-row-requires
 has-spare-row-requires c κs = search needs
 
 returns-2 : tie.Need-returns-2
-returns-2 c = spare-of _ _ _ _ (c .before .before .before .before .chain-count .ensures .0) (c .before .before .before .slice-count .ensures .0) (c .has-spare-row .ensures)
+returns-2 c = spare-of _ _ _ _ _ (c .before .before .before .before .before .chain-count .ensures) (c .before .before .before .before .slice-count .ensures) (c .before .before .before .rows-at .ensures) (c .has-spare-row .ensures)
 
 pub has-spare-bits-spec : {M : Type 1} → statement M
 has-spare-bits-spec =
@@ -43,12 +46,13 @@ has-spare-bits-spec =
     (tie.spec
     chain-count-requires
     slice-count-requires
-    mul-at
-    add-at
+    cast-rows
+    mul-rows
+    rows-at-requires
     returns
+    cast-has-spare-row
     sub-has-spare-row
     part-has-spare-row-start
     part-has-spare-row-end
-    mul-has-spare-row
     has-spare-row-requires
     returns-2)

@@ -6,9 +6,6 @@ use mathlib.Core.Path.{sym, ap₂, _∙_}
 use borrow.Author.Needs.{needs}
 use Rattle.set_file.proofs.has_spare_list.Statement.{statement}
 use Rattle.set_file.proofs.has_spare_list.Tie as tie
-use Rattle.set_file.proofs.has_spare_list.Reads as reads
-use Rattle.set_file.proofs.has_spare_list.Lts as lts
-use Rattle.set_file.proofs.has_spare_row.Reads as has-spare-row-reads
 
 has-spare-row-requires : tie.Need-has-spare-row-requires
 has-spare-row-requires c κs = search needs

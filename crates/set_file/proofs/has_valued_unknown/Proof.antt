@@ -20,17 +20,17 @@ chain-count-requires c κs = search needs
 slice-count-requires : tie.Need-slice-count-requires Inv-loop μ-loop
 slice-count-requires c κs = search needs
 
+cast-row-bytes : tie.Need-cast-row-bytes Inv-loop μ-loop
+cast-row-bytes c = search needs
+
 row-bytes-requires : tie.Need-row-bytes-requires Inv-loop μ-loop
 row-bytes-requires c κs = search needs
 
-mul-at : tie.Need-mul-at Inv-loop μ-loop
-mul-at c = search needs
-
-add-at : tie.Need-add-at Inv-loop μ-loop
-add-at c = search needs
+rows-at-requires : tie.Need-rows-at-requires Inv-loop μ-loop
+rows-at-requires c κs = search needs
 
 loop-holds : tie.Need-loop-holds Inv-loop μ-loop
-loop-holds c = (search needs, unshared-start _ _ (c .before .before .chain-count .ensures .0) (c .before .before .chain-count .ensures .1))
+loop-holds c = (search needs, unshared-start _ _ _ (c .before .before .before .chain-count .ensures) (search needs) (c .rows-at .ensures))
 
 add-mark : tie.Need-add-mark Inv-loop μ-loop
 add-mark c = omega (arith, c .before .loop .inv .1 .most)
@@ -39,7 +39,7 @@ add-end : tie.Need-add-end Inv-loop μ-loop
 add-end c = omega (arith, c .before .loop .inv .1 .most)
 
 returns : tie.Need-returns Inv-loop μ-loop
-returns c = valued-short _ _ _ _ _ (c .before .before .loop .inv .1) (c .before .before .before .row-bytes .ensures ∙ ap rowBytes (c .before .before .before .before .before .chain-count .ensures .0)) (c .before .before .before .before .slice-count .ensures .0) (c .before .loop-test .taken) (c .if1 .taken)
+returns c = valued-short _ _ _ _ _ (c .before .before .loop .inv .1) (c .before .before .before .before .row-bytes .ensures ∙ ap rowBytes (c .before .before .before .before .before .before .chain-count .ensures)) (c .before .before .before .before .before .slice-count .ensures) (c .before .loop-test .taken) (c .if1 .taken)
 
 sub-share-a-bit : tie.Need-sub-share-a-bit Inv-loop μ-loop
 sub-share-a-bit c = search needs
@@ -63,7 +63,7 @@ share-a-bit-requires : tie.Need-share-a-bit-requires Inv-loop μ-loop
 share-a-bit-requires c κs = search needs
 
 returns-2 : tie.Need-returns-2 Inv-loop μ-loop
-returns-2 c = valued-found _ (λ i. c .before .before .before .before .before .before .before .before .before .before .shared-slice-known .given i .fits) _ _ _ _ _ (c .before .before .before .before .before .before .loop .inv .1) (c .before .before .before .before .before .before .before .row-bytes .ensures ∙ ap rowBytes (c .before .before .before .before .before .before .before .before .before .chain-count .ensures .0)) (c .before .before .before .before .before .before .before .before .slice-count .ensures .0) (c .before .before .before .before .before .loop-test .taken) (c .before .share-a-bit .ensures) (c .if2 .taken)
+returns-2 c = valued-found _ (λ i. c .before .before .before .before .before .before .before .before .before .before .before .shared-slice-known .given i .fits) _ _ _ _ _ (c .before .before .before .before .before .before .loop .inv .1) (c .before .before .before .before .before .before .before .before .row-bytes .ensures ∙ ap rowBytes (c .before .before .before .before .before .before .before .before .before .before .chain-count .ensures)) (c .before .before .before .before .before .before .before .before .before .slice-count .ensures) (c .before .before .before .before .before .loop-test .taken) (c .before .share-a-bit .ensures) (c .if2 .taken)
 
 add-t : tie.Need-add-t Inv-loop μ-loop
 add-t c = search needs
@@ -72,10 +72,10 @@ loop-less : tie.Need-loop-less Inv-loop μ-loop
 loop-less c = search needs
 
 loop-again : tie.Need-loop-again Inv-loop μ-loop
-loop-again c = (search needs, unshared-turn _ _ _ _ (c .before .before .before .before .before .before .loop .inv .1) (c .before .before .before .before .before .before .before .row-bytes .ensures ∙ ap rowBytes (c .before .before .before .before .before .before .before .before .before .chain-count .ensures .0)) _ (c .before .before .before .before .if1 .left) (c .before .share-a-bit .ensures) (c .if2 .left))
+loop-again c = (search needs, unshared-turn _ _ _ _ (c .before .before .before .before .before .before .loop .inv .1) (c .before .before .before .before .before .before .before .before .row-bytes .ensures ∙ ap rowBytes (c .before .before .before .before .before .before .before .before .before .before .chain-count .ensures)) _ (c .before .before .before .before .if1 .left) (c .before .share-a-bit .ensures) (c .if2 .left))
 
 returns-3 : tie.Need-returns-3 Inv-loop μ-loop
-returns-3 c = valued-none _ (λ i. c .before .before .before .before .before .shared-slice-known .given i .fits) _ _ _ (c .before .loop .inv .1) (c .before .before .before .slice-count .ensures .0) (search needs)
+returns-3 c = valued-none _ (λ i. c .before .before .before .before .before .before .shared-slice-known .given i .fits) _ _ _ (c .before .loop .inv .1) (c .before .before .before .before .slice-count .ensures) (search needs)
 
 pub has-valued-unknown-spec : {M : Type 1} → statement M
 has-valued-unknown-spec =
@@ -85,9 +85,9 @@ has-valued-unknown-spec =
     μ-loop
     chain-count-requires
     slice-count-requires
+    cast-row-bytes
     row-bytes-requires
-    mul-at
-    add-at
+    rows-at-requires
     loop-holds
     add-mark
     add-end

@@ -10,25 +10,12 @@ chain-count-requires c κs = search needs
 slice-count-requires : tie.Need-slice-count-requires
 slice-count-requires c κs = search needs
 
-cast-set-length : tie.Need-cast-set-length
-cast-set-length c = search needs
-
-cast-set-length-2 : tie.Need-cast-set-length-2
-cast-set-length-2 c = search needs
-
 set-length-requires : tie.Need-set-length-requires
 set-length-requires c κs = search needs
 
 returns : tie.Need-returns
-returns c = wrong-length-of _ _ _ _ (c .before .before .chain-count .ensures .0) (c .before .slice-count .ensures .0) (c .set-length .ensures)
+returns c = wrong-length-of _ _ _ _ (c .before .before .chain-count .ensures) (c .before .slice-count .ensures) (c .set-length .ensures)
 
 pub has-wrong-length-spec : {M : Type 1} → statement M
 has-wrong-length-spec =
-    tie.close
-    (tie.spec
-    chain-count-requires
-    slice-count-requires
-    cast-set-length
-    cast-set-length-2
-    set-length-requires
-    returns)
+    tie.close (tie.spec chain-count-requires slice-count-requires set-length-requires returns)

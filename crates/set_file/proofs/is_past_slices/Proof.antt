@@ -6,15 +6,15 @@ use mathlib.Core.Path.{ap}
 use borrow.Author.Needs.{needs}
 use Rattle.set_file.proofs.is_past_slices.Statement.{statement}
 use Rattle.set_file.proofs.is_past_slices.Tie as tie
-use Rattle.set_file.proofs.is_past_slices.Reads as reads
-use Rattle.set_file.proofs.is_past_slices.Lts as lts
-use Rattle.set_file.proofs.slice_count.Reads as slice-count-reads
 
 slice-count-requires : tie.Need-slice-count-requires
 slice-count-requires c κs = search needs
 
+cast-result : tie.Need-cast-result
+cast-result c = search needs
+
 returns : tie.Need-returns
-returns c = ap (λ (s : ℕ). not (ltb (c .before .before .args .slice) s)) (c .slice-count .ensures .0)
+returns c = ap (λ (s : ℕ). not (ltb (c .before .before .args .slice) s)) (c .slice-count .ensures)
 
 pub is-past-slices-spec : {M : Type 1} → statement M
-is-past-slices-spec = tie.close (tie.spec slice-count-requires returns)
+is-past-slices-spec = tie.close (tie.spec slice-count-requires cast-result returns)

@@ -4,9 +4,6 @@ use mathlib.Core.Path.{ap}
 use borrow.Author.Needs.{needs}
 use Rattle.set_file.proofs.lacks_room.Statement.{statement}
 use Rattle.set_file.proofs.lacks_room.Tie as tie
-use Rattle.set_file.proofs.lacks_room.Reads as reads
-use Rattle.set_file.proofs.lacks_room.Lts as lts
-use Rattle.set_file.proofs.set_length.Reads as set-length-reads
 
 set-length-requires : tie.Need-set-length-requires
 set-length-requires c κs = search needs

@@ -1,13 +1,9 @@
 -- `mark_place` meets its contract: the mark row stands behind the value row.
 use Rattle.set_file.proofs.PlaceLaws.{mark-declined, mark-at, value-inside}
 use native.Mathlib.Omega.{arith}
-use mathlib.Core.Path.{refl}
 use borrow.Author.Needs.{needs}
 use Rattle.set_file.proofs.mark_place.Statement.{statement}
 use Rattle.set_file.proofs.mark_place.Tie as tie
-use Rattle.set_file.proofs.mark_place.Reads as reads
-use Rattle.set_file.proofs.mark_place.Lts as lts
-use Rattle.set_file.proofs.value_place.Reads as value-place-reads
 
 value-place-requires : tie.Need-value-place-requires
 value-place-requires c κs = search needs

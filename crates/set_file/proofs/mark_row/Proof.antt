@@ -4,9 +4,6 @@ use native.Mathlib.Omega.{arith}
 use borrow.Author.Needs.{needs}
 use Rattle.set_file.proofs.mark_row.Statement.{statement}
 use Rattle.set_file.proofs.mark_row.Tie as tie
-use Rattle.set_file.proofs.mark_row.Reads as reads
-use Rattle.set_file.proofs.mark_row.Lts as lts
-use Rattle.set_file.proofs.mark_place.Reads as mark-place-reads
 
 mark-place-requires : tie.Need-mark-place-requires
 mark-place-requires c κs = search needs

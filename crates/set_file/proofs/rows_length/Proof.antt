@@ -6,9 +6,6 @@ use mathlib.Core.Path.{ap}
 use borrow.Author.Needs.{needs}
 use Rattle.set_file.proofs.rows_length.Statement.{statement}
 use Rattle.set_file.proofs.rows_length.Tie as tie
-use Rattle.set_file.proofs.rows_length.Reads as reads
-use Rattle.set_file.proofs.rows_length.Lts as lts
-use Rattle.register.proofs.row_bytes.Reads as row-bytes-reads
 
 row-bytes-requires : tie.Need-row-bytes-requires
 row-bytes-requires c κs = search needs

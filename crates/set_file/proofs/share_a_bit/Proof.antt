@@ -1,14 +1,7 @@
 -- `share_a_bit` meets its contract: the OR of what the bytes passed share.
 use Rattle.set_file.proofs.RowLaws.{Shared, shared-start, shared-turn, shared-end}
 use borrow.Author.Needs.{needs}
-use Rattle.word.specs.Some.{anyBelow}
-use lib.ListN.{getD}
-use lib.Dec.{eqb}
-use lib.Bits.{bitAnd}
-use native.Mathlib.Omega.{arith}
 use Prim.Native.Nat.{_≤_, _-_}
-use mathlib.Core.Bool.{not}
-use mathlib.Core.Path.{_≡_}
 use Rattle.set_file.proofs.share_a_bit.Statement.{statement}
 use Rattle.set_file.proofs.share_a_bit.Tie as tie
 

@@ -1,7 +1,7 @@
 -- `slice_count` meets its contract.
-use mathlib.Core.Path.{ap, _∙_}
-use Prim.Native.Nat.{ℕ, _+_, _*_}
+use Rattle.set_file.specs.Layout.{slicesAt}
 use Rattle.word.specs.Bytes.{countAt}
+use mathlib.Core.Path.{ap, _∙_}
 use borrow.Author.Needs.{needs}
 use Rattle.set_file.proofs.slice_count.Statement.{statement}
 use Rattle.set_file.proofs.slice_count.Tie as tie
@@ -9,22 +9,19 @@ use Rattle.set_file.proofs.slice_count.Tie as tie
 chain-count-requires : tie.Need-chain-count-requires
 chain-count-requires c κs = search needs
 
-mul-read-count : tie.Need-mul-read-count
-mul-read-count c = search needs
-
-add-read-count : tie.Need-add-read-count
-add-read-count c = search needs
+slices-at-requires : tie.Need-slices-at-requires
+slices-at-requires c κs = search needs
 
 read-count-requires : tie.Need-read-count-requires
 read-count-requires c κs = search needs
 
+cast-result : tie.Need-cast-result
+cast-result c = search needs
+
 returns : tie.Need-returns
-returns c = (
-  c .read-count .ensures .0 ∙ ap (λ (n : ℕ). countAt (c .before .before .before .args .set .now) (12 + 8 * n)) (c .before .chain-count .ensures .0),
-  c .read-count .ensures .1,
-)
+returns c = c .read-count .ensures .0 ∙ ap (countAt (c .before .before .before .before .args .set .now)) (c .before .slices-at .ensures ∙ ap slicesAt (c .before .before .chain-count .ensures))
 
 pub slice-count-spec : {M : Type 1} → statement M
 slice-count-spec =
     tie.close
-    (tie.spec chain-count-requires mul-read-count add-read-count read-count-requires returns)
+    (tie.spec chain-count-requires slices-at-requires read-count-requires cast-result returns)

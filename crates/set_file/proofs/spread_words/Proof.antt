@@ -1,24 +1,28 @@
 -- `spread_words` meets its contract: the words of the chains passed are read.
-use Prim.Native.Nat.{ℕ, _≤_, _-_}
 use borrow.Author.Needs.{needs}
 use Rattle.set_file.proofs.LayoutLaws.{no-words-length, spread-start, spread-turn, spread-end}
 use Rattle.set_file.specs.Code.{noWords}
+use Rattle.set_file.specs.Layout.{spreadAt}
 use Rattle.word.specs.Reply.{front}
-use lib.ListN.{take, length, length-set}
+use lib.ListN.{take, length}
 use native.Mathlib.Omega.{arith}
+use Prim.Native.Nat.{ℕ, _≤_, _-_}
 use mathlib.Core.Path.{_≡_, ap, _∙_}
 use Rattle.set_file.proofs.spread_words.Statement.{statement}
 use Rattle.set_file.proofs.spread_words.Tie as tie
 use Rattle.word.specs.Bytes.{wordsAt}
 
 abbrev Inv-loop : tie.InvT-loop
-Inv-loop set n words₀ c₀ words c = (c ≤ n) × (c ≤ 256) × (length words ≡ 256) × (words ≡ front (take c (wordsAt set 12 n)) noWords)
+Inv-loop set n words₀ c₀ words c = (c ≤ n) × (c ≤ 256) × (length words ≡ 256) × (words ≡ front (take c (wordsAt set spreadAt n)) noWords)
 
 abbrev μ-loop : tie.MeasureT-loop
 μ-loop set n words₀ c₀ words c = n - c
 
 chain-count-requires : tie.Need-chain-count-requires Inv-loop μ-loop
 chain-count-requires c κs = search needs
+
+cast-n : tie.Need-cast-n Inv-loop μ-loop
+cast-n c = search needs
 
 no-words-requires : tie.Need-no-words-requires Inv-loop μ-loop
 no-words-requires c κs = search needs
@@ -27,7 +31,7 @@ loop-holds : tie.Need-loop-holds Inv-loop μ-loop
 loop-holds c = (search needs, search needs, ap length (c .no-words .ensures) ∙ no-words-length, spread-start _ (c .no-words .ensures))
 
 returns : tie.Need-returns Inv-loop μ-loop
-returns c = λ h. let z : ⊥ = omega (arith, c .before .before .before .before .chain-count .ensures .0) in absurd z
+returns c = λ h. let z : ⊥ = omega (arith, c .before .before .before .before .chain-count .ensures) in absurd z
 
 mul-read-word : tie.Need-mul-read-word Inv-loop μ-loop
 mul-read-word c = search needs
@@ -57,7 +61,7 @@ returns-2 : tie.Need-returns-2 Inv-loop μ-loop
 returns-2 c = λ h.
     let e : c .before .loop .c ≡ c .before .before .before .chain-count .result = omega arith in
     spread-end _ _ _ _ (c .before .loop .inv .3) e
-    ∙ ap (λ (n : ℕ). front (wordsAt (c .before .before .before .before .before .args .set .now) 12 n) noWords) (c .before .before .before .chain-count .ensures .0)
+    ∙ ap (λ (n : ℕ). front (wordsAt (c .before .before .before .before .before .args .set .now) spreadAt n) noWords) (c .before .before .before .chain-count .ensures)
 
 pub spread-words-spec : {M : Type 1} → statement M
 spread-words-spec =
@@ -66,6 +70,7 @@ spread-words-spec =
     Inv-loop
     μ-loop
     chain-count-requires
+    cast-n
     no-words-requires
     loop-holds
     returns

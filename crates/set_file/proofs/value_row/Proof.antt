@@ -1,13 +1,9 @@
 -- `value_row` meets its contract: the part of the set that its companion names.
 use Rattle.set_file.proofs.PlaceLaws.{row-lent, row-empty, value-inside}
 use native.Mathlib.Omega.{arith}
-use mathlib.Core.Path.{refl}
 use borrow.Author.Needs.{needs}
 use Rattle.set_file.proofs.value_row.Statement.{statement}
 use Rattle.set_file.proofs.value_row.Tie as tie
-use Rattle.set_file.proofs.value_row.Reads as reads
-use Rattle.set_file.proofs.value_row.Lts as lts
-use Rattle.set_file.proofs.value_place.Reads as value-place-reads
 
 value-place-requires : tie.Need-value-place-requires
 value-place-requires c κs = search needs

@@ -1,16 +1,12 @@
 -- `write_bytes` meets its contract: the bytes from `i` on are left to be written.
 use borrow.Author.Needs.{needs}
-use Rattle.set_file.proofs.WriteLaws.{Writing, BytesLeft, bytes-start, bytes-turn, bytes-end}
+use Rattle.set_file.proofs.WriteLaws.{BytesLeft, bytes-start, bytes-turn, bytes-end}
 use Rattle.word.proofs.ByteLaws.{sets-past-end}
-use lib.ListN.{length}
 use native.Mathlib.Omega.{arith}
 use Prim.Native.Nat.{_≤_, _-_}
-use mathlib.Core.Path.{_≡_, sym}
+use mathlib.Core.Path.{sym}
 use Rattle.set_file.proofs.write_bytes.Statement.{statement}
 use Rattle.set_file.proofs.write_bytes.Tie as tie
-use Rattle.set_file.proofs.write_bytes.Reads as reads
-use Rattle.set_file.proofs.write_bytes.Lts as lts
-use Rattle.set_file.proofs.shorter.Reads as shorter-reads
 
 abbrev Inv-loop : tie.InvT-loop
 Inv-loop out₀ at bytes count i₀ out i = (i ≤ count) × BytesLeft out₀ out bytes at i

@@ -3,11 +3,6 @@ use Rattle.set_file.proofs.FileLaws.{head-written}
 use borrow.Author.Needs.{needs}
 use Rattle.set_file.proofs.write_head.Statement.{statement}
 use Rattle.set_file.proofs.write_head.Tie as tie
-use Rattle.set_file.proofs.write_head.Reads as reads
-use Rattle.set_file.proofs.write_head.Lts as lts
-use Rattle.set_file.proofs.write_words.Reads as write-words-reads
-use Rattle.word.proofs.write_count.Reads as write-count-reads
-use Rattle.word.proofs.write_word.Reads as write-word-reads
 
 write-count-requires : tie.Need-write-count-requires
 write-count-requires c κs = search needs

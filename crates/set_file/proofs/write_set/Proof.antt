@@ -4,12 +4,6 @@ use Rattle.set_file.specs.Writing.{contentOf}
 use borrow.Author.Needs.{needs}
 use Rattle.set_file.proofs.write_set.Statement.{statement}
 use Rattle.set_file.proofs.write_set.Tie as tie
-use Rattle.set_file.proofs.write_set.Reads as reads
-use Rattle.set_file.proofs.write_set.Lts as lts
-use Rattle.set_file.proofs.first_write_refusal.Reads as first-write-refusal-reads
-use Rattle.set_file.proofs.set_length.Reads as set-length-reads
-use Rattle.set_file.proofs.write_head.Reads as write-head-reads
-use Rattle.set_file.proofs.write_slices.Reads as write-slices-reads
 
 first-write-refusal-requires : tie.Need-first-write-refusal-requires
 first-write-refusal-requires c κs = search needs

@@ -1,21 +1,16 @@
 -- `write_slices` meets its contract: the rows of the slices passed are written.
-use mathlib.Core.Path.{_≡_, sym, ap, _∙_}
 use borrow.Author.Needs.{needs}
 use Rattle.set_file.proofs.WriteLaws.{Turned, turned-start, turned-turn, turned-end, turned-small, turned-short, inside-first, inside-second}
 use Rattle.set_file.specs.Code.{inTurn}
 use lib.Seq.{sets}
-use lib.ListN.{length}
 use native.Mathlib.Omega.{arith}
-use Prim.Native.Nat.{ℕ, _+_, _*_, _≤_, _-_}
+use Prim.Native.Nat.{ℕ, _*_, _≤_, _-_}
+use mathlib.Core.Path.{sym, ap, ap₂, _∙_}
 use Rattle.set_file.proofs.write_slices.Statement.{statement}
 use Rattle.set_file.proofs.write_slices.Tie as tie
-use Rattle.set_file.proofs.write_slices.Reads as reads
-use Rattle.set_file.proofs.write_slices.Lts as lts
-use Rattle.register.proofs.row_bytes.Reads as row-bytes-reads
-use Rattle.set_file.proofs.write_bytes.Reads as write-bytes-reads
 
 abbrev Inv-loop : tie.InvT-loop
-Inv-loop out₀ n s values marks bytes to₀ from₀ t₀ out to from t = (t ≤ s) × Turned bytes values marks out₀ out (14 + 8 * n) t from to
+Inv-loop out₀ n s values marks bytes to₀ from₀ t₀ out to from t = (t ≤ s) × Turned bytes values marks out₀ out to₀ t from to
 
 abbrev μ-loop : tie.MeasureT-loop
 μ-loop out₀ n s values marks bytes to₀ from₀ t₀ out to from t = s - t
@@ -23,17 +18,14 @@ abbrev μ-loop : tie.MeasureT-loop
 row-bytes-requires : tie.Need-row-bytes-requires Inv-loop μ-loop
 row-bytes-requires c κs = search needs
 
-mul-to : tie.Need-mul-to Inv-loop μ-loop
-mul-to c = search needs
-
-add-to : tie.Need-add-to Inv-loop μ-loop
-add-to c = search needs
+rows-at-requires : tie.Need-rows-at-requires Inv-loop μ-loop
+rows-at-requires c κs = search needs
 
 loop-holds : tie.Need-loop-holds Inv-loop μ-loop
 loop-holds c = (search needs, turned-start _ _ _ _ _)
 
 add-end : tie.Need-add-end Inv-loop μ-loop
-add-end c = omega (arith, c .before .before .row-bytes .ensures, c .before .loop .inv .1 .place, turned-small _ _ _ _ _ _ _ _ _ (c .before .loop .inv .1) (search needs) (search needs))
+add-end c = omega (arith, c .before .before .before .row-bytes .ensures, c .before .loop .inv .1 .place, turned-small _ _ _ _ _ _ _ _ _ (c .before .loop .inv .1) (search needs) (search needs))
 
 same-length : tie.Need-same-length Inv-loop μ-loop
 same-length c = c .before .before .loop .inv .1 .long
@@ -41,7 +33,7 @@ same-length c = c .before .before .loop .inv .1 .long
 returns : tie.Need-returns Inv-loop μ-loop
 returns c = λ hv hk.
     absurd
-    (turned-short _ _ _ _ _ _ _ _ _ _ (c .before .before .loop .inv .1) (c .before .loop-test .taken) (hv ∙ ap (λ (b : ℕ). b * c .before .before .before .before .before .before .before .args .s) (sym (c .before .before .before .row-bytes .ensures))) (hk ∙ ap (λ (b : ℕ). b * c .before .before .before .before .before .before .before .args .s) (sym (c .before .before .before .row-bytes .ensures)))
+    (turned-short _ _ _ _ _ _ _ _ _ _ (c .before .before .loop .inv .1) (c .before .loop-test .taken) (hv ∙ ap (λ (b : ℕ). b * c .before .before .before .before .before .before .before .before .args .s) (sym (c .before .before .before .before .row-bytes .ensures))) (hk ∙ ap (λ (b : ℕ). b * c .before .before .before .before .before .before .before .before .args .s) (sym (c .before .before .before .before .row-bytes .ensures)))
     (c .if1 .taken))
 
 sub-write-bytes : tie.Need-sub-write-bytes Inv-loop μ-loop
@@ -57,7 +49,7 @@ write-bytes-requires : tie.Need-write-bytes-requires Inv-loop μ-loop
 write-bytes-requires c κs = search needs
 
 add-write-bytes : tie.Need-add-write-bytes Inv-loop μ-loop
-add-write-bytes c = omega (arith, c .before .before .before .before .before .before .before .before .before .row-bytes .ensures, c .before .before .before .before .before .before .before .before .loop .inv .1 .place, turned-small _ _ _ _ _ _ _ _ _ (c .before .before .before .before .before .before .before .before .loop .inv .1) (search needs) (search needs))
+add-write-bytes c = omega (arith, c .before .before .before .before .before .before .before .before .before .before .row-bytes .ensures, c .before .before .before .before .before .before .before .before .loop .inv .1 .place, turned-small _ _ _ _ _ _ _ _ _ (c .before .before .before .before .before .before .before .before .loop .inv .1) (search needs) (search needs))
 
 sub-write-bytes-2 : tie.Need-sub-write-bytes-2 Inv-loop μ-loop
 sub-write-bytes-2 c = search needs
@@ -71,11 +63,11 @@ part-write-bytes-end-2 c = inside-second _ _ _ (c .before .before .before .befor
 write-bytes-requires-2 : tie.Need-write-bytes-requires-2 Inv-loop μ-loop
 write-bytes-requires-2 c κs = search needs
 
-mul-to-2 : tie.Need-mul-to-2 Inv-loop μ-loop
-mul-to-2 c = omega (arith, c .before .before .before .before .before .before .before .before .before .before .before .before .before .row-bytes .ensures, c .before .before .before .before .before .before .before .before .before .before .before .before .loop .inv .1 .place, turned-small _ _ _ _ _ _ _ _ _ (c .before .before .before .before .before .before .before .before .before .before .before .before .loop .inv .1) (search needs) (search needs))
+mul-to : tie.Need-mul-to Inv-loop μ-loop
+mul-to c = omega (arith, c .before .before .before .before .before .before .before .before .before .before .before .before .before .before .row-bytes .ensures, c .before .before .before .before .before .before .before .before .before .before .before .before .loop .inv .1 .place, turned-small _ _ _ _ _ _ _ _ _ (c .before .before .before .before .before .before .before .before .before .before .before .before .loop .inv .1) (search needs) (search needs))
 
-add-to-2 : tie.Need-add-to-2 Inv-loop μ-loop
-add-to-2 c = omega (arith, c .before .before .before .before .before .before .before .before .before .before .before .before .before .row-bytes .ensures, c .before .before .before .before .before .before .before .before .before .before .before .before .loop .inv .1 .place, turned-small _ _ _ _ _ _ _ _ _ (c .before .before .before .before .before .before .before .before .before .before .before .before .loop .inv .1) (search needs) (search needs))
+add-to : tie.Need-add-to Inv-loop μ-loop
+add-to c = omega (arith, c .before .before .before .before .before .before .before .before .before .before .before .before .before .before .row-bytes .ensures, c .before .before .before .before .before .before .before .before .before .before .before .before .loop .inv .1 .place, turned-small _ _ _ _ _ _ _ _ _ (c .before .before .before .before .before .before .before .before .before .before .before .before .loop .inv .1) (search needs) (search needs))
 
 add-t : tie.Need-add-t Inv-loop μ-loop
 add-t c = search needs
@@ -92,7 +84,7 @@ same-length-2 c = c .before .loop .inv .1 .long
 returns-2 : tie.Need-returns-2 Inv-loop μ-loop
 returns-2 c = λ hv hk.
     turned-end _ _ _ _ _ _ _ _ _ _ (c .before .loop .inv .1) (search needs)
-    ∙ ap (λ (b : ℕ). sets (c .before .before .before .before .before .before .args .out .now) (14 + 8 * c .before .before .before .before .before .before .args .n) (inTurn b (c .before .before .before .before .before .before .args .values .now) (c .before .before .before .before .before .before .args .marks .now) (c .before .before .before .before .before .before .args .s))) (c .before .before .row-bytes .ensures)
+    ∙ ap₂ (λ (at b : ℕ). sets (c .before .before .before .before .before .before .before .args .out .now) at (inTurn b (c .before .before .before .before .before .before .before .args .values .now) (c .before .before .before .before .before .before .before .args .marks .now) (c .before .before .before .before .before .before .before .args .s))) (c .before .before .rows-at .ensures) (c .before .before .before .row-bytes .ensures)
 
 pub write-slices-spec : {M : Type 1} → statement M
 write-slices-spec =
@@ -101,8 +93,7 @@ write-slices-spec =
     Inv-loop
     μ-loop
     row-bytes-requires
-    mul-to
-    add-to
+    rows-at-requires
     loop-holds
     add-end
     same-length
@@ -116,8 +107,8 @@ write-slices-spec =
     part-write-bytes-start-2
     part-write-bytes-end-2
     write-bytes-requires-2
-    mul-to-2
-    add-to-2
+    mul-to
+    add-to
     add-t
     loop-less
     loop-again

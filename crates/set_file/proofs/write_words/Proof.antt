@@ -1,15 +1,10 @@
 -- `write_words` meets its contract: the words from `c` on are left to be written.
 use borrow.Author.Needs.{needs}
-use Rattle.set_file.proofs.WriteLaws.{Writing, writing-start, writing-past, WordsLeft, words-turn, words-end}
+use Rattle.set_file.proofs.WriteLaws.{writing-start, writing-past, WordsLeft, words-turn, words-end}
 use lib.ListN.{length}
-use native.Mathlib.Omega.{arith}
 use Prim.Native.Nat.{_≤_, _-_}
-use mathlib.Core.Path.{_≡_}
 use Rattle.set_file.proofs.write_words.Statement.{statement}
 use Rattle.set_file.proofs.write_words.Tie as tie
-use Rattle.set_file.proofs.write_words.Reads as reads
-use Rattle.set_file.proofs.write_words.Lts as lts
-use Rattle.word.proofs.write_word.Reads as write-word-reads
 
 abbrev Inv-loop : tie.InvT-loop
 Inv-loop out₀ at words i₀ c₀ out i c = (c ≤ length words) × WordsLeft out₀ out words at i c
