@@ -1,0 +1,185 @@
+-- Each way out of planning, and what it answers and leaves in the two lent lists. Assumes nothing.
+use mathlib.Core.Path.{_≡_, refl, sym, ap, ap₂, _∙_, subst}
+use mathlib.Core.Bool.{Bool, true, false}
+use mathlib.Core.List.{List, [], _∷_, _++_}
+use Prim.Native.Nat.{ℕ, zero, suc, _≤_, _<_}
+use native.Mathlib.Omega.{arith}
+use lib.Dec.{ltb}
+use lib.ListN.{length, take, drop, length-append}
+use lib.Seq.{take-append-seam, take-all}
+use Rattle.word.specs.Word.{beyond, badWidth}
+use Rattle.word.specs.Some.{anyOf}
+use Rattle.word.specs.Parities.{parities}
+use Rattle.word.specs.Reply.{Test, _when_, Reply, answer, refusal, replied, firstOf, numberOf, front, lent}
+use Rattle.word.proofs.TestLaws.{numbered, first-of-later, first-of-sooner, replied-answer, replied-number, replied-alike}
+use Rattle.elimination.specs.Combination.{rank}
+use Rattle.elimination.specs.Reduced.{reducedList}
+use Rattle.elimination.specs.Elimination.{Counts, onlyEmpty, eliminationTests, eliminationReply, said as eliminated}
+use Rattle.elimination.specs.declared.Eliminated.{Eliminated}
+use Rattle.elimination.proofs.Theorems.{words-and-rank}
+use Rattle.set_file.specs.Layout.{widthOf}
+use Rattle.set_file.specs.Reading.{setTests}
+use Rattle.set_file.proofs.Laws.{Accepted, accepted-width}
+use Rattle.response.specs.Columns.{columnsOf, unknownsOf, zeroSignature}
+use Rattle.response.specs.Listing.{listTests, listReply}
+use Rattle.response.proofs.SetLaws.{length-columns, columns-of-within}
+use Rattle.planner.specs.Planning.{wordsOf, expectedOf, planTests, PlanParts, partsOf, planReply, columnsAfter, said}
+use Rattle.planner.specs.declared.Planned.{Planned}
+use Rattle.planner.specs.declared.Planned.the-variants.{Plan, Refused}
+
+-- what planning answers, p, and leaves in the column list cs, cs′, and in the word list ws, ws′
+abbrev pub Ends : List ℕ → List ℕ → List ℕ → Planned → List ℕ → List ℕ → Type 0
+Ends set cs ws p cs′ ws′ =
+    (said p ≡ planReply set (length cs) (length ws))
+    × ((cs′ ≡ columnsAfter set cs) × (ws′ ≡ lent (planReply set (length cs) (length ws)) (wordsOf set) ws))
+
+-- what listing the columns answers, and leaves in the column list
+abbrev pub Listed : List ℕ → List ℕ → Reply ℕ → List ℕ → Type 0
+Listed set cs r cs′ = (r ≡ listReply set (length cs)) × (cs′ ≡ lent (listReply set (length cs)) (columnsOf set) cs)
+
+replied-not-zero : {A : Type 0} (n : ℕ) (a : A) (k : ℕ) → replied n a ≡ refusal k → k ≡ 0 → ⊥
+replied-not-zero zero a k h z = let c : _≡_ {A = ℕ} 0 1 = cc in omega arith
+replied-not-zero (suc n) a k h z = let same : suc n ≡ k = cc in omega arith
+
+refusing : {A : Type 0} (n k : ℕ) (a : A) → n ≡ k → (k ≡ 0 → ⊥) → replied n a ≡ refusal k
+refusing n zero a e z = absurd (z refl)
+refusing n (suc k) a e z = ap (λ (x : ℕ). replied x a) e
+
+ends-refused : (set cs ws cs′ : List ℕ) (k : ℕ) → planReply set (length cs) (length ws) ≡ refusal k → cs′ ≡ columnsAfter set cs → Ends set cs ws (Refused k) cs′ ws
+ends-refused set cs ws cs′ k h e = (sym h, (e, sym (ap (λ (x : Reply PlanParts). lent x (wordsOf set) ws) h)))
+
+counted : List ℕ → Counts
+counted set = record { rank = rank (columnsOf set); q = length (reducedList (widthOf set) (columnsOf set)) }
+
+parts : {m w q k y e : ℕ} → m ≡ w → q ≡ k → y ≡ e → _≡_ {A = Reply PlanParts} (answer (record { m = m; q = q; expected = y })) (answer (record { m = w; q = k; expected = e }))
+parts {w = w} {q = q} {k = k} {y = y} a b c =
+    ap (λ (x : ℕ). answer (record { m = x; q = q; expected = y })) a
+    ∙ ap (λ (x : ℕ). answer (record { m = w; q = x; expected = y })) b
+    ∙ ap (λ (x : ℕ). answer (record { m = w; q = k; expected = x })) c
+
+-- what a refusal of the elimination says
+pub answered : (e : Eliminated) (r q : ℕ) → e ≡ Eliminated.Done r q → answer (record { rank = r; q = q }) ≡ eliminated e
+answered e r q h = sym (ap eliminated h)
+
+pub expected-from : (l : List ℕ) (y z z′ : ℕ) → y ≡ parities l z → z ≡ z′ → y ≡ parities l z′
+expected-from l y z z′ h e = h ∙ ap (parities l) e
+
+pub told : (e : Eliminated) (n k : ℕ) → e ≡ Eliminated.Refused n → k ≡ numberOf (eliminated e) → refusal k ≡ eliminated e
+told e n k r h = ap refusal (h ∙ ap (λ (x : Eliminated). numberOf (eliminated x)) r) ∙ sym (ap eliminated r)
+
+-- ---- the set is refused, or 14
+
+pub ends-unlisted : (set cs ws : List ℕ) (k : ℕ) → Listed set cs (refusal k) cs → Ends set cs ws (Refused k) cs ws
+unfolding planReply planTests columnsAfter listReply
+ends-unlisted set cs ws k l =
+    let number : firstOf (listTests set (length cs)) ≡ k = replied-number (firstOf (listTests set (length cs))) (unknownsOf set) k (sym (l .0)) in
+    let some : k ≡ 0 → ⊥ = replied-not-zero (firstOf (listTests set (length cs))) (unknownsOf set) k (sym (l .0)) in
+    ends-refused set cs ws cs k
+    (refusing _ k (partsOf set) (first-of-sooner (listTests set (length cs)) _ (λ z. some (sym number ∙ z)) ∙ number) some)
+    (l .1)
+
+-- ---- past 14
+
+list-numbered : (set : List ℕ) (k : ℕ) → numbered (listTests set k) ≡ true
+unfolding listTests setTests
+list-numbered set k = refl
+
+abbrev later : List ℕ → ℕ → List Test
+later set l =
+    16 when ltb (widthOf set) (rank (columnsOf set))
+    ∷ 17 when onlyEmpty (widthOf set) (columnsOf set)
+    ∷ 18 when ltb l (length (wordsOf set))
+    ∷ []
+
+module _ (set cs cs′ ws : List ℕ) (a : Accepted set) (u : ℕ) (l : Listed set cs (answer u) cs′) where
+  plan-later : firstOf (planTests set (length cs) (length ws)) ≡ firstOf (later set (length ws))
+  unfolding planTests listReply
+  plan-later =
+      first-of-later (listTests set (length cs)) _ (list-numbered set (length cs))
+      (replied-answer (firstOf (listTests set (length cs))) (unknownsOf set) u (sym (l .0)) .0)
+
+  elimination-later : firstOf (eliminationTests (widthOf set) (columnsOf set) (length ws)) ≡ firstOf (later set (length ws))
+  unfolding eliminationTests wordsOf
+  elimination-later = rw (a .width, columns-of-within set a)
+
+  same-first : firstOf (eliminationTests (widthOf set) (columnsOf set) (length ws)) ≡ firstOf (planTests set (length cs) (length ws))
+  same-first = elimination-later ∙ sym plan-later
+
+  unknown-count : u ≡ unknownsOf set
+  unfolding listReply
+  unknown-count = replied-answer (firstOf (listTests set (length cs))) (unknownsOf set) u (sym (l .0)) .1
+
+  written : cs′ ≡ front (columnsOf set) cs
+  written = l .1 ∙ sym (ap (λ (x : Reply ℕ). lent x (columnsOf set) cs) (l .0))
+
+  -- the columns stand at the front
+  pub listed-columns : take u cs′ ≡ columnsOf set
+  unfolding front
+  listed-columns =
+      ap₂ take (unknown-count ∙ sym (length-columns set)) written ∙ take-append-seam (columnsOf set) (drop (length (columnsOf set)) cs)
+
+  columns-kept : cs′ ≡ columnsAfter set cs
+  unfolding columnsAfter
+  columns-kept = l .1
+
+  module _ (m : ℕ) (em : m ≡ widthOf set) where
+    reply-of : eliminationReply m (take u cs′) (length ws) ≡ eliminationReply (widthOf set) (columnsOf set) (length ws)
+    reply-of = ap₂ (λ (x : ℕ) (y : List ℕ). eliminationReply x y (length ws)) em listed-columns
+
+    words-of : reducedList m (take u cs′) ≡ wordsOf set
+    unfolding wordsOf
+    words-of = ap₂ reducedList em listed-columns
+
+    pub ends-unplanned : (k : ℕ) (ws′ : List ℕ) → refusal k ≡ eliminationReply m (take u cs′) (length ws)
+        → ws′ ≡ lent (eliminationReply m (take u cs′) (length ws)) (reducedList m (take u cs′)) ws → Ends set cs ws (Refused k) cs′ ws′
+    unfolding planReply eliminationReply counted
+    ends-unplanned k ws′ h w =
+        let there : replied (firstOf (eliminationTests (widthOf set) (columnsOf set) (length ws))) (counted set) ≡ refusal k = sym (h ∙ reply-of) in
+        let refused : planReply set (length cs) (length ws) ≡ refusal k =
+        replied-alike (firstOf (planTests set (length cs) (length ws))) (counted set) (partsOf set) k (ap (λ (x : ℕ). replied x (counted set)) (sym same-first) ∙ there)
+        in
+        let untouched : ws′ ≡ ws = w ∙ sym (ap (λ (x : Reply Counts). lent x (reducedList m (take u cs′)) ws) h) in
+        subst (Ends set cs ws (Refused k) cs′) (sym untouched) (ends-refused set cs ws cs′ k refused columns-kept)
+
+    -- the elimination answered with r and q, and left ws′
+    module _ (r q : ℕ) (ws′ : List ℕ) (h : answer (record { rank = r; q = q }) ≡ eliminationReply m (take u cs′) (length ws))
+        (w : ws′ ≡ lent (eliminationReply m (take u cs′) (length ws)) (reducedList m (take u cs′)) ws) where
+      planned-both : (firstOf (eliminationTests (widthOf set) (columnsOf set) (length ws)) ≡ 0) × (record { rank = r; q = q } ≡ counted set)
+      unfolding eliminationReply counted
+      planned-both =
+          replied-answer (firstOf (eliminationTests (widthOf set) (columnsOf set) (length ws))) (counted set) (record { rank = r; q = q }) (sym (h ∙ reply-of))
+
+      planned-count : q ≡ length (wordsOf set)
+      unfolding wordsOf counted
+      planned-count = ap (λ (x : Counts). x .q) (planned-both .1)
+
+      planned-words : ws′ ≡ front (wordsOf set) ws
+      planned-words =
+          w ∙ sym (ap (λ (x : Reply Counts). lent x (reducedList m (take u cs′)) ws) h) ∙ ap (λ (x : List ℕ). front x ws) words-of
+
+      -- the words stand in the list
+      pub planned-room : q ≤ length ws′
+      unfolding front
+      planned-room =
+          omega (arith, planned-count, ap length planned-words, length-append (wordsOf set) (drop (length (wordsOf set)) ws))
+
+      planned-few : length (wordsOf set) ≤ 64
+      unfolding wordsOf
+      planned-few = omega (arith, words-and-rank (widthOf set) (columnsOf set) (columns-of-within set a), accepted-width set a .1)
+
+      planned-taken : take 64 (take q ws′) ≡ wordsOf set
+      unfolding front
+      planned-taken =
+          ap (take 64) (ap₂ take planned-count planned-words ∙ take-append-seam (wordsOf set) (drop (length (wordsOf set)) ws))
+          ∙ take-all 64 (wordsOf set) planned-few
+
+      planned-reply : planReply set (length cs) (length ws) ≡ answer (partsOf set)
+      unfolding planReply
+      planned-reply = ap (λ (x : ℕ). replied x (partsOf set)) (sym same-first ∙ planned-both .0)
+
+      pub ends-planned : (y : ℕ) → y ≡ parities (take 64 (take q ws′)) (zeroSignature set) → Ends set cs ws (Plan m q y) cs′ ws′
+      unfolding expectedOf
+      ends-planned y e = (
+        parts em planned-count (e ∙ ap (λ (x : List ℕ). parities x (zeroSignature set)) planned-taken) ∙ sym planned-reply,
+        (columns-kept, planned-words ∙ sym (ap (λ (x : Reply PlanParts). lent x (wordsOf set) ws) planned-reply)),
+      )

@@ -1,0 +1,58 @@
+-- Planning. Document 01: "Planning is lent a column list and a word list and answers with m, q and the expected bits as one
+-- word, bit i for word i"; "planning that gets past 14 has filled the front of its column list with the columns, whether or not
+-- 16, 17 or 18 follows"; "The expected bit of a word is the parity of the bits it shares with the signature for all unknowns 0."
+--
+--   wordsOf set             document 01: the plan's words, the reduced list for the set's columns
+--   expectedOf set          the expected bits as one word
+--   planTests set k l       the numbers that planning meets, in order, for k column places and l word places
+--   PlanParts               what planning answers
+--   planReply set k l       its reply
+--   columnsAfter set cs     the lent column list at exit
+--   said p                  the paper's reading of what planning hands back
+use mathlib.Core.List.{List, [], _∷_, _++_}
+use Prim.Native.Nat.{ℕ}
+use lib.Dec.{ltb}
+use lib.ListN.{length}
+use Rattle.word.specs.Parities.{parities}
+use Rattle.word.specs.Reply.{Test, _when_, Reply, answer, refusal, reply, lent}
+use Rattle.elimination.specs.Combination.{rank}
+use Rattle.elimination.specs.Reduced.{reducedList}
+use Rattle.elimination.specs.Elimination.{onlyEmpty}
+use Rattle.set_file.specs.Layout.{widthOf}
+use Rattle.response.specs.Columns.{columnsOf, zeroSignature}
+use Rattle.response.specs.Listing.{listTests, listReply}
+use Rattle.planner.specs.declared.Planned.{Planned}
+use Rattle.planner.specs.declared.Planned.the-variants.{Plan, Refused}
+
+unfoldable pub wordsOf : List ℕ → List ℕ
+wordsOf set = reducedList (widthOf set) (columnsOf set)
+
+unfoldable pub expectedOf : List ℕ → ℕ
+expectedOf set = parities (wordsOf set) (zeroSignature set)
+
+-- the set's 1 to 10, then 14, 16, 17 and 18
+unfoldable pub planTests : List ℕ → ℕ → ℕ → List Test
+planTests set k l =
+    listTests set k
+    ++ 16 when ltb (widthOf set) (rank (columnsOf set))
+    ∷ 17 when onlyEmpty (widthOf set) (columnsOf set)
+    ∷ 18 when ltb l (length (wordsOf set))
+    ∷ []
+
+pub record PlanParts : Type 0 where
+  pub m : ℕ
+  pub q : ℕ
+  pub expected : ℕ
+
+abbrev pub partsOf : List ℕ → PlanParts
+partsOf set = record { m = widthOf set; q = length (wordsOf set); expected = expectedOf set }
+
+unfoldable pub planReply : List ℕ → ℕ → ℕ → Reply PlanParts
+planReply set k l = reply (planTests set k l) (partsOf set)
+
+unfoldable pub columnsAfter : List ℕ → List ℕ → List ℕ
+columnsAfter set cs = lent (listReply set (length cs)) (columnsOf set) cs
+
+abbrev pub said : Planned → Reply PlanParts
+said (Plan w k e) = answer (record { m = w; q = k; expected = e })
+said (Refused n) = refusal n

@@ -1,0 +1,49 @@
+// Planning: the words and the expected bits of a set.
+ghost use mathlib.Core.Path.{_≡_};
+ghost use lib.ListN.{length};
+ghost use Rattle.word.specs.Reply.{lent};
+ghost use Rattle.planner.specs.Planning.{wordsOf, planReply, columnsAfter, said};
+use elimination::Eliminated;
+use set_file::SetAnswer;
+
+// What planning answers: m, q and the expected bits as one word, or the first number that applies.
+pub enum Planned {
+    Plan { m: u64, q: u64, expected: u64 },
+    Refused { number: u64 },
+}
+
+// Planning of document 01. Answers with m, q and the expected bits, and writes the q words over the front of `words`. Meets the
+// set's 1 to 10, then 14, 16, 17 and 18. A refusal writes nothing, but that past 14 the front of `columns` holds the columns.
+pub fn plan(set: &[u8], columns: &mut [u64], words: &mut [u64]) -> Planned
+    ensures answer { λ r. ⌜ said r ≡ planReply (now (set .entry)) (length (now (columns .entry))) (length (now (words .entry))) ⌝ }
+    ensures columns { λ _. ⌜ now (columns .exit) ≡ columnsAfter (now (set .entry)) (now (columns .entry)) ⌝ }
+    ensures words { λ _. ⌜ now (words .exit) ≡ lent (planReply (now (set .entry)) (length (now (columns .entry))) (length (now (words .entry)))) (wordsOf (now (set .entry))) (now (words .entry)) ⌝ }
+{
+    let read = set_file::read_set(set);
+    let answer = read.answer;
+    let SetAnswer::Read { m, taps, n, s } = answer else {
+        return Planned::Refused {
+            number: set_file::number_of(answer),
+        };
+    };
+    let unknowns = response::count_unknowns(set, n, s);
+    if (columns.len() as u64) < unknowns {
+        return Planned::Refused { number: 14 };
+    }
+    let spread = read.spread;
+    let end = unknowns as usize;
+    response::fill_columns(set, m, taps, spread, n, s, &mut columns[..end]);
+    let eliminated = elimination::eliminate(m, &columns[..end], words);
+    let Eliminated::Done { rank: _, q } = eliminated else {
+        return Planned::Refused {
+            number: elimination::number_of(eliminated),
+        };
+    };
+    let zero = response::zero_signature(set, m, taps, spread, n, s);
+    let count = q as usize;
+    Planned::Plan {
+        m,
+        q,
+        expected: word::word_parities(&words[..count], zero),
+    }
+}
