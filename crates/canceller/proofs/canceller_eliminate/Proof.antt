@@ -1,0 +1,21 @@
+use mathlib.Core.Path.{ap, _∙_}
+use Rattle.canceller.specs.Boundary.{eliminatedOf}
+use borrow.Author.Needs.{needs}
+use Rattle.canceller.proofs.canceller_eliminate.Statement.{statement}
+use Rattle.canceller.proofs.canceller_eliminate.Tie as tie
+
+eliminate-requires : tie.Need-eliminate-requires
+eliminate-requires c κs = search needs
+
+eliminated-of-requires : tie.Need-eliminated-of-requires
+eliminated-of-requires c κs = search needs
+
+same-length : tie.Need-same-length
+same-length c = search needs
+
+returns : tie.Need-returns
+returns c = (c .eliminated-of .ensures ∙ ap eliminatedOf (c .before .before .before .eliminate .ensures .0), c .before .before .before .eliminate .ensures .1)
+
+pub canceller-eliminate-spec : {M : Type 1} → statement M
+canceller-eliminate-spec =
+    tie.close (tie.spec eliminate-requires eliminated-of-requires same-length returns)

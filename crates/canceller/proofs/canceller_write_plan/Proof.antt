@@ -1,0 +1,21 @@
+use mathlib.Core.Path.{ap, _∙_}
+use Rattle.canceller.specs.Boundary.{writtenOf}
+use borrow.Author.Needs.{needs}
+use Rattle.canceller.proofs.canceller_write_plan.Statement.{statement}
+use Rattle.canceller.proofs.canceller_write_plan.Tie as tie
+
+write-plan-requires : tie.Need-write-plan-requires
+write-plan-requires c κs = search needs
+
+plan-written-of-requires : tie.Need-plan-written-of-requires
+plan-written-of-requires c κs = search needs
+
+same-length : tie.Need-same-length
+same-length c = search needs
+
+returns : tie.Need-returns
+returns c = (c .plan-written-of .ensures ∙ ap writtenOf (c .before .before .before .write-plan .ensures .0), c .before .before .before .write-plan .ensures .1)
+
+pub canceller-write-plan-spec : {M : Type 1} → statement M
+canceller-write-plan-spec =
+    tie.close (tie.spec write-plan-requires plan-written-of-requires same-length returns)

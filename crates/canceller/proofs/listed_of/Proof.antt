@@ -1,0 +1,21 @@
+use mathlib.Core.Path.{sym, ap}
+use Rattle.response.specs.Listing.{saidListed}
+use Rattle.canceller.specs.Boundary.{listedOf}
+use borrow.Author.Needs.{needs}
+use Rattle.canceller.proofs.listed_of.Statement.{statement}
+use Rattle.canceller.proofs.listed_of.Tie as tie
+
+enum-known-listed : tie.Need-enum-known-listed
+enum-known-listed c = search needs
+
+enum-known-listed-2 : tie.Need-enum-known-listed-2
+enum-known-listed-2 c = search needs
+
+returns : tie.Need-returns
+returns c = sym (ap (λ x. listedOf (saidListed x)) (c .before .listed .given .1))
+
+returns-2 : tie.Need-returns-2
+returns-2 c = sym (ap (λ x. listedOf (saidListed x)) (c .before .listed2 .given .1))
+
+pub listed-of-spec : {M : Type 1} → statement M
+listed-of-spec = tie.close (tie.spec enum-known-listed enum-known-listed-2 returns returns-2)
