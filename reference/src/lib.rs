@@ -2,10 +2,17 @@
 //! library: cells, states and columns are vectors of bools, a column is found by clocking the response in which only its cell is
 //! 1, and words by elimination over rows. It is slow on purpose.
 
+//!
+//! `library` is the proved library through its C boundary, `both` makes each call by both and compares, `random` makes the inputs.
+
 pub mod elimination;
 pub mod plan;
 pub mod planning;
 pub mod set;
+
+pub mod both;
+pub mod library;
+pub mod random;
 
 /// A bit vector, bit 0 first.
 pub type Bits = Vec<bool>;

@@ -20,7 +20,8 @@ pub struct Set {
 
 impl Circuit {
     /// One clock: shift up, drop bit m, XOR the taps in if the old bit m - 1 was set, XOR in each driving chain's word.
-    pub fn clock(&self, state: &[bool], cells: &[bool]) -> Bits {
+    /// `driving` lists the chains whose cell is 1.
+    pub fn clock(&self, state: &[bool], driving: &[usize]) -> Bits {
         let mut next = vec![false; self.m];
         for i in 1..self.m {
             next[i] = state[i - 1];
@@ -28,16 +29,15 @@ impl Circuit {
         if state[self.m - 1] {
             xor_into(&mut next, &self.taps);
         }
-        for (chain, &cell) in cells.iter().enumerate() {
-            if cell {
-                xor_into(&mut next, &self.spread[chain]);
-            }
+        for &chain in driving {
+            xor_into(&mut next, &self.spread[chain]);
         }
         next
     }
 
-    pub fn signature(&self, slices: &[Bits]) -> Bits {
-        slices.iter().fold(vec![false; self.m], |state, cells| self.clock(&state, cells))
+    /// The state after the last slice, from zero. Each slice lists the chains whose cell is 1.
+    pub fn signature(&self, slices: &[Vec<usize>]) -> Bits {
+        slices.iter().fold(vec![false; self.m], |state, driving| self.clock(&state, driving))
     }
 }
 
@@ -65,8 +65,8 @@ impl Set {
 
     /// The signature of the response in which one cell is 1 and all others 0.
     pub fn column(&self, slice: usize, chain: usize) -> Bits {
-        let mut response = vec![vec![false; self.n()]; self.s()];
-        response[slice][chain] = true;
+        let mut response = vec![vec![]; self.s()];
+        response[slice].push(chain);
         self.circuit.signature(&response)
     }
 
@@ -76,8 +76,8 @@ impl Set {
 
     /// The signature for all unknowns 0.
     pub fn zero_signature(&self) -> u64 {
-        let filled: Vec<Bits> = (0..self.s())
-            .map(|t| (0..self.n()).map(|c| self.values[t][c] && !self.marks[t][c]).collect())
+        let filled: Vec<Vec<usize>> = (0..self.s())
+            .map(|t| (0..self.n()).filter(|&c| self.values[t][c] && !self.marks[t][c]).collect())
             .collect();
         word_of(&self.circuit.signature(&filled))
     }
@@ -89,6 +89,11 @@ fn bad_taps(taps: u64, m: usize) -> bool {
 
 fn bad_spread_word(w: u64, m: usize) -> bool {
     w == 0 || beyond(w, m)
+}
+
+/// The chains whose cell is 1.
+pub fn driving(cells: &[bool]) -> Vec<usize> {
+    (0..cells.len()).filter(|&c| cells[c]).collect()
 }
 
 fn cells(row: &[u8], n: usize) -> Bits {
@@ -232,7 +237,7 @@ pub fn clock(m: u64, taps: u64, state: u64, spread: &[u64], row: &[u8]) -> Reply
         return Err(23);
     }
     let circuit = Circuit { m: width, taps: bits_of(taps, width), spread: spread.iter().map(|&w| bits_of(w, width)).collect() };
-    Ok(word_of(&circuit.clock(&bits_of(state, width), &cells(row, n))))
+    Ok(word_of(&circuit.clock(&bits_of(state, width), &driving(&cells(row, n)))))
 }
 
 /// The cells of a record of the set's shape: numbers 12 and 13.
@@ -251,7 +256,8 @@ pub fn read_record(set: &Set, record: &[u8]) -> Reply<Vec<Bits>> {
 pub fn sign(bytes: &[u8], record: &[u8]) -> Reply<u64> {
     let set = read_set(bytes)?;
     let cells = read_record(&set, record)?;
-    Ok(word_of(&set.circuit.signature(&cells)))
+    let slices: Vec<Vec<usize>> = cells.iter().map(|row| driving(row)).collect();
+    Ok(word_of(&set.circuit.signature(&slices)))
 }
 
 /// The columns, for a lent list of `room` places.
