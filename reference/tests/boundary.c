@@ -1,0 +1,141 @@
+/* The header from C: the structs' sizes and offsets, and every call on document 01's sample. Prints a line for each call; a
+ * wrong value ends the program with the line's number. */
+#include "canceller.h"
+
+#include <stdio.h>
+#include <stdlib.h>
+#include <string.h>
+
+#define FIELD(type, field, place) _Static_assert(offsetof(type, field) == 8 * (place), #type "." #field)
+#define SIZE(type, words) _Static_assert(sizeof(type) == 8 * (words), #type)
+
+SIZE(canceller_set, 261);
+FIELD(canceller_set, refusal, 0);
+FIELD(canceller_set, m, 1);
+FIELD(canceller_set, taps, 2);
+FIELD(canceller_set, n, 3);
+FIELD(canceller_set, s, 4);
+FIELD(canceller_set, spread, 5);
+SIZE(canceller_stretch, 3);
+FIELD(canceller_stretch, refusal, 0);
+FIELD(canceller_stretch, start, 1);
+FIELD(canceller_stretch, length, 2);
+SIZE(canceller_written, 2);
+FIELD(canceller_written, refusal, 0);
+FIELD(canceller_written, length, 1);
+SIZE(canceller_clocked, 2);
+FIELD(canceller_clocked, refusal, 0);
+FIELD(canceller_clocked, state, 1);
+SIZE(canceller_signed, 2);
+FIELD(canceller_signed, refusal, 0);
+FIELD(canceller_signed, signature, 1);
+SIZE(canceller_listed, 2);
+FIELD(canceller_listed, refusal, 0);
+FIELD(canceller_listed, count, 1);
+SIZE(canceller_eliminated, 3);
+FIELD(canceller_eliminated, refusal, 0);
+FIELD(canceller_eliminated, rank, 1);
+FIELD(canceller_eliminated, q, 2);
+SIZE(canceller_planned, 4);
+FIELD(canceller_planned, refusal, 0);
+FIELD(canceller_planned, m, 1);
+FIELD(canceller_planned, q, 2);
+FIELD(canceller_planned, expected, 3);
+SIZE(canceller_judged, 4);
+FIELD(canceller_judged, refusal, 0);
+FIELD(canceller_judged, cancelled, 1);
+FIELD(canceller_judged, failed, 2);
+FIELD(canceller_judged, index, 3);
+
+static void must(int holds, int line) {
+    if (!holds) {
+        printf("line %d does not hold\n", line);
+        exit(1);
+    }
+}
+#define MUST(x) must((x), __LINE__)
+
+int main(void) {
+    const uint64_t spread[2] = {1, 4};
+    const uint8_t values[2] = {1, 1}, marks[2] = {2, 0};
+    uint8_t set[40];
+    memset(set, 0xEE, sizeof set);
+    canceller_written written = canceller_write_set(3, 3, spread, 2, values, 2, marks, 2, 2, set, sizeof set);
+    MUST(written.refusal == 0 && written.length == 34);
+    MUST(set[34] == 0xEE && set[39] == 0xEE);
+    printf("set written: %d bytes\n", (int)written.length);
+
+    canceller_set read = canceller_read_set(set, 34);
+    MUST(read.refusal == 0 && read.m == 3 && read.taps == 3 && read.n == 2 && read.s == 2);
+    MUST(read.spread[0] == 1 && read.spread[1] == 4 && read.spread[2] == 0 && read.spread[255] == 0);
+    printf("set read\n");
+
+    canceller_stretch row = canceller_value_row(set, 34, 1);
+    MUST(row.refusal == 0 && row.start == 32 && row.length == 1 && set[row.start] == 1);
+    row = canceller_mark_row(set, 34, 0);
+    MUST(row.refusal == 0 && row.start == 31 && row.length == 1 && set[row.start] == 2);
+    row = canceller_mark_row(set, 34, 2);
+    MUST(row.refusal == 11 && row.start == 0 && row.length == 0);
+    printf("rows found\n");
+
+    const uint8_t none[1] = {0};
+    canceller_clocked clocked = canceller_clock(3, 3, 4, spread, 2, none, 1);
+    MUST(clocked.refusal == 0 && clocked.state == 3);
+    clocked = canceller_clock(3, 3, 7, spread, 2, none, 1);
+    MUST(clocked.refusal == 0 && clocked.state == 5);
+    clocked = canceller_clock(3, 3, 8, spread, 2, none, 1);
+    MUST(clocked.refusal == 23 && clocked.state == 8);
+    printf("clocked\n");
+
+    const uint8_t zeros[2] = {1, 1}, ones[2] = {3, 1};
+    canceller_signed first = canceller_sign(set, 34, zeros, 2), second = canceller_sign(set, 34, ones, 2);
+    MUST(first.refusal == 0 && second.refusal == 0 && (first.signature ^ second.signature) == 3);
+    MUST(canceller_sign(set, 34, NULL, 0).refusal == 12);
+    printf("signed: %d and %d\n", (int)first.signature, (int)second.signature);
+
+    uint64_t columns[3] = {9, 9, 9}, words[4] = {8, 8, 8, 8};
+    canceller_listed listed = canceller_list_columns(set, 34, columns, 3);
+    MUST(listed.refusal == 0 && listed.count == 1 && columns[0] == 3 && columns[1] == 9);
+    MUST(canceller_list_columns(set, 34, NULL, 0).refusal == 14);
+    printf("column: %d\n", (int)columns[0]);
+
+    canceller_eliminated eliminated = canceller_eliminate(3, columns, 1, words, 4);
+    MUST(eliminated.refusal == 0 && eliminated.rank == 1 && eliminated.q == 2);
+    MUST(words[0] == 3 && words[1] == 4 && words[2] == 8);
+    eliminated = canceller_eliminate(3, NULL, 0, words, 4);
+    MUST(eliminated.refusal == 0 && eliminated.rank == 0 && eliminated.q == 3);
+    MUST(words[0] == 1 && words[1] == 2 && words[2] == 4 && words[3] == 8);
+    printf("eliminated\n");
+
+    canceller_planned planned = canceller_plan(set, 34, columns, 3, words, 4);
+    MUST(planned.refusal == 0 && planned.m == 3 && planned.q == 2 && planned.expected == 0);
+    MUST(words[0] == 3 && words[1] == 4);
+    printf("planned: words %d %d, expected %d\n", (int)words[0], (int)words[1], (int)planned.expected);
+
+    uint8_t plan[CANCELLER_PLAN_MAX];
+    written = canceller_write_plan(planned.m, words, (size_t)planned.q, planned.expected, plan, sizeof plan);
+    MUST(written.refusal == 0 && written.length == 23);
+    size_t plan_len = (size_t)written.length;
+    uint64_t back[2] = {0, 0};
+    canceller_planned again = canceller_read_plan(plan, plan_len, back, 2);
+    MUST(again.refusal == 0 && again.m == 3 && again.q == 2 && again.expected == 0 && back[0] == 3 && back[1] == 4);
+    MUST(canceller_read_plan(plan, plan_len, NULL, 0).refusal == 18);
+    printf("plan written and read: %d bytes\n", (int)plan_len);
+
+    canceller_judged judged = canceller_judge(plan, plan_len, first.signature);
+    MUST(judged.refusal == 0 && judged.failed == 0 && judged.index == 0);
+    judged = canceller_judge(plan, plan_len, second.signature);
+    MUST(judged.refusal == 0 && judged.failed == 0);
+    judged = canceller_judge(plan, plan_len, 1);
+    MUST(judged.refusal == 0 && judged.failed == 1 && judged.index == 0 && judged.cancelled == 1);
+    judged = canceller_judge(plan, plan_len, 7);
+    MUST(judged.refusal == 0 && judged.failed == 1 && judged.index == 1 && judged.cancelled == 2);
+    judged = canceller_judge(plan, plan_len, 8);
+    MUST(judged.refusal == 23 && judged.cancelled == 0 && judged.failed == 0 && judged.index == 0);
+    MUST(canceller_judge(NULL, 0, 0).refusal == 19);
+    printf("judged\n");
+    MUST(canceller_read_set(NULL, 0).refusal == 1);
+    MUST(CANCELLER_SET_MAX == 14 + 8 * CANCELLER_CHAINS_MAX + 2 * 32 * CANCELLER_SLICES_MAX);
+    MUST(CANCELLER_PLAN_MAX == 6 + 8 * CANCELLER_WIDTH_MAX + 8);
+    return 0;
+}

@@ -1,0 +1,155 @@
+//! The third demand by force: for thousands of small sets every filling is enumerated, and each signature of the register's width
+//! is judged by the plan file of the set. Exactly the explained signatures pass, and records alike in the known cells are judged
+//! alike, whether or not they agree with the set.
+
+use reference::both::Both;
+use reference::elimination::x_free;
+use reference::library::Side;
+use reference::random::*;
+use reference::set::{driving, read_set, Set};
+use reference::{word_of, Bits};
+use std::collections::BTreeSet;
+
+/// The response in which the unknown cells hold the bits of `filling`, in the order of the columns.
+fn filled(set: &Set, filling: u64) -> Vec<Bits> {
+    let mut cells = set.values.clone();
+    for (i, (t, c)) in set.unknowns().into_iter().enumerate() {
+        cells[t][c] = filling >> i & 1 == 1;
+    }
+    cells
+}
+
+fn signature(set: &Set, cells: &[Bits]) -> u64 {
+    let slices: Vec<Vec<usize>> = cells.iter().map(|row| driving(row)).collect();
+    word_of(&set.circuit.signature(&slices))
+}
+
+/// The record file of a response.
+fn record_of(cells: &[Bits]) -> Vec<u8> {
+    let mut bytes = Vec::new();
+    for row in cells {
+        for part in row.chunks(8) {
+            bytes.push(word_of(part) as u8);
+        }
+    }
+    bytes
+}
+
+#[test]
+fn exactly_the_explained_signatures_pass() {
+    let mut both = Both::new(Side::End);
+    let (mut plans, mut refused) = (0, 0);
+    for seed in 100_000..104_000 {
+        let mut r = Random::new(seed);
+        both.at = format!("seed {seed}");
+        let c = small_content(&mut r, 8, 5, 3);
+        let file = c.file();
+        let set = read_set(&file).unwrap();
+        let u = set.unknowns().len();
+        if u > 12 {
+            continue;
+        }
+        let explained: BTreeSet<u64> = (0..1u64 << u).map(|f| signature(&set, &filled(&set, f))).collect();
+        let all = 1u64 << c.m;
+        match both.plan(&file, u, 64) {
+            Err(n) => {
+                assert_eq!(n, 17, "seed {seed}");
+                assert_eq!(explained.len() as u64, all, "seed {seed}: 17 although some signature is not explained");
+                refused += 1;
+            }
+            Ok(p) => {
+                assert!((explained.len() as u64) < all, "seed {seed}: a plan although every signature is explained");
+                let plan = both.write_plan(p.m, &p.words, p.expected, 600).expect("a plan of planning's answer");
+                for y in 0..all {
+                    let judged = both.judge(&plan, y).expect("a signature of the register's width");
+                    assert_eq!(judged.fails_at.is_none(), explained.contains(&y), "seed {seed}, signature {y}");
+                    let first = (0..p.words.len()).find(|&i| {
+                        ((p.words[i] & y).count_ones() % 2 == 1) != (p.expected >> i & 1 == 1)
+                    });
+                    assert_eq!(judged.fails_at, first.map(|i| i as u64), "seed {seed}, signature {y}");
+                }
+                plans += 1;
+            }
+        }
+    }
+    assert!(plans > 1_500 && refused > 300, "{plans} plans and {refused} refusals are too few to show anything");
+}
+
+#[test]
+fn records_alike_in_the_known_cells_are_judged_alike() {
+    let mut both = Both::new(Side::End);
+    let mut pairs = 0;
+    for seed in 110_000..114_000 {
+        let mut r = Random::new(seed);
+        both.at = format!("seed {seed}");
+        let c = small_content(&mut r, 16, 6, 4);
+        let file = c.file();
+        let set = read_set(&file).unwrap();
+        let unknowns = set.unknowns();
+        let Ok(p) = both.plan(&file, unknowns.len(), 64) else { continue };
+        let plan = both.write_plan(p.m, &p.words, p.expected, 600).unwrap();
+        // a record that need not agree with the set, and others alike in the known cells
+        let mut cells: Vec<Bits> = (0..set.s()).map(|_| (0..set.n()).map(|_| r.one_in(2)).collect()).collect();
+        let first = both.sign(&file, &record_of(&cells)).unwrap();
+        let judged = both.judge(&plan, first).unwrap();
+        for _ in 0..8 {
+            for &(t, c) in &unknowns {
+                cells[t][c] = r.one_in(2);
+            }
+            let other = both.sign(&file, &record_of(&cells)).unwrap();
+            assert_eq!(both.judge(&plan, other).unwrap(), judged, "seed {seed}");
+            pairs += usize::from(other != first);
+        }
+    }
+    assert!(pairs > 2_000, "{pairs} pairs with different signatures are too few to show anything");
+}
+
+#[test]
+fn a_record_with_one_known_cell_changed_fails_or_is_explained() {
+    let mut both = Both::new(Side::End);
+    let mut failed = 0;
+    for seed in 115_000..117_000 {
+        let mut r = Random::new(seed);
+        both.at = format!("seed {seed}");
+        let c = small_content(&mut r, 12, 6, 4);
+        let file = c.file();
+        let set = read_set(&file).unwrap();
+        let u = set.unknowns().len();
+        let Ok(p) = both.plan(&file, u, 64) else { continue };
+        if u > 10 || set.s() == 0 {
+            continue;
+        }
+        let plan = both.write_plan(p.m, &p.words, p.expected, 600).unwrap();
+        let explained: BTreeSet<u64> = (0..1u64 << u).map(|f| signature(&set, &filled(&set, f))).collect();
+        let mut cells = filled(&set, r.word());
+        let (t, k) = (r.below(set.s()), r.below(set.n()));
+        cells[t][k] = !cells[t][k];
+        let y = both.sign(&file, &record_of(&cells)).unwrap();
+        let judged = both.judge(&plan, y).unwrap();
+        assert_eq!(judged.fails_at.is_none(), explained.contains(&y), "seed {seed}");
+        failed += usize::from(judged.fails_at.is_some());
+    }
+    assert!(failed > 300, "{failed} failing records are too few to show anything");
+}
+
+#[test]
+fn the_listed_words_make_every_x_free_combination_and_no_other() {
+    let mut both = Both::new(Side::End);
+    for seed in 120_000..122_000 {
+        let mut r = Random::new(seed);
+        both.at = format!("seed {seed}");
+        let c = small_content(&mut r, 8, 5, 3);
+        let file = c.file();
+        let columns = read_set(&file).unwrap().columns();
+        let words = match both.plan(&file, columns.len(), 64) {
+            Ok(p) => p.words,
+            Err(_) => Vec::new(),
+        };
+        let made: BTreeSet<u64> = (0..1u64 << words.len())
+            .map(|k| (0..words.len()).filter(|&i| k >> i & 1 == 1).fold(0, |a, i| a ^ words[i]))
+            .collect();
+        for w in 0..1u64 << c.m {
+            assert_eq!(x_free(w, &columns), made.contains(&w), "seed {seed}, combination {w}");
+        }
+    }
+}
