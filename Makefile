@@ -1,18 +1,31 @@
 # make run    prove what the worked lines need, and print them
-# make test   the whole gate: layout, proofs from nothing, must-fail edits, programs
+# make test   the whole gate: layout, proofs from nothing, must-fail edits, programs, the Rust and C tests
+# make lib    the static library for C and Rust: target/staticlib/libcanceller.a (header: include/canceller.h)
+# make soak SECONDS=60   random calls by the library and the second implementation
 # make fmt    lay every source out as the gate asks
-.PHONY: run test fmt tools
+.PHONY: run test lib soak fmt tools rust-tools
+
+SECONDS ?= 60
 
 run: tools
 	rt check worked_lines
 	./target/bin/worked_lines
 
-test: tools
-	rt fmt --check
-	rt ci
+test: tools rust-tools
+	scripts/test.sh
+
+lib: tools
+	rt staticlib canceller
+
+soak: lib rust-tools
+	cargo run --offline --release --manifest-path reference/Cargo.toml --bin soak -- $(SECONDS)
 
 fmt: tools
 	rt fmt
 
 tools:
 	@command -v rt >/dev/null || { echo "rt, the command of the Rattle kit, is not on the path"; exit 1; }
+
+rust-tools:
+	@command -v cargo >/dev/null || { echo "cargo is not on the path: the Rust tests need it"; exit 1; }
+	@command -v cc >/dev/null || { echo "cc is not on the path: the test of the C header needs it"; exit 1; }
