@@ -172,10 +172,14 @@ fn damaged_records() {
         let mut both = Both::new(side);
         for (i, (set, record, _)) in small_files().iter().enumerate() {
             for length in 0..record.len() + 20 {
-                let mut bad = record.clone();
-                bad.resize(length, 0);
-                both.at = format!("small set {i}, a record of {length} bytes");
-                both.sign(set, &bad).ok();
+                for fill in [0, 0xff] {
+                    let mut bad = record.clone();
+                    bad.resize(length, fill);
+                    both.at = format!("small set {i}, a record of {length} bytes, filled with {fill}");
+                    both.sign(set, &bad).ok();
+                    bad.fill(fill);
+                    both.sign(set, &bad).ok();
+                }
             }
             for at in 0..record.len() {
                 for bit in 0..8 {
@@ -452,6 +456,27 @@ fn eliminations() {
 }
 
 #[test]
+fn eliminations_of_structured_columns() {
+    // single bits, pairs of neighbours and full words, in every order: ranks and pivots at the ends of the word
+    for side in SIDES {
+        let mut both = Both::new(side);
+        for seed in 11_000..12_000 {
+            let mut r = Random::new(seed);
+            both.at = format!("seed {seed}");
+            let m = r.pick(&[1, 2, 8, 32, 63, 64]);
+            let columns: Vec<u64> = (0..r.below(80))
+                .map(|_| {
+                    let bit = 1u64 << r.below(m);
+                    let all = u64::MAX >> (64 - m);
+                    r.pick(&[bit, bit, bit | bit << 1, all, all ^ bit, 0]) & all
+                })
+                .collect();
+            both.eliminate(m as u64, &columns, 64);
+        }
+    }
+}
+
+#[test]
 fn small_eliminations_by_trying_every_combination() {
     for seed in 12_000..14_000 {
         let mut r = Random::new(seed);
@@ -513,6 +538,39 @@ fn damaged_plans() {
                         bad[other] ^= 1 << r.below(8);
                         both.at += &format!(", and byte {other}");
                         judged(&mut both, &mut r, &bad);
+                    }
+                }
+            }
+        }
+    }
+}
+
+#[test]
+fn plans_with_fields_at_their_limits() {
+    let put = |plan: &mut Vec<u8>, at: usize, n: usize| {
+        for (i, b) in [n as u8, (n >> 8) as u8].into_iter().enumerate() {
+            if at + i < plan.len() {
+                plan[at + i] = b;
+            }
+        }
+    };
+    for side in SIDES {
+        let mut both = Both::new(side);
+        let mut r = Random::new(16_500);
+        for (i, plan) in plans().iter().enumerate() {
+            let (m, q) = (plan[0] as usize, plan[2] as usize);
+            let limits = [0, 1, q - 1, q, q + 1, m, m + 1, 64, 65, 256, 65_535];
+            for a in 0..3 {
+                for x in limits {
+                    for b in a..3 {
+                        for y in limits {
+                            let mut bad = plan.clone();
+                            for (field, n) in [(a, x), (b, y)] {
+                                put(&mut bad, [0, 2, 4 + 8 * q][field], n);
+                            }
+                            both.at = format!("plan {i}, field {a} set to {x} and field {b} to {y}");
+                            judged(&mut both, &mut r, &bad);
+                        }
                     }
                 }
             }

@@ -80,7 +80,7 @@ ends-unlisted set cs ws k l =
 
 -- ---- past 14
 
-list-numbered : (set : List ℕ) (k : ℕ) → numbered (listTests set k) ≡ true
+pub list-numbered : (set : List ℕ) (k : ℕ) → numbered (listTests set k) ≡ true
 unfolding listTests setTests
 list-numbered set k = refl
 

@@ -1,0 +1,105 @@
+-- The explained signatures of a set, and the records that are alike in its known cells, by the XORs of its columns and by the
+-- parities of its words. Assumes nothing.
+use mathlib.Core.Path.{_≡_, sym, ap, _∙_, subst}
+use mathlib.Core.Bool.{true}
+use mathlib.Core.List.{List}
+use Prim.Native.Nat.{ℕ, _^_, _<_}
+use lib.Bits.{bitXor, xor-lt}
+use Rattle.word.specs.Parities.{parities}
+use Rattle.word.specs.Span.{isXorOf}
+use Rattle.word.proofs.Laws.{xor-cancel}
+use Rattle.elimination.specs.Combination.{xFree}
+use Rattle.elimination.proofs.Theorems.{explained-listed}
+use Rattle.elimination.proofs.Agreeing.{parities-even, even-parities}
+use Rattle.register.specs.Circuit.{chains}
+use Rattle.register.proofs.Laws.{cell-lt, good-taps, good-spread}
+use Rattle.set_file.specs.Layout.{widthOf, tapsOf, spreadOf, circuitOf, chainsOf, slicesOf, marks, values}
+use Rattle.set_file.specs.Writing.{listRow}
+use Rattle.set_file.proofs.Laws.{Accepted, spread-length}
+use Rattle.response.specs.Signature.{Response, signature}
+use Rattle.response.specs.Columns.{columnsOf, zeroSignature, recordCells}
+use Rattle.response.proofs.SignatureLaws.{signature-lt}
+use Rattle.response.proofs.FillingLaws.{filling-differs, filling-of, alike-differ}
+use Rattle.response.proofs.SetLaws.{columns-of-within}
+use Rattle.planner.specs.Planning.{wordsOf, expectedOf}
+use Rattle.guarantee.specs.Demand.{Known, Explained, Alike}
+
+-- ---- by the columns
+
+module _ (set : List ℕ) where
+  known : (t c : ℕ) → t < slicesOf set → c < chains (circuitOf set) → marks set t c ≡ 0 → Known set t c
+  known t c l m z = record { slice = l; chain = subst (λ (n : ℕ). c < n) (spread-length set) m; unmarked = z }
+
+  -- an explained signature differs from that for all unknowns 0 by an XOR of columns
+  pub explained-xor : (y : ℕ) → Explained set y → isXorOf (columnsOf set) (bitXor (zeroSignature set) y) ≡ true
+  explained-xor y e =
+      ap (λ (x : ℕ). isXorOf (columnsOf set) (bitXor (zeroSignature set) x)) (sym (e .clocks))
+      ∙ filling-differs set (e .response) (e .filling .bits) (λ t c l m z. e .filling .known t c (known t c l m z))
+
+  -- .. and a signature that does so is explained
+  pub xor-explained : (y : ℕ) → isXorOf (columnsOf set) (bitXor (zeroSignature set) y) ≡ true → Explained set y
+  xor-explained y h =
+      let f = filling-of set y h in
+      record {
+        response = f .0;
+        filling = record { bits = f .1; known = λ t c n. f .2 t c (n .unmarked) };
+        clocks = f .3;
+      }
+
+  -- the signatures of records that are alike in every known cell differ by an XOR of columns
+  pub alike-xor : (r v : List ℕ) → Alike set r v
+      → isXorOf (columnsOf set)
+      (bitXor (signature (circuitOf set) (recordCells (chainsOf set) r) (slicesOf set)) (signature (circuitOf set) (recordCells (chainsOf set) v) (slicesOf set)))
+      ≡ true
+  unfolding columnsOf
+  alike-xor r v a =
+      alike-differ (circuitOf set) (slicesOf set) (marks set) (recordCells (chainsOf set) r) (recordCells (chainsOf set) v)
+      (λ t c. cell-lt (listRow (chainsOf set) r t) c) (λ t c. cell-lt (listRow (chainsOf set) v t) c)
+      (λ t c l m z. a t c (known t c l m z))
+
+-- ---- by the words
+
+module _ (set : List ℕ) (a : Accepted set) where
+  pub signature-within : (x : Response) → signature (circuitOf set) x (slicesOf set) < 2 ^ widthOf set
+  signature-within x =
+      signature-lt (circuitOf set) x (slicesOf set) (good-taps (widthOf set) (tapsOf set) (a .taps) .1)
+      (good-spread (widthOf set) (spreadOf set) (a .spread))
+
+  zero-within : zeroSignature set < 2 ^ widthOf set
+  unfolding zeroSignature
+  zero-within = signature-within (values set)
+
+  pub explained-within : (y : ℕ) → Explained set y → y < 2 ^ widthOf set
+  explained-within y e = subst (λ (x : ℕ). x < 2 ^ widthOf set) (e .clocks) (signature-within (e .response))
+
+  module _ (y z : ℕ) (hy : y < 2 ^ widthOf set) (hz : z < 2 ^ widthOf set) where
+    words-even : isXorOf (columnsOf set) (bitXor y z) ≡ xFree (wordsOf set) (bitXor y z)
+    unfolding wordsOf
+    words-even =
+        explained-listed (widthOf set) (columnsOf set) (columns-of-within set a) (bitXor y z) (xor-lt (widthOf set) y z hy hz)
+
+    pub xor-parities : isXorOf (columnsOf set) (bitXor y z) ≡ true → parities (wordsOf set) y ≡ parities (wordsOf set) z
+    xor-parities h = even-parities (wordsOf set) y z (sym words-even ∙ h)
+
+    pub parities-xor : parities (wordsOf set) y ≡ parities (wordsOf set) z → isXorOf (columnsOf set) (bitXor y z) ≡ true
+    parities-xor h = words-even ∙ parities-even (wordsOf set) y z h
+
+  -- an explained signature has the expected parities
+  pub explained-expected : (y : ℕ) → Explained set y → parities (wordsOf set) y ≡ expectedOf set
+  unfolding expectedOf
+  explained-expected y e = sym (xor-parities (zeroSignature set) y zero-within (explained-within y e) (explained-xor set y e))
+
+  -- .. and a signature that has them is explained
+  pub expected-explained : (y : ℕ) → y < 2 ^ widthOf set → parities (wordsOf set) y ≡ expectedOf set → Explained set y
+  unfolding expectedOf
+  expected-explained y l h = xor-explained set y (parities-xor (zeroSignature set) y zero-within l (sym h))
+
+  -- every signature of the register's width is explained exactly when each is an XOR of columns
+  pub xor-all : ((d : ℕ) → d < 2 ^ widthOf set → isXorOf (columnsOf set) d ≡ true) → (y : ℕ) → y < 2 ^ widthOf set → Explained set y
+  xor-all f y l = xor-explained set y (f (bitXor (zeroSignature set) y) (xor-lt (widthOf set) (zeroSignature set) y zero-within l))
+
+  pub all-xor : ((y : ℕ) → y < 2 ^ widthOf set → Explained set y) → (d : ℕ) → d < 2 ^ widthOf set → isXorOf (columnsOf set) d ≡ true
+  all-xor f d l =
+      ap (isXorOf (columnsOf set)) (sym (xor-cancel (zeroSignature set) d))
+      ∙ explained-xor set (bitXor (zeroSignature set) d)
+      (f (bitXor (zeroSignature set) d) (xor-lt (widthOf set) (zeroSignature set) d zero-within l))

@@ -1,0 +1,5 @@
+pub mod Explaining
+pub mod Planned
+pub mod Content
+pub mod Theorems
+pub mod WorkLaws

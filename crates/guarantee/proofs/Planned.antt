@@ -1,0 +1,142 @@
+-- What planning's answer for a set says, and what it refuses with. Assumes nothing.
+use mathlib.Core.Path.{_≡_, refl, sym, ap, _∙_}
+use mathlib.Core.Bool.{Bool, true, false, cond, not, _&&_}
+use mathlib.Core.Logic.{dite}
+use mathlib.Core.List.{List, [], _∷_}
+use Prim.Native.Nat.{ℕ, _≤_}
+use native.Mathlib.Decide.{ℕ-discrete}
+use native.Mathlib.Omega.{arith}
+use borrow.Author.Tests.{eqb-false, not-true}
+use lib.Dec.{eqb, ltb}
+use lib.ListN.{length}
+use Rattle.word.specs.Reply.{Test, _when_, answer, refusal, replied, firstOf}
+use Rattle.word.proofs.BoolLaws.{and-left, and-right}
+use Rattle.word.proofs.Laws.{parities-lt}
+use Rattle.word.proofs.TestLaws.{none-and-rest, numbered, first-of-later, first-of-sooner, first-of-none, replied-answer, replied-number}
+use Rattle.elimination.specs.Combination.{rank}
+use Rattle.elimination.specs.Elimination.{onlyEmpty}
+use Rattle.elimination.proofs.Theorems.{words-and-rank, reduced-list-reduced, only-empty-list}
+use Rattle.set_file.specs.Layout.{widthOf}
+use Rattle.set_file.specs.Reading.{setTests}
+use Rattle.set_file.proofs.Laws.{Accepted, accepted, accepted-width}
+use Rattle.response.specs.Columns.{columnsOf, zeroSignature}
+use Rattle.response.specs.Listing.{listTests}
+use Rattle.response.proofs.SetLaws.{columns-of-within}
+use Rattle.planner.specs.Planning.{wordsOf, expectedOf, planTests, PlanParts, partsOf, planReply}
+use Rattle.planner.proofs.CallLaws.{list-numbered}
+use Rattle.plan_file.specs.Writing.{contentOf, planBytes}
+use Rattle.plan_file.proofs.RoundTrip.{Content}
+use Rattle.guarantee.specs.Demand.{planFile}
+
+-- ---- lists of tests
+
+-- no test of the list has the number n
+abbrev without : ℕ → List Test → Bool
+without n [] = true
+without n ((k when b) ∷ ts) = not (eqb k n) && without n ts
+
+without-next : (n k : ℕ) (b : Bool) (ts : List Test) → (not (eqb k n) && without n ts) ≡ true → cond b k (firstOf ts) ≡ n
+    → (firstOf ts ≡ n → n ≡ 0) → n ≡ 0
+without-next n k true ts d h f =
+    absurd (eqb-false k n (not-true (eqb k n) (and-left (not (eqb k n)) (without n ts) d)) h)
+without-next n k false ts d h f = f h
+
+-- .. so n isn't the first that applies
+first-of-without : (n : ℕ) (ts : List Test) → without n ts ≡ true → firstOf ts ≡ n → n ≡ 0
+first-of-without n [] d h = sym h
+first-of-without n ((k when b) ∷ ts) d h =
+    without-next n k b ts d h (first-of-without n ts (and-right (not (eqb k n)) (without n ts) d))
+
+seventeen-among : (a b c : Bool) → _≡_ {A = ℕ} (cond a 16 (cond b 17 (cond c 18 0))) 17 → b ≡ true
+seventeen-among true b c h = let z : ⊥ = omega arith in absurd z
+seventeen-among false true c h = refl
+seventeen-among false false true h = let z : ⊥ = omega arith in absurd z
+seventeen-among false false false h = let z : ⊥ = omega arith in absurd z
+
+-- ---- planning's tests: those of listing the columns, then 16, 17 and 18
+
+list-without-seventeen : (set : List ℕ) (k : ℕ) → without 17 (listTests set k) ≡ true
+unfolding listTests setTests
+list-without-seventeen set k = refl
+
+-- listing the columns meets the set's numbers first
+pub listed-set : (set : List ℕ) (k : ℕ) → firstOf (listTests set k) ≡ 0 → firstOf (setTests set) ≡ 0
+unfolding listTests
+listed-set set k h = first-of-none (setTests set) _ h
+
+module _ (set : List ℕ) (k l : ℕ) where
+  after-list : firstOf (listTests set k) ≡ 0
+      → firstOf (planTests set k l)
+      ≡ cond (ltb (widthOf set) (rank (columnsOf set))) 16
+      (cond (onlyEmpty (widthOf set) (columnsOf set)) 17 (cond (ltb l (length (wordsOf set))) 18 0))
+  unfolding planTests
+  after-list h = first-of-later (listTests set k) _ (list-numbered set k) h
+
+  -- 17 means that the set is accepted and no X-free combination but the empty one exists
+  pub seventeen-only-empty : planReply set k l ≡ refusal 17 → Accepted set × (onlyEmpty (widthOf set) (columnsOf set) ≡ true)
+  unfolding planReply planTests
+  seventeen-only-empty h =
+      let number : firstOf (planTests set k l) ≡ 17 = replied-number (firstOf (planTests set k l)) (partsOf set) 17 h in
+      let none : firstOf (listTests set k) ≡ 0 =
+      dite (ℕ-discrete (firstOf (listTests set k)) 0) (λ (z : firstOf (listTests set k) ≡ 0). z)
+      (λ (d : firstOf (listTests set k) ≡ 0 → ⊥).
+      let z : 17 ≡ 0 = first-of-without 17 (listTests set k) (list-without-seventeen set k) (sym (first-of-sooner (listTests set k) _ d) ∙ number) in
+      let no : ⊥ = omega arith in
+      absurd no)
+      in
+      (accepted set (listed-set set k none), seventeen-among (ltb (widthOf set) (rank (columnsOf set))) _ (ltb l (length (wordsOf set))) (sym (after-list none) ∙ number))
+
+  -- .. and where that is so and listing the columns meets no number, 17 it is
+  pub only-empty-seventeen : firstOf (listTests set k) ≡ 0 → ltb (widthOf set) (rank (columnsOf set)) ≡ false
+      → onlyEmpty (widthOf set) (columnsOf set) ≡ true → planReply set k l ≡ refusal 17
+  unfolding planReply
+  only-empty-seventeen h r e =
+      let number : firstOf (planTests set k l) ≡ 17 = rw (after-list h, r, e) in
+      ap (λ (n : ℕ). replied n (partsOf set)) number
+
+-- ---- planning's answer
+
+module _ (set : List ℕ) (k l : ℕ) (p : PlanParts) (h : planReply set k l ≡ answer p) where
+  planned-none : firstOf (planTests set k l) ≡ 0
+  unfolding planReply
+  planned-none = replied-answer (firstOf (planTests set k l)) (partsOf set) p h .0
+
+  pub planned-parts : p ≡ partsOf set
+  unfolding planReply
+  planned-parts = replied-answer (firstOf (planTests set k l)) (partsOf set) p h .1
+
+  list-none : firstOf (listTests set k) ≡ 0
+  unfolding planTests
+  list-none = first-of-none (listTests set k) _ planned-none
+
+  pub planned-accepted : Accepted set
+  planned-accepted = accepted set (listed-set set k list-none)
+
+  some-words : onlyEmpty (widthOf set) (columnsOf set) ≡ false
+  some-words =
+      let later = none-and-rest (ltb (widthOf set) (rank (columnsOf set))) 15 _ (sym (after-list set k l list-none) ∙ planned-none) in
+      none-and-rest (onlyEmpty (widthOf set) (columnsOf set)) 16 _ (later .1) .0
+
+  words-count : (1 ≤ length (wordsOf set)) × (length (wordsOf set) ≤ widthOf set)
+  unfolding wordsOf
+  words-count =
+      let positive : length (wordsOf set) ≡ 0 → ⊥ = eqb-false (length (wordsOf set)) 0 (sym (only-empty-list (widthOf set) (columnsOf set)) ∙ some-words) in
+      (omega arith, omega (arith, words-and-rank (widthOf set) (columnsOf set) (columns-of-within set planned-accepted)))
+
+  -- the plan writer takes m, the words and the expected bits
+  pub planned-content : Content (contentOf (widthOf set) (wordsOf set) (expectedOf set))
+  unfolding wordsOf expectedOf
+  planned-content =
+      record {
+        width-positive = accepted-width set planned-accepted .0;
+        width-most = accepted-width set planned-accepted .1;
+        count-positive = words-count .0;
+        count-most = words-count .1;
+        reduced = reduced-list-reduced (widthOf set) (columnsOf set) (accepted-width set planned-accepted .1);
+        expected-inside = parities-lt (wordsOf set) (zeroSignature set);
+      }
+
+  -- planning's plan file is that of m, the words and the expected bits of the set
+  pub planned-file : planFile set p ≡ planBytes (contentOf (widthOf set) (wordsOf set) (expectedOf set))
+  unfolding planFile
+  planned-file = ap (λ (x : PlanParts). planBytes (contentOf (x .m) (wordsOf set) (x .expected))) planned-parts
