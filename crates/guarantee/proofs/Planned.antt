@@ -12,7 +12,7 @@ use lib.ListN.{length}
 use Rattle.word.specs.Reply.{Test, _when_, answer, refusal, replied, firstOf}
 use Rattle.word.proofs.BoolLaws.{and-left, and-right}
 use Rattle.word.proofs.Laws.{parities-lt}
-use Rattle.word.proofs.TestLaws.{none-and-rest, numbered, first-of-later, first-of-sooner, first-of-none, replied-answer, replied-number}
+use Rattle.word.proofs.TestLaws.{none-and-rest, first-of-later, first-of-sooner, first-of-none, replied-answer, replied-number}
 use Rattle.elimination.specs.Combination.{rank}
 use Rattle.elimination.specs.Elimination.{onlyEmpty}
 use Rattle.elimination.proofs.Theorems.{words-and-rank, reduced-list-reduced, only-empty-list}

@@ -1,0 +1,161 @@
+//! The plan printer over standard input: the stored samples, random and damaged sets, small pieces through a pipe, a standard
+//! output that nobody reads, and an input that can't be read.
+
+use reference::planning::printed;
+use reference::random::*;
+use std::fs::File;
+use std::io::{Read, Write};
+use std::path::{Path, PathBuf};
+use std::process::{Child, Command, Output, Stdio};
+use std::time::{Duration, Instant};
+
+fn repository() -> PathBuf {
+    Path::new(env!("CARGO_MANIFEST_DIR")).join("..")
+}
+
+fn printer() -> Command {
+    let path = repository().join("target/bin/plan_printer");
+    assert!(path.exists(), "{} is missing: run `rt check plan_printer` first", path.display());
+    Command::new(path)
+}
+
+fn started() -> Child {
+    printer().stdin(Stdio::piped()).stdout(Stdio::piped()).stderr(Stdio::piped()).spawn().expect("the printer starts")
+}
+
+/// Waits for the end, which must come.
+fn ended(mut child: Child) -> Output {
+    let end = Instant::now() + Duration::from_secs(20);
+    while child.try_wait().expect("the printer can be waited for").is_none() {
+        if Instant::now() > end {
+            child.kill().ok();
+            panic!("the printer does not end");
+        }
+        std::thread::sleep(Duration::from_millis(1));
+    }
+    child.wait_with_output().expect("the printer's output")
+}
+
+/// What the printer writes for this input, handed over in pieces of `piece` bytes.
+fn prints(input: &[u8], piece: usize) -> String {
+    let mut child = started();
+    let mut stdin = child.stdin.take().unwrap();
+    for part in input.chunks(piece) {
+        // the printer stops reading where an input is longer than any set
+        if stdin.write_all(part).is_err() {
+            break;
+        }
+        if piece < 100 {
+            stdin.flush().ok();
+            std::thread::sleep(Duration::from_micros(200));
+        }
+    }
+    drop(stdin);
+    let output = ended(child);
+    assert!(output.stderr.is_empty(), "{}", String::from_utf8_lossy(&output.stderr));
+    String::from_utf8(output.stdout).expect("text")
+}
+
+#[test]
+fn the_stored_samples() {
+    let mut count = 0;
+    for entry in std::fs::read_dir(repository().join("samples")).unwrap() {
+        let text = entry.unwrap().path();
+        let Some(name) = text.to_str().and_then(|n| n.strip_suffix(".plan.txt")) else { continue };
+        let set = std::fs::read(format!("{name}.set")).unwrap_or_else(|e| panic!("{name}.set: {e}"));
+        let stored = std::fs::read_to_string(&text).unwrap();
+        assert_eq!(printed(&set), stored, "{name}: the second implementation");
+        assert_eq!(prints(&set, 1 << 20), stored, "{name}: the printer");
+        count += 1;
+    }
+    assert!(count >= 9, "{count} stored samples are too few");
+}
+
+#[test]
+fn the_sample_writes_document_01s_four_lines() {
+    let set = std::fs::read(repository().join("samples/sample.set")).unwrap();
+    assert_eq!(prints(&set, 1 << 20), "set 3 2 2 1\nword 0 3 0\nword 1 4 0\nend 2\n");
+}
+
+#[test]
+fn random_sets() {
+    for seed in 200_000..200_150 {
+        let mut r = Random::new(seed);
+        let c = small_content(&mut r, 64, 40, 30);
+        assert_eq!(prints(&c.file(), 1 << 20), printed(&c.file()), "seed {seed}");
+    }
+}
+
+#[test]
+fn damaged_sets() {
+    for seed in 210_000..210_150 {
+        let mut r = Random::new(seed);
+        let mut file = small_content(&mut r, 64, 12, 5).file();
+        for _ in 0..1 + r.below(3) {
+            let at = r.below(file.len());
+            match r.below(3) {
+                0 => file[at] ^= 1 << r.below(8),
+                1 => file.truncate(at + 1),
+                _ => file.insert(at, r.word() as u8),
+            }
+        }
+        assert_eq!(prints(&file, 1 << 20), printed(&file), "seed {seed}");
+    }
+}
+
+#[test]
+fn inputs_around_the_longest_set() {
+    let mut r = Random::new(5);
+    let longest = content(&mut r, 64, 256, 512, 1, 40).file();
+    for length in [34_828, 34_829, 34_830, 34_831, 34_832, 100_000] {
+        let mut input = longest.clone();
+        input.resize(length, 0);
+        assert_eq!(prints(&input, 1 << 20), printed(&input), "{length} bytes");
+        // an earlier number still comes first
+        input[0] = 65;
+        assert_eq!(prints(&input, 1 << 20), "refused 2\n", "{length} bytes with m 65");
+    }
+}
+
+#[test]
+fn small_pieces_through_a_pipe() {
+    let mut r = Random::new(6);
+    let small = content(&mut r, 20, 9, 7, 1, 9).file();
+    assert_eq!(prints(&small, 1), printed(&small));
+    let large = content(&mut r, 64, 256, 512, 1, 2000).file();
+    assert_eq!(prints(&large, 97), printed(&large));
+    assert_eq!(prints(&large, 4096), printed(&large));
+}
+
+#[test]
+fn a_standard_output_that_nobody_reads() {
+    let set = std::fs::read(repository().join("samples/sample.set")).unwrap();
+    let mut child = started();
+    drop(child.stdout.take());
+    child.stdin.take().unwrap().write_all(&set).unwrap();
+    ended(child);
+    // closed from the start
+    let mut child = Command::new("sh")
+        .arg("-c")
+        .arg("exec \"$0\" >&-")
+        .arg(repository().join("target/bin/plan_printer"))
+        .stdin(Stdio::piped())
+        .stderr(Stdio::piped())
+        .spawn()
+        .expect("sh starts");
+    child.stdin.take().unwrap().write_all(&set).unwrap();
+    ended(child);
+}
+
+#[test]
+fn an_input_that_cannot_be_read() {
+    // a folder can be opened, and reading it fails
+    let folder = File::open(repository()).unwrap();
+    let mut child = printer().stdin(Stdio::from(folder)).stdout(Stdio::piped()).stderr(Stdio::piped()).spawn().unwrap();
+    let (mut out, mut err) = (String::new(), String::new());
+    child.stdout.take().unwrap().read_to_string(&mut out).unwrap();
+    child.stderr.take().unwrap().read_to_string(&mut err).unwrap();
+    ended(child);
+    assert_eq!(out, "", "no plan is written");
+    assert!(err.contains("read"), "a clear message: {err:?}");
+}
