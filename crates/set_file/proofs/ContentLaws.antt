@@ -1,7 +1,7 @@
 -- The writer's content: its rows in two lists, tested byte by byte, and how long its file is. Assumes nothing.
 use mathlib.Core.Path.{_≡_, refl, sym, ap, ap₂, _∙_}
 use mathlib.Core.Bool.{Bool, false, not, _||_}
-use mathlib.Core.List.{List, [], _∷_, _++_}
+use mathlib.Core.List.{List, _++_}
 use Prim.Native.Nat.{ℕ, zero, suc, _+_, _*_, _<_, min}
 use native.Mathlib.Nat.{mul-assoc}
 use native.Mathlib.Omega.{arith}
@@ -11,16 +11,16 @@ use lib.Dec.{eqb, ltb}
 use lib.ListN.{length, getD, drop, length-append}
 use lib.Seq.{getD-take, getD-drop}
 use Rattle.word.specs.Some.{anyBelow}
-use Rattle.word.specs.Bytes.{bytesOf, wordBytes}
 use Rattle.word.proofs.SomeLaws.{any-below-ext, any-below-false}
 use Rattle.word.proofs.BoolLaws.{or-false-left, or-false-right}
 use Rattle.word.proofs.ByteLaws.{bytes-of-length, length-word-bytes}
+use Rattle.word.proofs.FileLaws.{part-small}
 use Rattle.register.specs.Row.{rowBytes, spareSet}
 use Rattle.register.specs.Circuit.{badChains}
 use Rattle.set_file.specs.Layout.{setLength}
 use Rattle.set_file.specs.Writing.{SetContent, contentOf, chainCount, listRow, slicesBytes, setBytes, badRows, spareInLists, valuedInLists}
 use Rattle.set_file.specs.Code.{sharesBit, inTurn}
-use Rattle.set_file.proofs.LayoutLaws.{list-row-length, part-bytes}
+use Rattle.set_file.proofs.LayoutLaws.{list-row-length}
 use Rattle.set_file.proofs.RangeLaws.{any-below-blocks}
 use Rattle.set_file.proofs.RowLaws.{valued-bytes}
 use Rattle.set_file.proofs.WriteLaws.{in-turn-length}
@@ -74,7 +74,7 @@ module _ (k : SetContent) where
 
   list-bytes : ((i : ℕ) → getD (k .marks) i 0 < 256) → (t i : ℕ) → getD (listRow (chainCount k) (k .marks) t) i 0 < 256
   unfolding listRow
-  list-bytes small t i = part-bytes (k .marks) (rowBytes (chainCount k) * t) (rowBytes (chainCount k)) small i
+  list-bytes small t i = part-small (k .marks) small (rowBytes (chainCount k) * t) (rowBytes (chainCount k)) i
 
   -- number 10 byte by byte
   pub valued-lists : badRows k ≡ false → spareInLists k ≡ false → ((i : ℕ) → getD (k .marks) i 0 < 256)

@@ -17,8 +17,8 @@
 --   markRow set t       slice t's row of unknown marks
 --   values set t c      the value bit of chain c in slice t
 --   marks set t c       its mark: 1 where the cell is unknown
-use mathlib.Core.List.{List, [], _∷_}
-use Prim.Native.Nat.{ℕ, zero, suc, _+_, _*_}
+use mathlib.Core.List.{List}
+use Prim.Native.Nat.{ℕ, _+_, _*_}
 use lib.ListN.{take, drop}
 use Rattle.word.specs.Bytes.{countAt, wordAt, wordsAt}
 use Rattle.register.specs.Row.{Cells, cell, rowBytes}

@@ -15,7 +15,6 @@ ghost use Rattle.set_file.specs.Reading.{badSlices, spareInRows, valuedU
 ghost use Rattle.set_file.specs.Rows.{rowTests, valueReply, markReply, stretch, saidPlace};
 ghost use Rattle.set_file.specs.Writing.{contentOf, listRow, setBytes, writeTests, writeReply, saidWritten};
 ghost use Rattle.set_file.specs.Code.{noWords, sharesBit, inTurn, headBytes};
-ghost use Rattle.word.specs.Bytes.{wordBytes};
 
 // What the set reader answers: m, the tap word, n and s, or the first number that applies.
 pub enum SetAnswer {
@@ -465,22 +464,6 @@ fn first_write_refusal(
     0
 }
 
-// The words, 8 bytes each, from place `at` of out on; nothing past its end.
-fn write_words(out: &mut [u8], at: usize, words: &[u64])
-    ensures { λ _. ⌜ now (out .exit) ≡ sets (now (out .entry)) at (wordBytes (now (words .entry))) ⌝ }
-{
-    let mut i = at;
-    let mut c = 0;
-    while c < words.len() {
-        if out.len() <= i {
-            return;
-        }
-        word::write_word(out, i, words[c]);
-        i += 8;
-        c += 1;
-    }
-}
-
 // The bytes from place `at` of out on; nothing past its end.
 fn write_bytes(out: &mut [u8], at: usize, bytes: &[u8])
     ensures { λ _. ⌜ now (out .exit) ≡ sets (now (out .entry)) at (now (bytes .entry)) ⌝ }
@@ -504,7 +487,7 @@ fn write_head(out: &mut [u8], m: u64, taps: u64, spread: &[u64], s: u64)
     word::write_count(out, 0, m);
     word::write_word(out, TAPS_AT, taps);
     word::write_count(out, CHAINS_AT, n as u64);
-    write_words(out, SPREAD_AT, spread);
+    word::write_words(out, SPREAD_AT, spread);
     word::write_count(out, SPREAD_AT + 8 * n, s);
 }
 

@@ -5,6 +5,8 @@ pub mod ParityLaws
 pub mod WordLaws
 pub mod SpanLaws
 pub mod ByteLaws
+pub mod FileLaws
+pub mod WritingLaws
 pub mod FrontLaws
 pub mod ReplyLaws
 pub mod TestLaws

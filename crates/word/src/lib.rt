@@ -6,7 +6,7 @@ ghost use lib.ListN.{getD, take, set};
 ghost use lib.Seq.{sets};
 ghost use Rattle.word.specs.Word.{lowMask, beyond, parity, highestBit, badWidth};
 ghost use Rattle.word.specs.Parities.{parities};
-ghost use Rattle.word.specs.Bytes.{number, countAt, wordAt, bytesOf};
+ghost use Rattle.word.specs.Bytes.{number, countAt, wordAt, bytesOf, wordBytes};
 
 // The word with bits 0 to m - 1 set; all 64 bits from m = 64 on.
 pub fn low_mask(m: u64) -> u64
@@ -165,4 +165,20 @@ pub fn write_word(out: &mut [u8], i: usize, x: u64)
     write_count(out, i + 2, x / 65536);
     write_count(out, i + 4, x / 4294967296);
     write_count(out, i + 6, x / 281474976710656);
+}
+
+// The words, 8 bytes each, one after the other from place `at` of out on, low byte first; nothing past the end.
+pub fn write_words(out: &mut [u8], at: usize, words: &[u64])
+    ensures { λ _. ⌜ now (out .exit) ≡ sets (now (out .entry)) at (wordBytes (now (words .entry))) ⌝ }
+{
+    let mut i = at;
+    let mut c = 0;
+    while c < words.len() {
+        if out.len() <= i {
+            return;
+        }
+        write_word(out, i, words[c]);
+        i += 8;
+        c += 1;
+    }
 }
