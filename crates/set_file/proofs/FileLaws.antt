@@ -10,6 +10,7 @@ use lib.ListN.{length, length-append}
 use lib.Seq.{sets}
 use Rattle.word.specs.Word.{badWidth}
 use Rattle.word.specs.Bytes.{bytesOf, wordBytes}
+use Rattle.word.specs.Joined.{joined}
 use Rattle.word.specs.Reply.{Reply, answer, refusal, replied, firstOf, front, lent}
 use Rattle.word.proofs.ReplyLaws.{replied-refusal}
 use Rattle.word.proofs.ByteLaws.{bytes-of-length, length-word-bytes}
@@ -17,7 +18,7 @@ use Rattle.word.proofs.FileLaws.{sets-parts, front-sets}
 use Rattle.register.specs.Row.{rowBytes}
 use Rattle.register.specs.Circuit.{badTaps, badChains, badSpread}
 use Rattle.set_file.specs.Layout.{rowsAt, setLength}
-use Rattle.set_file.specs.Writing.{SetContent, chainCount, slicesBytes, setBytes, badRows, spareInLists, valuedInLists, writeTests, writeReply, saidWritten}
+use Rattle.set_file.specs.Writing.{SetContent, chainCount, sliceBytes, setBytes, badRows, spareInLists, valuedInLists, writeTests, writeReply, saidWritten}
 use Rattle.set_file.specs.Code.{inTurn, headBytes}
 use Rattle.set_file.specs.declared.Written.{Written}
 use Rattle.set_file.specs.declared.Written.the-variants.{Done, Refused}
@@ -92,14 +93,14 @@ module _ (m taps : ℕ) (ws : List ℕ) (s : ℕ) where
       ∙ ap (λ (x : List ℕ). sets x 10 (c ++ (d ++ e))) e₂ ∙ sym (sets-parts b (c ++ (d ++ e)) l₁ 2 10 p₂)
       ∙ ap (λ (x : List ℕ). sets x 2 (b ++ (c ++ (d ++ e)))) e₁ ∙ sym (sets-parts a (b ++ (c ++ (d ++ e))) l 0 2 p₁)
 
-  head-length : length (headBytes m taps ws s) ≡ rowsAt (length ws)
+  pub head-length : length (headBytes m taps ws s) ≡ rowsAt (length ws)
   unfolding headBytes
   head-length =
       simp length-append
       (omega
       (arith, bytes-of-length 2 m, bytes-of-length 8 taps, bytes-of-length 2 (length ws), length-word-bytes ws, bytes-of-length 2 s))
 
-file-parts : (k : SetContent) → setBytes k ≡ headBytes (k .m) (k .taps) (k .spread) (k .s) ++ slicesBytes k (k .s)
+pub file-parts : (k : SetContent) → setBytes k ≡ headBytes (k .m) (k .taps) (k .spread) (k .s) ++ joined (sliceBytes k) (k .s)
 unfolding setBytes headBytes
 file-parts k = simp append-assoc
 
@@ -111,7 +112,7 @@ file-written k l l₁ l₂ w e₁ e₂ =
     let head = headBytes (k .m) (k .taps) (k .spread) (k .s) in
     e₂
     ∙ ap₂ (λ (x y : List ℕ). sets x (rowsAt (chainCount k)) y) e₁ (sym (slices-in-turn k (k .s)))
-    ∙ sym (sets-parts head (slicesBytes k (k .s)) l 0 (rowsAt (chainCount k)) (omega (arith, head-length (k .m) (k .taps) (k .spread) (k .s))))
+    ∙ sym (sets-parts head (joined (sliceBytes k) (k .s)) l 0 (rowsAt (chainCount k)) (omega (arith, head-length (k .m) (k .taps) (k .spread) (k .s))))
     ∙ ap (sets l 0) (sym (file-parts k))
     ∙ front-sets (setBytes k) l (omega (arith, set-bytes-length k (w .rows), w .fits))
 

@@ -2,8 +2,8 @@
 use mathlib.Core.Path.{_≡_, refl, sym, ap, ap₂, _∙_}
 use mathlib.Core.Bool.{true, false, _||_}
 use mathlib.Core.List.{List, _++_}
-use Prim.Native.Nat.{ℕ, zero, suc, _+_, _-_, _*_, _≤_, _<_, min}
-use native.Mathlib.Nat.{add-zero, mul-add, mul-one, mul-suc}
+use Prim.Native.Nat.{ℕ, suc, _+_, _-_, _*_, _≤_, _<_, min}
+use native.Mathlib.Nat.{add-zero, mul-add, mul-one, mul-assoc}
 use native.Mathlib.Numerals.{add-one}
 use native.Mathlib.Omega.{arith}
 use native.Mathlib.Decide.{decLt}
@@ -13,6 +13,8 @@ use lib.Dec.{ltb}
 use lib.ListN.{length, getD, take, drop, set, length-set, length-append, length-take, length-drop, drop-of-length-le}
 use lib.Seq.{drop-cons, sets, length-sets}
 use Rattle.word.proofs.FileLaws.{sets-parts}
+use Rattle.word.specs.Joined.{joined}
+use Rattle.word.proofs.JoinLaws.{joined-length}
 use Rattle.word.proofs.WritingLaws.{Writing, writing-start, writing-past, writing-end}
 use Rattle.set_file.specs.Code.{inTurn}
 use Rattle.word.proofs.BoolLaws.{or-false, or-false-left, or-false-right}
@@ -52,12 +54,12 @@ turn-length b l t h = simp (length-take, length-drop) (omega arith)
 
 pub in-turn-length : (b : ℕ) (v k : List ℕ) (t : ℕ) → b * t ≤ length v → b * t ≤ length k → length (inTurn b v k t) ≡ 2 * (b * t)
 unfolding inTurn
-in-turn-length b v k zero hv hk = omega arith
-in-turn-length b v k (suc t) hv hk =
-    let hv′ : b * t + b ≤ length v = rw mul-suc at hv in
-    let hk′ : b * t + b ≤ length k = rw mul-suc at hk in
-    simp length-append
-    (omega (arith, in-turn-length b v k t (omega arith) (omega arith), turn-length b v t hv′, turn-length b k t hk′, mul-suc b t))
+in-turn-length b v k t hv hk =
+    joined-length (2 * b) (λ i. take b (drop (b * i) v) ++ take b (drop (b * i) k)) t
+    (λ i l.
+    length-append (take b (drop (b * i) v)) (take b (drop (b * i) k))
+    ∙ omega (arith, turn-length b v i (omega (arith, row-step b i t l)), turn-length b k i (omega (arith, row-step b i t l))))
+    ∙ mul-assoc 2 b t
 
 -- the first t rows of v and of k have been written in turn from place `at` of l₀ on, and the next ones go to place `to`
 pub record Turned (b : ℕ) (v k l₀ l : List ℕ) (at t from to : ℕ) : Type 0 where
@@ -69,7 +71,7 @@ pub record Turned (b : ℕ) (v k l₀ l : List ℕ) (at t from to : ℕ) : Type 
   pub done : l ≡ sets l₀ at (inTurn b v k t)
 
 pub turned-start : (b : ℕ) (v k l : List ℕ) (at : ℕ) → Turned b v k l l at 0 0 at
-unfolding inTurn
+unfolding inTurn joined
 turned-start b v k l at =
     record { source = omega arith; place = omega arith; inside-v = omega arith; inside-k = omega arith; long = refl; done = refl }
 
@@ -79,7 +81,7 @@ pub turned-turn : (b : ℕ) (v k l₀ l l₁ l₂ : List ℕ) (at t from to : �
     → l₁ ≡ sets l to (take (from + b - from) (drop from v))
     → l₂ ≡ sets l₁ (to + b) (take (from + b - from) (drop from k))
     → Turned b v k l₀ l₂ at (t + 1) (from + b) (to + 2 * b)
-unfolding inTurn
+unfolding inTurn joined
 turned-turn b v k l₀ l l₁ l₂ at t from to r hv hk e₁ e₂ = record {
   source = omega (arith, r .source, mul-add b t 1, mul-one b);
   place = omega (arith, r .place);

@@ -7,6 +7,7 @@ pub mod SpanLaws
 pub mod ByteLaws
 pub mod FileLaws
 pub mod WritingLaws
+pub mod JoinLaws
 pub mod FrontLaws
 pub mod ReplyLaws
 pub mod TestLaws
