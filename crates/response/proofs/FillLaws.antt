@@ -15,7 +15,7 @@ use Rattle.response.specs.Later.{later}
 use Rattle.response.specs.Columns.{listed, sliceColumns, columnsBelow}
 use Rattle.response.specs.Code.{circuit, markCells, chosenWords, back}
 use Rattle.response.proofs.ColumnLaws.{column-closed}
-use Rattle.response.proofs.PlaceLaws.{take-limit}
+use Rattle.word.proofs.PartLaws.{take-limit}
 use Rattle.response.proofs.BackLaws.{rest, rest-none, rest-suc, rest-whole, back-none, back-length, back-more, back-more-room}
 
 later-zero : (k : Circuit) (j : ℕ) → later k j 0 ≡ 0

@@ -7,13 +7,14 @@ use native.Mathlib.Omega.{arith}
 use lib.Bits.{bitXor}
 use lib.ListN.{length, take, drop, getD, length-take}
 use lib.Seq.{take-all}
+use Rattle.word.proofs.PartLaws.{take-limit}
 use Rattle.word.proofs.FileLaws.{part-small}
 use Rattle.register.specs.Row.{cell, rowBytes}
 use Rattle.register.specs.Circuit.{advanced, driven, clocked}
 use Rattle.response.specs.Signature.{runs, signature}
 use Rattle.response.specs.Code.{circuit, valueCells, rowsFrom, halfByte, looked}
 use Rattle.response.proofs.SignatureLaws.{runs-none, runs-suc}
-use Rattle.response.proofs.PlaceLaws.{take-limit, Placed, placed-starts, placed-turns}
+use Rattle.response.proofs.PlaceLaws.{Placed, placed-starts, placed-turns}
 use Rattle.response.proofs.TableLaws.{looked-drives, half-byte-take}
 
 module _ (m t : ℕ) (ws l : List ℕ) (i d b : ℕ) where

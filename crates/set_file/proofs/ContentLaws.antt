@@ -21,14 +21,13 @@ use Rattle.register.specs.Circuit.{badChains}
 use Rattle.set_file.specs.Layout.{setLength}
 use Rattle.set_file.specs.Writing.{SetContent, contentOf, chainCount, listRow, sliceBytes, setBytes, badRows, spareInLists, valuedInLists}
 use Rattle.set_file.specs.Code.{sharesBit, inTurn}
-use Rattle.set_file.proofs.LayoutLaws.{list-row-length}
+use Rattle.set_file.proofs.LayoutLaws.{good-chains, list-row-length}
 use Rattle.set_file.proofs.RangeLaws.{any-below-blocks}
 use Rattle.set_file.proofs.RowLaws.{valued-bytes}
 use Rattle.set_file.proofs.WriteLaws.{in-turn-length}
 
 pub chains-small : (n : ℕ) (r : Bool) → r ≡ badChains n → r ≡ false → n < 65536
-unfolding badChains
-chains-small n r e h = omega (arith, ltb-false 256 n (or-false-right (ltb n 1) (ltb 256 n) (sym e ∙ h)))
+chains-small n r e h = omega (arith, good-chains n (sym e ∙ h) .1)
 
 pub slices-small : (s : ℕ) (r : Bool) → r ≡ ltb 512 s → r ≡ false → s < 65536
 slices-small s r e h = omega (arith, ltb-false 512 s (sym e ∙ h))

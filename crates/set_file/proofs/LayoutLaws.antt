@@ -1,20 +1,30 @@
--- The set's words and rows: how many, and which stands where. Assumes nothing.
+-- The set's chains, words and rows: how many, and which stands where. Assumes nothing.
 use mathlib.Core.Path.{_≡_, refl, sym, ap, _∙_}
+use mathlib.Core.Bool.{false}
 use mathlib.Core.List.{List, []}
 use Prim.Native.Nat.{ℕ, _+_, _*_, _≤_, _<_}
 use native.Mathlib.Nat.{mul-le-mul-left, mul-suc}
 use native.Mathlib.Numerals.{add-one}
 use native.Mathlib.Omega.{arith}
+use borrow.Author.Tests.{ltb-false}
+use lib.Dec.{ltb}
 use lib.ListN.{length, getD, take, set, length-take, length-drop}
 use Rattle.word.specs.Bytes.{wordAt, wordsAt}
 use Rattle.word.specs.Reply.{front}
+use Rattle.word.proofs.BoolLaws.{or-false-left, or-false-right}
 use Rattle.word.proofs.FrontLaws.{front-next, front-nothing, front-whole}
 use Rattle.word.proofs.FileLaws.{word-at-place}
 use Rattle.register.specs.Row.{rowBytes}
+use Rattle.register.specs.Circuit.{badChains}
 use Rattle.set_file.specs.Layout.{spreadAt}
 use Rattle.set_file.specs.Writing.{listRow}
 use Rattle.set_file.specs.Code.{noWords}
 use Rattle.word.proofs.ByteLaws.{length-words-at}
+
+pub good-chains : (n : ℕ) → badChains n ≡ false → (1 ≤ n) × (n ≤ 256)
+unfolding badChains
+good-chains n h =
+    (ltb-false n 1 (or-false-left (ltb n 1) (ltb 256 n) h), ltb-false 256 n (or-false-right (ltb n 1) (ltb 256 n) h))
 
 pub no-words-length : length noWords ≡ 256
 unfolding noWords

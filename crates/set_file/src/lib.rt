@@ -1,7 +1,7 @@
 // The set file of document 01: its reader, the rows of one slice, and its writer.
 ghost use mathlib.Core.Path.{_≡_};
 ghost use mathlib.Core.Bool.{false, not, _||_};
-ghost use Prim.Native.Nat.{min, _*_, _≤_, _<_};
+ghost use Prim.Native.Nat.{min, _*_, _≤_};
 ghost use lib.Dec.{eqb, ltb};
 ghost use lib.ListN.{length};
 ghost use lib.Seq.{sets};
@@ -183,8 +183,9 @@ fn has_wrong_length(set: &[u8]) -> bool
     set.len() != set_length(chain_count(set), slice_count(set))
 }
 
-// Whether one of the first `count` rows of a list of rows of n chains has a spare bit set.
-fn has_spare_row(n: usize, rows: &[u8], count: usize) -> bool
+// Whether one of the first `count` rows of a list of rows of n chains has a spare bit set; a row past the end of the list is
+// all 0. It meets no number.
+pub fn has_spare_row(n: usize, rows: &[u8], count: usize) -> bool
     ensures { λ r. ⌜ r ≡ anyBelow count (λ t. spareSet n (listRow n (now (rows .entry)) t)) ⌝ }
 {
     let bytes = register::row_bytes(n);
@@ -374,28 +375,28 @@ pub fn mark_place(set: &[u8], slice: u64) -> Place
     }
 }
 
+// The part of the set that a place names; empty where it is declined.
+fn stretch_at(set: &[u8], place: Place) -> &[u8]
+    ensures { λ r. ⌜ now r ≡ stretch (saidPlace place) (now (set .entry)) ⌝ }
+{
+    let Place::At { start, bytes } = place else {
+        return &set[..0];
+    };
+    word::part(set, start, bytes)
+}
+
 // The value row of a slice, the stretch of the set itself; empty where `value_place` declines.
 pub fn value_row(set: &[u8], slice: u64) -> &[u8]
     ensures { λ r. ⌜ now r ≡ stretch (valueReply (now (set .entry)) slice) (now (set .entry)) ⌝ }
 {
-    let place = value_place(set, slice);
-    let Place::At { start, bytes } = place else {
-        return &set[..0];
-    };
-    let end = start + bytes;
-    &set[start..end]
+    stretch_at(set, value_place(set, slice))
 }
 
 // The row of unknown marks of a slice, the stretch of the set itself; empty where `mark_place` declines.
 pub fn mark_row(set: &[u8], slice: u64) -> &[u8]
     ensures { λ r. ⌜ now r ≡ stretch (markReply (now (set .entry)) slice) (now (set .entry)) ⌝ }
 {
-    let place = mark_place(set, slice);
-    let Place::At { start, bytes } = place else {
-        return &set[..0];
-    };
-    let end = start + bytes;
-    &set[start..end]
+    stretch_at(set, mark_place(set, slice))
 }
 
 // Whether the length of a list of rows isn't that of s rows of n chains.

@@ -8,6 +8,7 @@ pub mod ByteLaws
 pub mod FileLaws
 pub mod WritingLaws
 pub mod JoinLaws
+pub mod PartLaws
 pub mod FrontLaws
 pub mod ReplyLaws
 pub mod TestLaws
