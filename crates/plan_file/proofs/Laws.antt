@@ -4,16 +4,16 @@
 --   Taken, taken      what is known of a plan that meets none of the numbers 19 to 22
 --   taken-bits        .. its expected bits are the 8 bytes from their place on, as many as there are
 -- Assumes nothing.
-use mathlib.Core.Path.{_≡_, refl}
+use mathlib.Core.Path.{_≡_}
 use mathlib.Core.Bool.{Bool, true, false, not, _||_}
-use mathlib.Core.List.{List, [], _∷_, _++_}
-use Prim.Native.Nat.{ℕ, _+_, _^_, _<_, _≤_}
+use mathlib.Core.List.{List, _++_}
+use Prim.Native.Nat.{ℕ, _^_, _<_, _≤_}
 use native.Mathlib.Omega.{arith}
 use borrow.Author.Tests.{eqb-true, not-false}
 use lib.Dec.{eqb, ltb}
 use lib.ListN.{length}
 use Rattle.word.specs.Bytes.{wordAt}
-use Rattle.word.specs.Reply.{Test, _when_, firstOf}
+use Rattle.word.specs.Reply.{Test, firstOf}
 use Rattle.word.proofs.BoolLaws.{or-false-left, or-false-right}
 use Rattle.word.proofs.ReplyLaws.{none-applies}
 use Rattle.word.proofs.WordLaws.{within}

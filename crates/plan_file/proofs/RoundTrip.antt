@@ -10,20 +10,21 @@
 use mathlib.Core.Path.{_≡_, refl, sym, ap, ap₂, _∙_, subst}
 use mathlib.Core.Bool.{true, false, not, _&&_}
 use mathlib.Core.List.{List, [], _∷_, _++_, append-assoc, append-nil}
-use Prim.Native.Nat.{ℕ, zero, suc, _+_, _*_, _^_, _<_, _≤_}
-use native.Mathlib.Nat.{mod-eq-of-lt, lt-of-lt-of-le, pow-suc}
+use Prim.Native.Nat.{ℕ, zero, suc, _*_, _^_, _<_, _≤_}
+use native.Mathlib.Nat.{lt-of-lt-of-le}
 use native.Mathlib.Omega.{arith}
 use borrow.Author.Tests.{ltb-false, le-ltb, eq-eqb, not-true, not-false}
 use lib.Dec.{eqb, ltb, lit<}
-use lib.ListN.{length, take, drop, getD, length-append, length-take, length-drop, take-append-drop}
-use lib.Pow.{pow-mono, pow-add}
-use lib.Seq.{take-all, take-add, drop-drop, getD-drop}
+use lib.ListN.{length, take, drop, getD, length-append, length-drop}
+use lib.Pow.{pow-mono}
+use lib.Seq.{take-all}
 use Rattle.word.specs.Word.{badWidth, beyond}
 use Rattle.word.specs.Some.{allOf}
-use Rattle.word.specs.Bytes.{number, numberAt, countAt, wordAt, wordsAt, bytesOf, wordBytes}
+use Rattle.word.specs.Bytes.{numberAt, countAt, wordsAt, bytesOf, wordBytes}
 use Rattle.word.specs.Reply.{firstOf}
 use Rattle.word.proofs.BoolLaws.{and-left, and-right, or-false-left, or-false-right}
-use Rattle.word.proofs.ByteLaws.{bytes-of-length, number-at-append, number-bytes-of, bytes-of-number, length-word-bytes}
+use Rattle.word.proofs.ByteLaws.{bytes-of-length, length-word-bytes}
+use Rattle.word.proofs.FileLaws.{number-back, words-back, pow-bytes, number-bytes, words-bytes, part-joins}
 use Rattle.word.proofs.WordLaws.{good-width, within, not-beyond}
 use Rattle.elimination.specs.Reduced.{isReduced, ascending, topsClear}
 use Rattle.plan_file.specs.Layout.{againAt, bitBytes, bitsAt, planLength, widthOf, countOf, wordsOf, againOf, expectedOf}
@@ -76,49 +77,17 @@ taken-back plan t =
 
 -- ---- the parts of the file that was written
 
--- a number that fits its bytes is read back where they begin
-number-back : (k x : ℕ) (a b : List ℕ) (i : ℕ) → length a ≡ i → x < 256 ^ k → numberAt k (a ++ (bytesOf k x ++ b)) i ≡ x
-number-back k x a b i e h =
-    ap₂ (λ (s : List ℕ) (n : ℕ). numberAt k s n) (sym (append-assoc a (bytesOf k x) b)) (sym e)
-    ∙ number-at-append k a (bytesOf k x) b (bytes-of-length k x) ∙ number-bytes-of k x ∙ mod-eq-of-lt h
-
-data Below (b : ℕ) : List ℕ → Type 0 where
-  below-nil : Below b []
-  below-cons : {w : ℕ} {ws : List ℕ} → w < b → Below b ws → Below b (w ∷ ws)
-
-words-back : (ws a b : List ℕ) (i : ℕ) → length a ≡ i → Below (256 ^ 8) ws → wordsAt (a ++ (wordBytes ws ++ b)) i (length ws) ≡ ws
-unfolding wordsAt wordBytes
-words-back [] a b i e below-nil = refl
-words-back (w ∷ ws) a b i e (below-cons h r) =
-    let first : a ++ (bytesOf 8 w ++ wordBytes ws ++ b) ≡ a ++ (bytesOf 8 w ++ (wordBytes ws ++ b)) =
-    ap (λ (l : List ℕ). a ++ l) (append-assoc (bytesOf 8 w) (wordBytes ws) b)
-    in
-    let later : a ++ (bytesOf 8 w ++ wordBytes ws ++ b) ≡ a ++ bytesOf 8 w ++ (wordBytes ws ++ b) =
-    first ∙ sym (append-assoc a (bytesOf 8 w) (wordBytes ws ++ b))
-    in
-    let long : length (a ++ bytesOf 8 w) ≡ i + 8 = length-append a (bytesOf 8 w) ∙ omega (arith, bytes-of-length 8 w) in
-    ap₂ (λ (x : ℕ) (l : List ℕ). x ∷ l)
-    (ap (λ (s : List ℕ). wordAt s i) first ∙ number-back 8 w a (wordBytes ws ++ b) i e h)
-    (ap (λ (s : List ℕ). wordsAt s (i + 8) (length ws)) later ∙ words-back ws (a ++ bytesOf 8 w) b (i + 8) long r)
-
-listed-below : (m : ℕ) (ws : List ℕ) → m ≤ 64 → allOf (λ w. not (eqb w 0) && not (beyond m w)) ws ≡ true → Below (256 ^ 8) ws
+listed-below : (m : ℕ) (ws : List ℕ) → m ≤ 64 → allOf (λ w. not (eqb w 0) && not (beyond m w)) ws ≡ true → (j : ℕ) → getD ws j 0 < 256 ^ 8
 unfolding allOf
-listed-below m [] h e = below-nil
-listed-below m (w ∷ ws) h e =
+listed-below m [] h e j = lit< tt
+listed-below m (w ∷ ws) h e zero =
     let here = and-left (not (eqb w 0) && not (beyond m w)) _ e in
-    below-cons
-    (lt-of-lt-of-le (within m w (not-true _ (and-right (not (eqb w 0)) _ here))) (pow-mono h))
-    (listed-below m ws h (and-right (not (eqb w 0) && not (beyond m w)) _ e))
+    lt-of-lt-of-le (within m w (not-true _ (and-right (not (eqb w 0)) _ here))) (pow-mono h)
+listed-below m (w ∷ ws) h e (suc j) = listed-below m ws h (and-right (not (eqb w 0) && not (beyond m w)) _ e) j
 
-reduced-below : (m : ℕ) (ws : List ℕ) → m ≤ 64 → isReduced m ws ≡ true → Below (256 ^ 8) ws
+reduced-below : (m : ℕ) (ws : List ℕ) → m ≤ 64 → isReduced m ws ≡ true → (j : ℕ) → getD ws j 0 < 256 ^ 8
 unfolding isReduced
 reduced-below m ws h e = listed-below m ws h (and-left _ (ascending ws && topsClear ws) e)
-
-pow-bytes : (k : ℕ) → 256 ^ k ≡ 2 ^ (8 * k)
-pow-bytes zero = refl
-pow-bytes (suc k) =
-    let split : 8 * suc k ≡ 8 * k + 8 = omega arith in
-    pow-suc 256 k ∙ ap (λ (x : ℕ). x * 256) (pow-bytes k) ∙ sym (ap (λ (x : ℕ). 2 ^ x) split ∙ pow-add 2 (8 * k) 8)
 
 -- q bits fit their bytes
 bits-fit : (q e : ℕ) → e < 2 ^ q → e < 256 ^ bitBytes q
@@ -198,37 +167,6 @@ module _ (k : PlanContent) (c : Content k) where
       })
 
 -- ---- a plan of bytes, part after part
-
-take-small : (k : ℕ) (l : List ℕ) → ((j : ℕ) → getD l j 0 < 256) → (j : ℕ) → getD (take k l) j 0 < 256
-take-small zero l h j = lit< tt
-take-small (suc k) [] h j = lit< tt
-take-small (suc k) (x ∷ l) h zero = h zero
-take-small (suc k) (x ∷ l) h (suc j) = take-small k l (λ i. h (suc i)) j
-
-module _ (s : List ℕ) (small : (i : ℕ) → getD s i 0 < 256) where
-  part-small : (i k j : ℕ) → getD (take k (drop i s)) j 0 < 256
-  part-small i k j = take-small k (drop i s) (λ n. rw getD-drop (small (i + n))) j
-
-  number-bytes : (k i : ℕ) → i + k ≤ length s → bytesOf k (numberAt k s i) ≡ take k (drop i s)
-  unfolding numberAt
-  number-bytes k i h =
-      let long : length (take k (drop i s)) ≡ k = length-take k (drop i s) ∙ omega (arith, length-drop i s) in
-      ap (λ (n : ℕ). bytesOf n (number (take k (drop i s)))) (sym long) ∙ bytes-of-number (take k (drop i s)) (part-small i k)
-
-  words-bytes : (k i : ℕ) → i + 8 * k ≤ length s → wordBytes (wordsAt s i k) ≡ take (8 * k) (drop i s)
-  unfolding wordBytes wordsAt
-  words-bytes zero i h = refl
-  words-bytes (suc k) i h =
-      let more : 8 * suc k ≡ 8 + 8 * k = omega arith in
-      ap₂ (λ (a b : List ℕ). a ++ b) (number-bytes 8 i (omega arith)) (words-bytes k (i + 8) (omega arith))
-      ∙ ap (λ (l : List ℕ). take 8 (drop i s) ++ take (8 * k) l) (sym (drop-drop 8 i s))
-      ∙ sym (take-add 8 (8 * k) (drop i s)) ∙ ap (λ (n : ℕ). take n (drop i s)) (sym more)
-
--- a part and what follows it
-part-joins : (s : List ℕ) (i n j : ℕ) → i + n ≡ j → take n (drop i s) ++ drop j s ≡ drop i s
-part-joins s i n j e =
-    ap (λ (x : ℕ). take n (drop i s) ++ drop x s) (sym e)
-    ∙ ap (λ (l : List ℕ). take n (drop i s) ++ l) (sym (drop-drop n i s)) ∙ take-append-drop n (drop i s)
 
 pub plan-of-content : (plan : List ℕ) → ((i : ℕ) → getD plan i 0 < 256) → firstOf (planTests plan) ≡ 0
     → planBytes (contentOf (widthOf plan) (wordsOf plan) (expectedOf plan)) ≡ plan

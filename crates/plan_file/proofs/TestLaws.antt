@@ -6,22 +6,14 @@ use Prim.Native.Nat.{ℕ, _+_, _*_, _/_, _≤_}
 use native.Mathlib.Omega.{arith}
 use borrow.Author.Tests.{ltb-false, le-ltb, eq-eqb, ne-eqb}
 use lib.Dec.{eqb, ltb}
-use lib.ListN.{length, drop, length-drop}
-use lib.Seq.{take-all}
+use lib.ListN.{length}
 use Rattle.word.specs.Word.{badWidth, beyond}
-use Rattle.word.specs.Bytes.{number, numberAt, countAt, wordAt}
+use Rattle.word.specs.Bytes.{countAt, wordAt}
 use Rattle.word.proofs.BoolLaws.{or-false-left, or-false-right, or-true-left, or-true-right}
+use Rattle.word.proofs.FileLaws.{number-to-end}
 use Rattle.word.proofs.WordLaws.{good-width}
 use Rattle.plan_file.specs.Layout.{againAt, bitsAt, bitBytes, planLength, widthOf, countOf, againOf, expectedOf}
 use Rattle.plan_file.specs.Reading.{badPlanWidth, badPlanCount, badPlanEnd}
-
--- of two numbers that reach the end of the list neither sees a byte more
-pub number-to-end : (j k : ℕ) (s : List ℕ) (i : ℕ) → length s ≤ i + j → length s ≤ i + k → numberAt j s i ≡ numberAt k s i
-unfolding numberAt
-number-to-end j k s i a b =
-    let short : length (drop i s) ≤ j = omega (arith, length-drop i s) in
-    let short′ : length (drop i s) ≤ k = omega (arith, length-drop i s) in
-    ap number (take-all j (drop i s) short ∙ sym (take-all k (drop i s) short′))
 
 -- in a plan of the exact length the expected bits of at most 64 words are the word at their place
 pub bits-to-end : (plan : List ℕ) → length plan ≡ planLength (countOf plan) → countOf plan ≤ 64

@@ -2,25 +2,17 @@
 use mathlib.Core.Path.{_≡_, refl, sym, ap, _∙_}
 use mathlib.Core.Bool.{Bool, true, false, not}
 use mathlib.Core.List.{List}
-use Prim.Native.Nat.{ℕ, zero, suc, _+_, _*_, _<_, _≤_}
-use native.Mathlib.Nat.{not-suc-le-zero, le-of-suc-le-suc}
+use Prim.Native.Nat.{ℕ, _+_, _*_, _<_, _≤_}
 use native.Mathlib.Omega.{arith}
 use lib.ListN.{length, getD, drop}
-use Rattle.word.specs.Bytes.{wordAt, wordsAt}
+use Rattle.word.specs.Bytes.{wordAt}
 use Rattle.word.proofs.ByteLaws.{length-words-at}
+use Rattle.word.proofs.FileLaws.{word-at-place}
 use Rattle.elimination.specs.Reduced.{isReduced}
 use Rattle.elimination.specs.Pass.{follows, withTop, onePass}
 use Rattle.elimination.proofs.Theorems.{reduced-exactly}
 use Rattle.elimination.proofs.LoopLaws.{pass-stop, pass-turn, pass-end}
 use Rattle.plan_file.specs.Layout.{widthOf, countOf, wordsOf}
-
--- word j of k words from place i
-pub word-at-place : (s : List ℕ) (i k j : ℕ) → j < k → getD (wordsAt s i k) j 0 ≡ wordAt s (i + 8 * j)
-unfolding wordsAt
-word-at-place s i zero j h = absurd (not-suc-le-zero h)
-word-at-place s i (suc k) zero h = ap (wordAt s) (omega arith)
-word-at-place s i (suc k) (suc j) h =
-    word-at-place s (i + 8) k j (le-of-suc-le-suc h) ∙ ap (wordAt s) (omega arith)
 
 pub plan-words-length : (plan : List ℕ) → length (wordsOf plan) ≡ countOf plan
 plan-words-length plan = length-words-at plan 4 (countOf plan)

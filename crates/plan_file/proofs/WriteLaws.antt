@@ -1,19 +1,19 @@
 -- The plan file as it is written, part after part, and each way out of the plan writer. Assumes nothing.
-use mathlib.Core.Path.{_≡_, refl, sym, ap, ap₂, _∙_}
+use mathlib.Core.Path.{_≡_, sym, ap, ap₂, _∙_}
 use mathlib.Core.Bool.{Bool, true, false, not, _||_}
-use mathlib.Core.List.{List, [], _∷_, _++_, append-assoc, append-nil}
+use mathlib.Core.List.{List}
 use Prim.Native.Nat.{ℕ, suc, _+_, _-_, _*_, _/_, _%_, _<_, _≤_}
-use native.Mathlib.Nat.{add-zero, zero-add, le-of-lt}
-use native.Mathlib.Numerals.{add-one}
+use native.Mathlib.Nat.{add-zero}
 use native.Mathlib.Omega.{arith}
 use borrow.Author.Tests.{ltb-false, lt-ltb, le-ltb}
 use lib.Dec.{ltb}
-use lib.ListN.{length, take, drop, getD, set, length-append}
-use lib.Seq.{take-suc, take-all, length-take-le, sets, sets-eq, length-sets}
+use lib.ListN.{length, set, length-append}
+use lib.Seq.{sets, length-sets}
 use Rattle.word.specs.Word.{badWidth, beyond}
 use Rattle.word.specs.Bytes.{bytesOf, wordBytes}
 use Rattle.word.specs.Reply.{Reply, answer, refusal, replied, firstOf, front, lent}
-use Rattle.word.proofs.ByteLaws.{bytes-of-length, length-word-bytes, sets-append}
+use Rattle.word.proofs.ByteLaws.{bytes-of-length, length-word-bytes}
+use Rattle.word.proofs.FileLaws.{sets-parts, front-sets}
 use Rattle.word.proofs.ReplyLaws.{replied-refusal, none-applies}
 use Rattle.word.proofs.WordLaws.{good-width}
 use Rattle.elimination.specs.Reduced.{isReduced}
@@ -23,35 +23,6 @@ use Rattle.plan_file.specs.Layout.{planLength}
 use Rattle.plan_file.specs.Writing.{PlanContent, contentOf, wordCount, planBytes, writeTests, writeReply, saidWritten}
 use Rattle.plan_file.specs.declared.Written.{Written}
 use Rattle.plan_file.specs.declared.Written.the-variants.{Done, Refused}
-
--- ---- the words
-
-word-bytes-append : (a b : List ℕ) → wordBytes (a ++ b) ≡ wordBytes a ++ wordBytes b
-unfolding wordBytes
-word-bytes-append [] b = refl
-word-bytes-append (w ∷ a) b = ap (λ (l : List ℕ). bytesOf 8 w ++ l) (word-bytes-append a b) ∙ sym (append-assoc (bytesOf 8 w) (wordBytes a) (wordBytes b))
-
-word-bytes-one : (w : ℕ) → wordBytes (w ∷ []) ≡ bytesOf 8 w
-unfolding wordBytes
-word-bytes-one w = append-nil (bytesOf 8 w)
-
-pub words-start : (l : List ℕ) → l ≡ sets l 4 (wordBytes [])
-unfolding wordBytes
-words-start l = refl
-
-pub words-turn : (ws l l′ l″ : List ℕ) (i : ℕ) → l′ ≡ sets l 4 (wordBytes (take i ws)) → l″ ≡ sets l′ (4 + 8 * i) (bytesOf 8 (getD ws i 0))
-    → i < length ws → l″ ≡ sets l 4 (wordBytes (take (i + 1) ws))
-words-turn ws l l′ l″ i e f h =
-    let long : 4 + 8 * i ≡ 4 + length (wordBytes (take i ws)) = omega (arith, length-word-bytes (take i ws), length-take-le i ws (le-of-lt h)) in
-    let more : wordBytes (take (i + 1) ws) ≡ wordBytes (take i ws) ++ bytesOf 8 (getD ws i 0) =
-    ap wordBytes (ap (λ (n : ℕ). take n ws) (add-one i) ∙ take-suc ws i 0 h)
-    ∙ word-bytes-append (take i ws) (getD ws i 0 ∷ []) ∙ ap (λ (l : List ℕ). wordBytes (take i ws) ++ l) (word-bytes-one (getD ws i 0))
-    in
-    f ∙ ap₂ (λ (s : List ℕ) (n : ℕ). sets s n (bytesOf 8 (getD ws i 0))) e long
-    ∙ sym (sets-append (wordBytes (take i ws)) (bytesOf 8 (getD ws i 0)) l 4) ∙ ap (sets l 4) (sym more)
-
-pub words-end : (ws l l′ : List ℕ) (i : ℕ) → length ws ≤ i → l′ ≡ sets l 4 (wordBytes (take i ws)) → l′ ≡ sets l 4 (wordBytes ws)
-words-end ws l l′ i h e = e ∙ ap (λ (x : List ℕ). sets l 4 (wordBytes x)) (take-all i ws h)
 
 -- ---- the low bytes of a word: those still to be written stand in `rest`
 
@@ -82,10 +53,6 @@ unfolding planBytes
 length-plan-bytes k =
     simp (length-append, bytes-of-length, length-word-bytes) (omega arith)
 
--- a write of two parts, the second of which begins at place j
-sets-parts : (a b l : List ℕ) (i j : ℕ) → i + length a ≡ j → sets l i (a ++ b) ≡ sets (sets l i a) j b
-sets-parts a b l i j e = sets-append a b l i ∙ ap (λ (n : ℕ). sets (sets l i a) n b) e
-
 written-file : (m : ℕ) (ws : List ℕ) (e : ℕ) (l : List ℕ)
     → sets l 0 (planBytes (contentOf m ws e))
     ≡ sets (sets (sets (sets (sets l 0 (bytesOf 2 m)) 2 (bytesOf 2 (length ws))) 4 (wordBytes ws)) (4 + 8 * length ws) (bytesOf 2 (length ws))) (6 + 8 * length ws) (bytesOf ((length ws + 7) / 8) e)
@@ -97,11 +64,6 @@ written-file m ws e l =
     ∙ sets-parts (bytesOf 2 q) _ _ 2 4 (omega (arith, bytes-of-length 2 q))
     ∙ sets-parts (wordBytes ws) _ _ 4 (4 + 8 * q) (omega (arith, length-word-bytes ws))
     ∙ sets-parts (bytesOf 2 q) bits _ (4 + 8 * q) (6 + 8 * q) (omega (arith, bytes-of-length 2 q))
-
-front-sets : (vs l : List ℕ) → length vs ≤ length l → sets l 0 vs ≡ front vs l
-unfolding front
-front-sets vs l h =
-    sets-eq vs l 0 (omega arith) ∙ ap (λ (n : ℕ). vs ++ drop n l) (zero-add (length vs))
 
 same-long : (l l′ vs : List ℕ) (i : ℕ) → l′ ≡ sets l i vs → length l′ ≡ length l
 same-long l l′ vs i e = ap length e ∙ length-sets l i vs

@@ -8,7 +8,7 @@
 --   writeTests k room    the numbers that the writer meets, in order, for an output of `room` bytes
 --   writeReply k room    its reply: the length of the file
 --   saidWritten w        the paper's reading of what the writer hands back
-use mathlib.Core.Bool.{Bool, not, _||_}
+use mathlib.Core.Bool.{not, _||_}
 use mathlib.Core.List.{List, [], _∷_, _++_}
 use Prim.Native.Nat.{ℕ}
 use lib.Dec.{ltb}

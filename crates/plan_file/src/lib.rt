@@ -5,7 +5,7 @@ ghost use Prim.Native.Nat.{_+_, _*_, _<_, _≤_};
 ghost use lib.Dec.{ltb};
 ghost use lib.ListN.{length};
 ghost use lib.Seq.{sets};
-ghost use Rattle.word.specs.Bytes.{wordAt, bytesOf, wordBytes};
+ghost use Rattle.word.specs.Bytes.{wordAt, bytesOf};
 ghost use Rattle.word.specs.Reply.{firstOf, front, lent};
 ghost use Rattle.elimination.specs.Reduced.{isReduced};
 ghost use Rattle.plan_file.specs.Layout.{wordsPlace, bitsAt, planLength, widthOf, countOf, wordsOf};
@@ -219,17 +219,6 @@ fn write_refusal(m: u64, words: &[u64], expected: u64, room: usize) -> u64
     0
 }
 
-// The words at their places in the file.
-fn write_words(words: &[u64], out: &mut [u8])
-    ensures { λ _. ⌜ now (out .exit) ≡ sets (now (out .entry)) wordsPlace (wordBytes (now (words .entry))) ⌝ }
-{
-    let mut i: usize = 0;
-    while i < words.len() {
-        word::write_word(out, 4 + 8 * i, words[i]);
-        i += 1;
-    }
-}
-
 // The n low bytes of x at place `at` of out, where they fit.
 fn write_low_bytes(out: &mut [u8], at: usize, n: usize, x: u64)
     ensures { λ _. ⌜ (at + n ≤ length (now (out .entry)) → now (out .exit) ≡ sets (now (out .entry)) at (bytesOf n x)) ⌝ }
@@ -256,7 +245,7 @@ fn write_file(m: u64, words: &[u64], expected: u64, out: &mut [u8])
     let q = words.len();
     word::write_count(out, 0, m);
     word::write_count(out, 2, q as u64);
-    write_words(words, out);
+    word::write_words(out, 4, words);
     word::write_count(out, 4 + 8 * q, q as u64);
     write_low_bytes(out, 6 + 8 * q, (q + 7) / 8, expected);
 }

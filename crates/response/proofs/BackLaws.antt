@@ -8,7 +8,8 @@ use native.Mathlib.Decide.{decLe}
 use native.Mathlib.Omega.{arith}
 use lib.ListN.{length, take, drop, length-append, length-take, length-drop}
 use lib.Seq.{take-all, take-take, take-at, drop-at, drop-append-le, drop-append-add, length-take-le, drop-length}
-use Rattle.response.specs.Code.{joined, back}
+use Rattle.word.specs.Joined.{joined}
+use Rattle.response.specs.Code.{back}
 
 -- ---- a list written from the end
 
@@ -79,14 +80,6 @@ pub rest : (ℕ → List ℕ) → ℕ → ℕ → List ℕ
 rest f c zero = []
 rest f c (suc j) = f c ++ rest f (suc c) j
 
-pub joined-none : (f : ℕ → List ℕ) → joined f 0 ≡ []
-unfolding joined
-joined-none f = refl
-
-pub joined-suc : (f : ℕ → List ℕ) (c : ℕ) → joined f (suc c) ≡ joined f c ++ f c
-unfolding joined
-joined-suc f c = refl
-
 pub joined-rest : (f : ℕ → List ℕ) (c j : ℕ) → joined f c ++ rest f c j ≡ joined f (c + j)
 unfolding rest joined
 joined-rest f c zero = append-nil (joined f c) ∙ ap (joined f) (sym (add-zero c))
@@ -115,8 +108,3 @@ rest-skip f c (suc i) j h =
     let b : suc c + i ≡ c + suc i = omega arith in
     ap (rest f c) a ∙ rest-suc f c (i + j) ∙ ap (λ (l : List ℕ). l ++ rest f (suc c) (i + j)) (h c (omega arith) (omega arith))
     ∙ rest-skip f (suc c) i j (λ d l m. h d (omega arith) (omega arith)) ∙ ap (λ (d : ℕ). rest f d j) b
-
-pub joined-ext : (f g : ℕ → List ℕ) (n : ℕ) → ((c : ℕ) → c < n → f c ≡ g c) → joined f n ≡ joined g n
-unfolding joined
-joined-ext f g zero h = refl
-joined-ext f g (suc n) h = ap₂ _++_ (joined-ext f g n (λ c l. h c (omega arith))) (h n (omega arith))

@@ -2,7 +2,7 @@
 use mathlib.Core.Path.{_≡_, refl, sym, ap, ap₂, _∙_}
 use mathlib.Core.Bool.{Bool, true, false, not}
 use mathlib.Core.List.{List, [], _∷_, _++_}
-use Prim.Native.Nat.{ℕ, _+_, _-_, _*_, _≤_, _<_, min}
+use Prim.Native.Nat.{ℕ, _+_, _*_, _≤_, _<_, min}
 use native.Mathlib.Omega.{arith}
 use borrow.Author.Tests.{eq-eqb, ne-eqb, lt-ltb, le-ltb}
 use lib.Dec.{eqb, ltb}
@@ -26,7 +26,7 @@ use Rattle.response.specs.Code.{circuit, markCells, marksBelow, rowsFrom
 use Rattle.response.proofs.SignatureLaws.{signature-ext}
 use Rattle.response.proofs.BackLaws.{back-whole}
 use Rattle.word.proofs.TestLaws.{numbered, first-of-later, first-of-sooner}
-use Rattle.response.proofs.PlaceLaws.{take-limit}
+use Rattle.word.proofs.PartLaws.{take-limit}
 use Rattle.response.proofs.SetLaws.{read-refused, read-none, read-chains-limit, read-slices, read-slices-limit, read-unknowns, read-circuit, read-columns, read-words-length, length-columns}
 
 set-numbered : (set : List ℕ) → numbered (setTests set) ≡ true

@@ -1,20 +1,22 @@
 -- The columns of all slices, written from the end: the start, the turn and the end of the loop over the slices. Assumes nothing.
 use mathlib.Core.Path.{_≡_, refl, sym, ap, ap₂, _∙_}
 use mathlib.Core.List.{List, [], _∷_, _++_, map, map-map}
-use Prim.Native.Nat.{ℕ, zero, suc, _+_, _-_, _≤_, _<_, min}
+use Prim.Native.Nat.{ℕ, zero, suc, _-_, _≤_, _<_, min}
 use native.Mathlib.Omega.{arith}
 use lib.ListN.{length, take, drop, getD, length-map, length-append, length-drop, List·getD-map}
 use lib.Seq.{take-at, length-take-le}
+use Rattle.word.specs.Joined.{joined}
+use Rattle.word.proofs.JoinLaws.{joined-ext}
 use Rattle.register.specs.Row.{cell}
 use Rattle.register.specs.Circuit.{Circuit, chains, advanced}
 use Rattle.register.proofs.Laws.{advanced-zero}
 use Rattle.response.specs.Signature.{Response, column}
 use Rattle.response.specs.Later.{later}
 use Rattle.response.specs.Columns.{listed, sliceColumns, columnsBelow}
-use Rattle.response.specs.Code.{circuit, markCells, joined, chosenWords, back}
+use Rattle.response.specs.Code.{circuit, markCells, chosenWords, back}
 use Rattle.response.proofs.ColumnLaws.{column-closed}
-use Rattle.response.proofs.PlaceLaws.{take-limit}
-use Rattle.response.proofs.BackLaws.{rest, rest-none, rest-suc, rest-whole, joined-ext, back-none, back-length, back-more, back-more-room}
+use Rattle.word.proofs.PartLaws.{take-limit}
+use Rattle.response.proofs.BackLaws.{rest, rest-none, rest-suc, rest-whole, back-none, back-length, back-more, back-more-room}
 
 later-zero : (k : Circuit) (j : ℕ) → later k j 0 ≡ 0
 unfolding later

@@ -9,6 +9,5 @@ pub mod CountLaws
 pub mod TableLaws
 pub mod RunLaws
 pub mod FillLaws
-pub mod SignLaws
 pub mod SetLaws
 pub mod CallLaws

@@ -1,40 +1,17 @@
--- Parts that stand in a list as far as it goes, and what each small function writes or answers. Assumes nothing.
+-- Rows that stand in a list as far as it goes, and what each small function writes or answers. Assumes nothing.
 use mathlib.Core.Path.{_≡_, refl, sym, ap, _∙_}
-use mathlib.Core.Logic.{dite}
 use mathlib.Core.List.{List, [], _∷_, _++_}
-use Prim.Native.Nat.{ℕ, zero, suc, _+_, _-_, _*_, _/_, _%_, _≤_, min}
+use Prim.Native.Nat.{ℕ, zero, suc, _+_, _-_, _*_, _/_, _%_, min}
 use native.Mathlib.Nat.{mul-suc, mul-zero}
 use native.Mathlib.Numerals.{add-one}
-use native.Mathlib.Decide.{decLe}
 use native.Mathlib.Omega.{arith}
 use borrow.Author.Tests.{eq-eqb, ne-eqb}
-use lib.ListN.{length, take, drop, getD, set, length-drop, drop-of-length-le}
-use lib.Seq.{take-all, drop-drop, set-split}
+use lib.ListN.{length, take, drop, getD, set, drop-of-length-le}
+use lib.Seq.{drop-drop, set-split}
+use Rattle.word.proofs.PartLaws.{drop-same}
 use Rattle.response.specs.Columns.{listed}
 use Rattle.response.specs.Code.{back, stepDown}
 use Rattle.response.proofs.BackLaws.{back-none, back-fits, back-empty}
-
-pub drop-same : (l : List ℕ) (i j : ℕ) → min i (length l) ≡ min j (length l) → drop i l ≡ drop j l
-drop-same l i j e =
-    dite (decLe (length l) i)
-    (λ (h : length l ≤ i). drop-of-length-le l h ∙ sym (drop-of-length-le l {i = j} (omega arith)))
-    (λ (h : length l ≤ i → ⊥). let same : i ≡ j = omega arith in ap (λ (k : ℕ). drop k l) same)
-
-pub take-same : (l : List ℕ) (i j : ℕ) → min i (length l) ≡ min j (length l) → take i l ≡ take j l
-take-same l i j e =
-    dite (decLe (length l) i)
-    (λ (h : length l ≤ i). take-all i l h ∙ sym (take-all j l (omega arith)))
-    (λ (h : length l ≤ i → ⊥). let same : i ≡ j = omega arith in ap (λ (k : ℕ). take k l) same)
-
-pub part-clamped : (l : List ℕ) (at count start end : ℕ) → start ≡ min (at + 0) (length l) → end ≡ min (start + count) (length l)
-    → take (end - start) (drop start l) ≡ take count (drop at l)
-part-clamped l at count start end es ee =
-    take-same (drop start l) (end - start) count (omega (arith, length-drop start l))
-    ∙ ap (take count) (drop-same l start at (omega arith))
-
--- a limit on how many are taken, where the list is no longer
-pub take-limit : (l : List ℕ) (n k : ℕ) → k ≡ min n (length l) → take k l ≡ take n l
-take-limit l n k e = take-same l k n (omega arith)
 
 -- ---- rows one after the other
 

@@ -1,30 +1,21 @@
 -- The rows of a response run through the register: the start, the turn and the end of the loop. Assumes nothing.
 use mathlib.Core.Path.{_≡_, refl, sym, ap, ap₂, _∙_}
-use mathlib.Core.Logic.{dite}
 use mathlib.Core.List.{List}
-use Prim.Native.Nat.{ℕ, _+_, _-_, _*_, _≤_, _<_, min}
+use Prim.Native.Nat.{ℕ, _+_, _*_, _<_, min}
 use native.Mathlib.Numerals.{add-one}
-use native.Mathlib.Decide.{decLt}
 use native.Mathlib.Omega.{arith}
 use lib.Bits.{bitXor}
-use lib.ListN.{length, take, drop, getD, length-take, List·getD-eq-default}
-use lib.Seq.{take-all, getD-take, getD-drop}
+use lib.ListN.{length, take, drop, getD, length-take}
+use lib.Seq.{take-all}
+use Rattle.word.proofs.PartLaws.{take-limit}
+use Rattle.word.proofs.FileLaws.{part-small}
 use Rattle.register.specs.Row.{cell, rowBytes}
 use Rattle.register.specs.Circuit.{advanced, driven, clocked}
 use Rattle.response.specs.Signature.{runs, signature}
 use Rattle.response.specs.Code.{circuit, valueCells, rowsFrom, halfByte, looked}
 use Rattle.response.proofs.SignatureLaws.{runs-none, runs-suc}
-use Rattle.response.proofs.PlaceLaws.{take-limit, Placed, placed-starts, placed-turns}
+use Rattle.response.proofs.PlaceLaws.{Placed, placed-starts, placed-turns}
 use Rattle.response.proofs.TableLaws.{looked-drives, half-byte-take}
-
-part-byte : (l : List ℕ) (p b i : ℕ) → ((j : ℕ) → getD l j 0 < 256) → getD (take b (drop p l)) i 0 < 256
-part-byte l p b i h =
-    dite (decLt i b)
-    (λ (n : i < b). let e : getD (take b (drop p l)) i 0 ≡ getD l (p + i) 0 = getD-take b (drop p l) i 0 n ∙ getD-drop p l i 0 in omega (arith, h (p + i)))
-    (λ (n : i < b → ⊥).
-    let past : length (take b (drop p l)) ≤ i = omega (arith, length-take b (drop p l)) in
-    let e : getD (take b (drop p l)) i 0 ≡ 0 = List·getD-eq-default (take b (drop p l)) 0 past in
-    omega arith)
 
 module _ (m t : ℕ) (ws l : List ℕ) (i d b : ℕ) where
   -- what the loop knows: the state after the first c rows, and where the next row stands
@@ -55,7 +46,7 @@ pub row-drives : (spread table l row : List ℕ) (p b drive : ℕ) → ((e : ℕ
     → drive ≡ driven (take 256 spread) (cell (take b (drop p l))) (length (take 256 spread))
 row-drives spread table l row p b drive right byte er ed =
     ed ∙ ap (λ (x : List ℕ). looked table x (min (length x) 32)) er
-    ∙ looked-drives (take 256 spread) table (take b (drop p l)) (λ e h. right e h ∙ half-byte-take spread e h) (λ i. part-byte l p b i byte)
+    ∙ looked-drives (take 256 spread) table (take b (drop p l)) (λ e h. right e h ∙ half-byte-take spread e h) (λ i. part-small l byte p b i)
     (omega (arith, length-take 256 spread)) (min (length (take b (drop p l))) 32) refl
 
 -- the limit on chains, where the words are 256

@@ -12,19 +12,18 @@
 --   entryFrom table ws e the entry e of the table of half bytes, from the entry that lacks its highest bit
 --   tableEnd n           the number of entries that can differ from 0, for n chains
 --   looked table row i   the XOR of the entries of the table for the two half bytes of each of the row's first i bytes
---   joined f c           the lists f 0, f 1, .. up to f (c - 1), one after the other
 --   chosenWords ws x c   the words of ws of the chains below c whose cell in x is 1
 --   back vs l            the list l with vs written over its end; the end of vs alone, where l is shorter
 --   stepDown row c       how many chains, chain c the last of them, are dealt with at once: 8 where they are one byte of the row
 --                        and none is marked, and 1 otherwise
 use mathlib.Core.Bool.{cond, _&&_}
-use mathlib.Core.List.{List, [], _∷_, _++_}
+use mathlib.Core.List.{List, _++_}
 use Prim.Native.Nat.{ℕ, zero, suc, _+_, _-_, _*_, _/_, _%_, _^_, min}
 use lib.Bits.{bitXor}
 use lib.Dec.{eqb, ltb}
 use lib.ListN.{length, take, drop, getD}
 use Rattle.word.specs.Word.{digit}
-use Rattle.word.specs.Reply.{Reply, answer, refusal}
+use Rattle.word.specs.Joined.{joined}
 use Rattle.register.specs.Row.{Cells, cell, rowBytes}
 use Rattle.register.specs.Circuit.{Circuit, driven}
 use Rattle.set_file.specs.Layout.{valueAt, markAt}
@@ -64,10 +63,6 @@ unfoldable pub looked : List ℕ → List ℕ → ℕ → ℕ
 looked table row zero = 0
 looked table row (suc i) =
     bitXor (bitXor (looked table row i) (getD table (32 * i + getD row i 0 % 16) 0)) (getD table (32 * i + 16 + getD row i 0 / 16) 0)
-
-unfoldable pub joined : (ℕ → List ℕ) → ℕ → List ℕ
-joined f zero = []
-joined f (suc c) = joined f c ++ f c
 
 abbrev pub chosenWords : List ℕ → Cells → ℕ → List ℕ
 chosenWords ws x c = joined (λ d. listed (x d) (getD ws d 0)) c

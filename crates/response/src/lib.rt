@@ -1,16 +1,13 @@
 // Responses: a record's signature, the signature for all unknowns 0, and the columns of the unknown cells.
 ghost use mathlib.Core.Path.{_≡_};
 ghost use mathlib.Core.List.{map};
-ghost use Prim.Native.Nat.{ℕ, min, _+_, _-_, _*_, _≤_, _<_};
+ghost use Prim.Native.Nat.{ℕ, min, _-_, _≤_, _<_};
 ghost use lib.Bits.{bitXor};
 ghost use lib.ListN.{length, take, drop, getD, replicate};
 ghost use Rattle.register.specs.Row.{cell, rowBytes};
 ghost use Rattle.register.specs.Circuit.{advanced};
 ghost use Rattle.set_file.specs.Layout.{markAt};
-ghost use Rattle.word.specs.Some.{anyBelow};
 ghost use Rattle.word.specs.Reply.{lent};
-ghost use Rattle.register.specs.Row.{spareSet};
-ghost use Rattle.set_file.specs.Writing.{listRow};
 ghost use Rattle.response.specs.Signature.{signature};
 ghost use Rattle.response.specs.Columns.{listed, columnsBelow, columnsOf, total};
 ghost use Rattle.response.specs.Signing.{signReply, saidSigned};
@@ -27,6 +24,13 @@ pub enum Signed {
 pub enum Listed {
     Count { unknowns: u64 },
     Declined { number: u64 },
+}
+
+// Where a response's rows stand: `count` bytes each, the first at place `at` and each `stride` bytes after the one before.
+struct Rows {
+    at: usize,
+    stride: usize,
+    count: usize,
 }
 
 // A number of chains, 256 at most.
@@ -51,28 +55,6 @@ fn slice_limit(s: u64) -> usize
     } else {
         largest as usize
     }
-}
-
-// The place `step` places after `at`, and no further than `end`.
-fn moved(at: usize, step: usize, end: usize) -> usize
-    ensures { λ r. ⌜ r ≡ min (at + step) end ⌝ }
-{
-    if end <= at {
-        return end;
-    }
-    if end - at < step {
-        return end;
-    }
-    at + step
-}
-
-// The `count` bytes at place `at`, as far as they are there.
-fn part(bytes: &[u8], at: usize, count: usize) -> &[u8]
-    ensures { λ r. ⌜ now r ≡ take count (drop at (now (bytes .entry))) ⌝ }
-{
-    let start = moved(at, 0, bytes.len());
-    let end = moved(start, count, bytes.len());
-    &bytes[start..end]
 }
 
 // The word of place c; 0 past the end.
@@ -148,7 +130,7 @@ fn half_bytes(spread: &[u64]) -> [u64; 1024]
 fn looked_up(table: &[u64; 1024], row: &[u8]) -> u64
     ensures { λ r. ⌜ r ≡ looked (now (table .entry)) (now (row .entry)) (min (length (now (row .entry))) 32) ⌝ }
 {
-    let count = moved(0, row.len(), 32);
+    let count = word::moved(0, row.len(), 32);
     let mut drive = 0u64;
     let mut i = 0;
     while i < count {
@@ -217,7 +199,7 @@ fn advance_words(m: u64, taps: u64, words: &mut [u64])
 fn count_row(row: &[u8]) -> u64
     ensures { λ r. ⌜ r ≡ total 256 (cell (now (row .entry))) ⌝ }
 {
-    let count = moved(0, row.len(), 32);
+    let count = word::moved(0, row.len(), 32);
     let mut found = 0u64;
     let mut i = 0;
     while i < count {
@@ -225,13 +207,6 @@ fn count_row(row: &[u8]) -> u64
         i += 1;
     }
     found
-}
-
-// Where a response's rows stand: `count` bytes each, the first at place `at` and each `stride` bytes after the one before.
-struct Rows {
-    at: usize,
-    stride: usize,
-    count: usize,
 }
 
 // The signature of the response of s slices whose rows stand in `bytes`, each lent to the register as it stands there. It meets
@@ -243,13 +218,13 @@ fn run_rows(m: u64, taps: u64, spread: &[u64], bytes: &[u8], rows: Rows, s: u64)
     let at = rows.at;
     let stride = rows.stride;
     let count = rows.count;
-    let mut place = moved(at, 0, bytes.len());
+    let mut place = word::moved(at, 0, bytes.len());
     let mut state = 0u64;
     let mut t = 0;
     while t < s {
-        let drive = looked_up(&table, part(bytes, place, count));
+        let drive = looked_up(&table, word::part(bytes, place, count));
         state = next_state(m, taps, state, drive);
-        place = moved(place, stride, bytes.len());
+        place = word::moved(place, stride, bytes.len());
         t += 1;
     }
     state
@@ -276,7 +251,7 @@ fn mark_row(set: &[u8], n: usize, t: usize) -> &[u8]
     ensures { λ r. ⌜ now r ≡ take (rowBytes n) (drop (markAt n t) (now (set .entry))) ⌝ }
 {
     let count = register::row_bytes(n);
-    part(set, 14 + 8 * n + 2 * count * t + count, count)
+    word::part(set, 14 + 8 * n + 2 * count * t + count, count)
 }
 
 // The number of unknown cells of a set that the reader has taken: it answered with these n and s. It meets no number.
@@ -323,23 +298,6 @@ pub fn fill_columns(
     }
 }
 
-// Number 13: whether one of the s rows of n chains has a spare bit set.
-fn has_spare_row(n: usize, rows: &[u8], s: usize) -> bool
-    ensures { λ r. ⌜ r ≡ anyBelow s (λ t. spareSet n (listRow n (now (rows .entry)) t)) ⌝ }
-{
-    let count = register::row_bytes(n);
-    let mut place = 0;
-    let mut t = 0;
-    while t < s {
-        if register::has_spare_bit(n, part(rows, place, count)) {
-            return true;
-        }
-        place = moved(place, count, rows.len());
-        t += 1;
-    }
-    false
-}
-
 // The signature of a record: all its cells as recorded, those of unknown cells too. It meets the set's 1 to 10, then 12 and 13.
 pub fn sign_record(set: &[u8], record: &[u8]) -> Signed
     ensures { λ r. ⌜ saidSigned r ≡ signReply (now (set .entry)) (now («record» .entry)) ⌝ }
@@ -357,7 +315,7 @@ pub fn sign_record(set: &[u8], record: &[u8]) -> Signed
     if record.len() != count * slices {
         return Signed::Refused { number: 12 };
     }
-    if has_spare_row(chains, record, slices) {
+    if set_file::has_spare_row(chains, record, slices) {
         return Signed::Refused { number: 13 };
     }
     let spread = read.spread;

@@ -5,7 +5,7 @@ use mathlib.Core.List.{List}
 use Prim.Native.Nat.{ℕ, _+_, _-_, _*_, _≤_, _<_}
 use native.Mathlib.Nat.{mul-le-mul-left, le-trans, mul-add, mul-one, mul-zero}
 use native.Mathlib.Omega.{arith}
-use borrow.Author.Tests.{ltb-false, eqb-true, not-false}
+use borrow.Author.Tests.{eqb-true, not-false}
 use lib.Dec.{eqb, ltb}
 use lib.ListN.{length, getD, take, drop, length-drop}
 use lib.Seq.{take-at, take-all}
@@ -18,6 +18,7 @@ use Rattle.set_file.specs.Layout.{spreadAt, rowsAt, setLength, widthOf, 
 use Rattle.set_file.specs.Reading.{spareInRows, valuedUnknown}
 use Rattle.set_file.specs.Writing.{listRow}
 use Rattle.set_file.specs.Code.{noWords, sharesBit}
+use Rattle.set_file.proofs.LayoutLaws.{good-chains}
 use Rattle.set_file.proofs.RangeLaws.{none-passed, one-passed, one-found, all-passed}
 use Rattle.set_file.proofs.RowLaws.{SpareRow, spare-rows-none}
 use Rattle.set_file.proofs.SliceLaws.{rowsOf, spare-of-rows, slice-inside, valued-of-bytes}
@@ -128,10 +129,7 @@ module _ (set : List ℕ) (small : (i : ℕ) → getD set i 0 < 256) where
 -- ---- what the tests before leave
 
 pub chains-fit : (set : List ℕ) (r : Bool) → r ≡ (ltb (length set) 12 || badChains (chainsOf set)) → r ≡ false → chainsOf set ≤ 256
-unfolding badChains
-chains-fit set r e h =
-    ltb-false 256 (chainsOf set)
-    (or-false-right (ltb (chainsOf set) 1) _ (or-false-right (ltb (length set) 12) _ (sym e ∙ h)))
+chains-fit set r e h = good-chains (chainsOf set) (or-false-right (ltb (length set) 12) (badChains (chainsOf set)) (sym e ∙ h)) .1
 
 pub length-fits : (set : List ℕ) (r : Bool) → r ≡ not (eqb (length set) (setLength (chainsOf set) (slicesOf set))) → r ≡ false
     → length set ≡ setLength (chainsOf set) (slicesOf set)

@@ -1,8 +1,8 @@
 -- The writer's content: its rows in two lists, tested byte by byte, and how long its file is. Assumes nothing.
 use mathlib.Core.Path.{_≡_, refl, sym, ap, ap₂, _∙_}
 use mathlib.Core.Bool.{Bool, false, not, _||_}
-use mathlib.Core.List.{List, [], _∷_, _++_}
-use Prim.Native.Nat.{ℕ, zero, suc, _+_, _*_, _<_, min}
+use mathlib.Core.List.{List}
+use Prim.Native.Nat.{ℕ, _+_, _*_, _<_, min}
 use native.Mathlib.Nat.{mul-assoc}
 use native.Mathlib.Omega.{arith}
 use borrow.Author.Tests.{ltb-false, eqb-true, not-false}
@@ -11,23 +11,23 @@ use lib.Dec.{eqb, ltb}
 use lib.ListN.{length, getD, drop, length-append}
 use lib.Seq.{getD-take, getD-drop}
 use Rattle.word.specs.Some.{anyBelow}
-use Rattle.word.specs.Bytes.{bytesOf, wordBytes}
+use Rattle.word.specs.Joined.{joined}
 use Rattle.word.proofs.SomeLaws.{any-below-ext, any-below-false}
 use Rattle.word.proofs.BoolLaws.{or-false-left, or-false-right}
 use Rattle.word.proofs.ByteLaws.{bytes-of-length, length-word-bytes}
+use Rattle.word.proofs.FileLaws.{part-small}
 use Rattle.register.specs.Row.{rowBytes, spareSet}
 use Rattle.register.specs.Circuit.{badChains}
 use Rattle.set_file.specs.Layout.{setLength}
-use Rattle.set_file.specs.Writing.{SetContent, contentOf, chainCount, listRow, slicesBytes, setBytes, badRows, spareInLists, valuedInLists}
+use Rattle.set_file.specs.Writing.{SetContent, contentOf, chainCount, listRow, sliceBytes, setBytes, badRows, spareInLists, valuedInLists}
 use Rattle.set_file.specs.Code.{sharesBit, inTurn}
-use Rattle.set_file.proofs.LayoutLaws.{list-row-length, part-bytes}
+use Rattle.set_file.proofs.LayoutLaws.{good-chains, list-row-length}
 use Rattle.set_file.proofs.RangeLaws.{any-below-blocks}
 use Rattle.set_file.proofs.RowLaws.{valued-bytes}
 use Rattle.set_file.proofs.WriteLaws.{in-turn-length}
 
 pub chains-small : (n : ℕ) (r : Bool) → r ≡ badChains n → r ≡ false → n < 65536
-unfolding badChains
-chains-small n r e h = omega (arith, ltb-false 256 n (or-false-right (ltb n 1) (ltb 256 n) (sym e ∙ h)))
+chains-small n r e h = omega (arith, good-chains n (sym e ∙ h) .1)
 
 pub slices-small : (s : ℕ) (r : Bool) → r ≡ ltb 512 s → r ≡ false → s < 65536
 slices-small s r e h = omega (arith, ltb-false 512 s (sym e ∙ h))
@@ -74,7 +74,7 @@ module _ (k : SetContent) where
 
   list-bytes : ((i : ℕ) → getD (k .marks) i 0 < 256) → (t i : ℕ) → getD (listRow (chainCount k) (k .marks) t) i 0 < 256
   unfolding listRow
-  list-bytes small t i = part-bytes (k .marks) (rowBytes (chainCount k) * t) (rowBytes (chainCount k)) small i
+  list-bytes small t i = part-small (k .marks) small (rowBytes (chainCount k) * t) (rowBytes (chainCount k)) i
 
   -- number 10 byte by byte
   pub valued-lists : badRows k ≡ false → spareInLists k ≡ false → ((i : ℕ) → getD (k .marks) i 0 < 256)
@@ -95,11 +95,9 @@ module _ (k : SetContent) where
 
   -- ---- the file
 
-  pub slices-in-turn : (t : ℕ) → slicesBytes k t ≡ inTurn (rowBytes (chainCount k)) (k .values) (k .marks) t
-  unfolding slicesBytes inTurn listRow
-  slices-in-turn zero = refl
-  slices-in-turn (suc t) =
-      ap (λ (x : List ℕ). x ++ (listRow (chainCount k) (k .values) t ++ listRow (chainCount k) (k .marks) t)) (slices-in-turn t)
+  pub slices-in-turn : (t : ℕ) → joined (sliceBytes k) t ≡ inTurn (rowBytes (chainCount k)) (k .values) (k .marks) t
+  unfolding sliceBytes inTurn listRow
+  slices-in-turn t = refl
 
 -- what the code's tests of the two lists come to
 module _ (m taps : ℕ) (ws v k : List ℕ) (s : ℕ) where
@@ -121,7 +119,7 @@ module _ (m taps : ℕ) (ws v k : List ℕ) (s : ℕ) where
 pub set-bytes-length : (k : SetContent) → badRows k ≡ false → length (setBytes k) ≡ setLength (chainCount k) (k .s)
 unfolding setBytes
 set-bytes-length k rows =
-    let slices : length (slicesBytes k (k .s)) ≡ 2 * (rowBytes (chainCount k) * k .s) =
+    let slices : length (joined (sliceBytes k) (k .s)) ≡ 2 * (rowBytes (chainCount k) * k .s) =
     ap length (slices-in-turn k (k .s))
     ∙ in-turn-length (rowBytes (chainCount k)) (k .values) (k .marks) (k .s) (omega (arith, values-length k rows)) (omega (arith, marks-length k rows))
     in

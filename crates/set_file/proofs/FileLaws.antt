@@ -3,26 +3,26 @@ use mathlib.Core.Path.{_≡_, refl, sym, ap, ap₂, _∙_}
 use mathlib.Core.Bool.{false}
 use mathlib.Core.List.{List, _++_, append-assoc}
 use Prim.Native.Nat.{ℕ, _+_, _*_, _≤_, _<_}
-use native.Mathlib.Nat.{zero-add}
 use native.Mathlib.Omega.{arith}
 use borrow.Author.Tests.{ltb-false}
 use lib.Dec.{ltb}
-use lib.ListN.{length, drop, length-append}
-use lib.Seq.{sets, sets-eq}
+use lib.ListN.{length, length-append}
+use lib.Seq.{sets}
 use Rattle.word.specs.Word.{badWidth}
 use Rattle.word.specs.Bytes.{bytesOf, wordBytes}
+use Rattle.word.specs.Joined.{joined}
 use Rattle.word.specs.Reply.{Reply, answer, refusal, replied, firstOf, front, lent}
 use Rattle.word.proofs.ReplyLaws.{replied-refusal}
 use Rattle.word.proofs.ByteLaws.{bytes-of-length, length-word-bytes}
+use Rattle.word.proofs.FileLaws.{sets-parts, front-sets}
 use Rattle.register.specs.Row.{rowBytes}
 use Rattle.register.specs.Circuit.{badTaps, badChains, badSpread}
 use Rattle.set_file.specs.Layout.{rowsAt, setLength}
-use Rattle.set_file.specs.Writing.{SetContent, chainCount, slicesBytes, setBytes, badRows, spareInLists, valuedInLists, writeTests, writeReply, saidWritten}
+use Rattle.set_file.specs.Writing.{SetContent, chainCount, sliceBytes, setBytes, badRows, spareInLists, valuedInLists, writeTests, writeReply, saidWritten}
 use Rattle.set_file.specs.Code.{inTurn, headBytes}
 use Rattle.set_file.specs.declared.Written.{Written}
 use Rattle.set_file.specs.declared.Written.the-variants.{Done, Refused}
 use Rattle.word.proofs.TestLaws.{none-and-rest}
-use Rattle.set_file.proofs.WriteLaws.{sets-next}
 use Rattle.set_file.proofs.ContentLaws.{chains-small, values-length, marks-length, slices-in-turn, set-bytes-length}
 
 -- ---- a content to which no number applies
@@ -88,26 +88,21 @@ module _ (m taps : ℕ) (ws : List ℕ) (s : ℕ) where
       let p₂ : 2 + length b ≡ 10 = omega (arith, bytes-of-length 8 taps) in
       let p₃ : 10 + length c ≡ 12 = omega (arith, bytes-of-length 2 (length ws)) in
       let p₄ : 12 + length d ≡ 12 + 8 * length ws = ap (λ (n : ℕ). 12 + n) (length-word-bytes ws) in
-      e₅ ∙ ap (λ (x : List ℕ). sets x (12 + 8 * length ws) e) e₄ ∙ sym (sets-next d e l₃ 12 (12 + 8 * length ws) p₄)
-      ∙ ap (λ (x : List ℕ). sets x 12 (d ++ e)) e₃ ∙ sym (sets-next c (d ++ e) l₂ 10 12 p₃)
-      ∙ ap (λ (x : List ℕ). sets x 10 (c ++ (d ++ e))) e₂ ∙ sym (sets-next b (c ++ (d ++ e)) l₁ 2 10 p₂)
-      ∙ ap (λ (x : List ℕ). sets x 2 (b ++ (c ++ (d ++ e)))) e₁ ∙ sym (sets-next a (b ++ (c ++ (d ++ e))) l 0 2 p₁)
+      e₅ ∙ ap (λ (x : List ℕ). sets x (12 + 8 * length ws) e) e₄ ∙ sym (sets-parts d e l₃ 12 (12 + 8 * length ws) p₄)
+      ∙ ap (λ (x : List ℕ). sets x 12 (d ++ e)) e₃ ∙ sym (sets-parts c (d ++ e) l₂ 10 12 p₃)
+      ∙ ap (λ (x : List ℕ). sets x 10 (c ++ (d ++ e))) e₂ ∙ sym (sets-parts b (c ++ (d ++ e)) l₁ 2 10 p₂)
+      ∙ ap (λ (x : List ℕ). sets x 2 (b ++ (c ++ (d ++ e)))) e₁ ∙ sym (sets-parts a (b ++ (c ++ (d ++ e))) l 0 2 p₁)
 
-  head-length : length (headBytes m taps ws s) ≡ rowsAt (length ws)
+  pub head-length : length (headBytes m taps ws s) ≡ rowsAt (length ws)
   unfolding headBytes
   head-length =
       simp length-append
       (omega
       (arith, bytes-of-length 2 m, bytes-of-length 8 taps, bytes-of-length 2 (length ws), length-word-bytes ws, bytes-of-length 2 s))
 
-file-parts : (k : SetContent) → setBytes k ≡ headBytes (k .m) (k .taps) (k .spread) (k .s) ++ slicesBytes k (k .s)
+pub file-parts : (k : SetContent) → setBytes k ≡ headBytes (k .m) (k .taps) (k .spread) (k .s) ++ joined (sliceBytes k) (k .s)
 unfolding setBytes headBytes
 file-parts k = simp append-assoc
-
-sets-front : (vs l : List ℕ) → length vs ≤ length l → sets l 0 vs ≡ front vs l
-unfolding front
-sets-front vs l h =
-    sets-eq vs l 0 (omega arith) ∙ ap (λ (n : ℕ). vs ++ drop n l) (zero-add (length vs))
 
 -- the head and then the rows are the file
 file-written : (k : SetContent) (l l₁ l₂ : List ℕ) → Writable k (length l) → l₁ ≡ sets l 0 (headBytes (k .m) (k .taps) (k .spread) (k .s))
@@ -117,9 +112,9 @@ file-written k l l₁ l₂ w e₁ e₂ =
     let head = headBytes (k .m) (k .taps) (k .spread) (k .s) in
     e₂
     ∙ ap₂ (λ (x y : List ℕ). sets x (rowsAt (chainCount k)) y) e₁ (sym (slices-in-turn k (k .s)))
-    ∙ sym (sets-next head (slicesBytes k (k .s)) l 0 (rowsAt (chainCount k)) (omega (arith, head-length (k .m) (k .taps) (k .spread) (k .s))))
+    ∙ sym (sets-parts head (joined (sliceBytes k) (k .s)) l 0 (rowsAt (chainCount k)) (omega (arith, head-length (k .m) (k .taps) (k .spread) (k .s))))
     ∙ ap (sets l 0) (sym (file-parts k))
-    ∙ sets-front (setBytes k) l (omega (arith, set-bytes-length k (w .rows), w .fits))
+    ∙ front-sets (setBytes k) l (omega (arith, set-bytes-length k (w .rows), w .fits))
 
 -- ---- the two ways out of the call
 

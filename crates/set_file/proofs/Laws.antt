@@ -13,13 +13,14 @@ use Rattle.word.specs.Some.{anyBelow}
 use Rattle.word.specs.Reply.{answer, refusal, replied, firstOf}
 use Rattle.word.proofs.WordLaws.{good-width}
 use Rattle.word.proofs.SomeLaws.{any-below-false}
-use Rattle.word.proofs.BoolLaws.{or-false-left, or-false-right}
+use Rattle.word.proofs.BoolLaws.{or-false-right}
 use Rattle.word.proofs.ReplyLaws.{replied-refusal}
 use Rattle.word.proofs.TestLaws.{none-and-rest, replied-answer, replied-number}
 use Rattle.register.specs.Row.{rowBytes, spareSet}
 use Rattle.register.specs.Circuit.{badTaps, badChains, badSpread}
 use Rattle.set_file.specs.Layout.{spreadAt, slicesAt, rowsAt, setLength, widthOf, tapsOf, chainsOf, spreadOf, slicesOf, valueRow, markRow, values, marks}
 use Rattle.set_file.specs.Reading.{badSlices, spareInRows, valuedUnknown, setTests, SetParts, partsOf, setReply}
+use Rattle.set_file.proofs.LayoutLaws.{good-chains}
 use Rattle.set_file.proofs.SliceLaws as slices
 use Rattle.word.proofs.ByteLaws.{length-words-at}
 
@@ -83,11 +84,6 @@ accepted set h =
 
 pub accepted-answer : (set : List ℕ) (p : SetParts) → setReply set ≡ answer p → Accepted set
 accepted-answer set p h = accepted set (set-answer-none set p h)
-
-good-chains : (n : ℕ) → badChains n ≡ false → (1 ≤ n) × (n ≤ 256)
-unfolding badChains
-good-chains n h =
-    (ltb-false n 1 (or-false-left (ltb n 1) (ltb 256 n) h), ltb-false 256 n (or-false-right (ltb n 1) (ltb 256 n) h))
 
 pub spread-length : (set : List ℕ) → length (spreadOf set) ≡ chainsOf set
 spread-length set = length-words-at set spreadAt (chainsOf set)

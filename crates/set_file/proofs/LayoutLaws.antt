@@ -1,31 +1,30 @@
--- The set's words and rows: how many, and which stands where. Assumes nothing.
+-- The set's chains, words and rows: how many, and which stands where. Assumes nothing.
 use mathlib.Core.Path.{_≡_, refl, sym, ap, _∙_}
-use mathlib.Core.Logic.{dite}
+use mathlib.Core.Bool.{false}
 use mathlib.Core.List.{List, []}
-use Prim.Native.Nat.{ℕ, zero, suc, _+_, _*_, _≤_, _<_}
-use native.Mathlib.Nat.{mul-le-mul-left, mul-suc, le-of-suc-le-suc, not-suc-le-zero}
+use Prim.Native.Nat.{ℕ, _+_, _*_, _≤_, _<_}
+use native.Mathlib.Nat.{mul-le-mul-left, mul-suc}
 use native.Mathlib.Numerals.{add-one}
-use native.Mathlib.Decide.{decLt}
 use native.Mathlib.Omega.{arith}
-use lib.Dec.{lit<}
-use lib.ListN.{length, getD, take, drop, set, length-take, length-drop, List·getD-eq-default}
-use lib.Seq.{getD-take, getD-drop}
+use borrow.Author.Tests.{ltb-false}
+use lib.Dec.{ltb}
+use lib.ListN.{length, getD, take, set, length-take, length-drop}
 use Rattle.word.specs.Bytes.{wordAt, wordsAt}
 use Rattle.word.specs.Reply.{front}
+use Rattle.word.proofs.BoolLaws.{or-false-left, or-false-right}
 use Rattle.word.proofs.FrontLaws.{front-next, front-nothing, front-whole}
+use Rattle.word.proofs.FileLaws.{word-at-place}
 use Rattle.register.specs.Row.{rowBytes}
+use Rattle.register.specs.Circuit.{badChains}
 use Rattle.set_file.specs.Layout.{spreadAt}
 use Rattle.set_file.specs.Writing.{listRow}
 use Rattle.set_file.specs.Code.{noWords}
 use Rattle.word.proofs.ByteLaws.{length-words-at}
 
--- ---- words
-
-pub words-get : (l : List ℕ) (i k c : ℕ) → c < k → getD (wordsAt l i k) c 0 ≡ wordAt l (i + 8 * c)
-unfolding wordsAt
-words-get l i zero c h = absurd (not-suc-le-zero h)
-words-get l i (suc k) zero h = ap (wordAt l) (omega arith)
-words-get l i (suc k) (suc c) h = words-get l (i + 8) k c (le-of-suc-le-suc h) ∙ ap (wordAt l) (omega arith)
+pub good-chains : (n : ℕ) → badChains n ≡ false → (1 ≤ n) × (n ≤ 256)
+unfolding badChains
+good-chains n h =
+    (ltb-false n 1 (or-false-left (ltb n 1) (ltb 256 n) h), ltb-false 256 n (or-false-right (ltb n 1) (ltb 256 n) h))
 
 pub no-words-length : length noWords ≡ 256
 unfolding noWords
@@ -41,7 +40,7 @@ pub spread-turn : (l ws : List ℕ) (n c w : ℕ) → ws ≡ front (take c (word
 spread-turn l ws n c w e h b r =
     let inside : c < length (wordsAt l spreadAt n) = omega (arith, length-words-at l spreadAt n) in
     let room : c < length noWords = omega (arith, no-words-length) in
-    ap (λ (v : ℕ). set ws c v) (r ∙ sym (words-get l spreadAt n c h))
+    ap (λ (v : ℕ). set ws c v) (r ∙ sym (word-at-place l spreadAt n c h))
     ∙ ap (λ (x : List ℕ). set x c (getD (wordsAt l spreadAt n) c 0)) e
     ∙ front-next c (wordsAt l spreadAt n) noWords inside room
     ∙ ap (λ (k : ℕ). front (take k (wordsAt l spreadAt n)) noWords) (sym (add-one c))
@@ -59,15 +58,3 @@ row-step b t s h = rw mul-suc at (mul-le-mul-left b h)
 pub list-row-length : (n : ℕ) (l : List ℕ) (s t : ℕ) → length l ≡ rowBytes n * s → t < s → length (listRow n l t) ≡ rowBytes n
 unfolding listRow
 list-row-length n l s t e h = simp (length-take, length-drop) (omega (arith, row-step (rowBytes n) t s h))
-
--- a part of a list of bytes is one
-pub part-bytes : (l : List ℕ) (at n : ℕ) → ((i : ℕ) → getD l i 0 < 256) → (i : ℕ) → getD (take n (drop at l)) i 0 < 256
-part-bytes l at n small i = dite (decLt i n) inside past
-  where
-    inside : i < n → getD (take n (drop at l)) i 0 < 256
-    inside h = rw (getD-take n (drop at l) i 0 h, getD-drop at l i 0) (small (at + i))
-
-    past : (i < n → ⊥) → getD (take n (drop at l)) i 0 < 256
-    past h =
-        let end : length (take n (drop at l)) ≤ i = omega (arith, length-take n (drop at l)) in
-        rw (List·getD-eq-default (take n (drop at l)) 0 end) (lit< tt)

@@ -9,3 +9,4 @@ pub mod PlaceLaws
 pub mod WriteLaws
 pub mod ContentLaws
 pub mod FileLaws
+pub mod RoundTrip

@@ -2,7 +2,7 @@
 use mathlib.Core.Path.{_≡_, refl, sym, ap, ap₂, _∙_}
 use mathlib.Core.Bool.{Bool, true, false, not}
 use mathlib.Core.List.{List, [], _∷_}
-use Prim.Native.Nat.{ℕ, _+_, _-_, _≤_, _<_}
+use Prim.Native.Nat.{ℕ, _+_, _≤_, _<_}
 use native.Mathlib.Omega.{arith}
 use borrow.Author.Tests.{lt-ltb, ltb-true, not-false}
 use lib.Dec.{ltb}
@@ -97,17 +97,8 @@ module _ (set : List ℕ) (t : ℕ) where
       ∙ sym (row-answers (valueAt (chainsOf set) t) (sym e ∙ z))
 
   module _ (p : Place) (i : ℕ) (said : saidPlace p ≡ rowReply set t i) where
-    pub place-named : (a b : ℕ) → p ≡ At a b → Named i a b
+    place-named : (a b : ℕ) → p ≡ At a b → Named i a b
     place-named a b e = row-named i a b (sym said ∙ ap saidPlace e)
-
-    -- the row is the part of the set that is lent
-    pub row-lent : (a b : ℕ) → p ≡ At a b → take (a + b - a) (drop a set) ≡ stretch (rowReply set t i) set
-    row-lent a b e =
-        let count : a + b - a ≡ b = omega arith in
-        ap (λ (k : ℕ). take k (drop a set)) count ∙ ap (λ (r : Reply Stretch). stretch r set) (ap saidPlace (sym e) ∙ said)
-
-    pub row-empty : (n : ℕ) → p ≡ Declined n → [] ≡ stretch (rowReply set t i) set
-    row-empty n e = ap (λ (r : Reply Stretch). stretch r set) (ap saidPlace (sym e) ∙ said)
 
   -- the mark row stands behind the value row
   module _ (p : Place) (said : saidPlace p ≡ valueReply set t) where
@@ -128,11 +119,14 @@ module _ (set : List ℕ) (t : ℕ) where
         let there = row-accepted (named .none) in
         omega (arith, slice-inside set (there .0 .long) t (there .1), named .start, named .bytes)
 
-  pub mark-inside : (p : Place) → saidPlace p ≡ markReply set t → (a b : ℕ) → p ≡ At a b → a + b ≤ length set
-  mark-inside p said a b e =
-      let named = place-named p (markAt (chainsOf set) t) said a b e in
-      let there = row-accepted (named .none) in
-      omega (arith, slice-inside set (there .0 .long) t (there .1), named .start, named .bytes)
+-- ---- the stretch that a place names
+
+module _ (set row : List ℕ) (p : Place) where
+  pub stretch-there : (a b : ℕ) → p ≡ At a b → row ≡ take b (drop a set) → row ≡ stretch (saidPlace p) set
+  stretch-there a b e r = r ∙ ap (λ (x : Place). stretch (saidPlace x) set) (sym e)
+
+  pub stretch-said : (r : Reply Stretch) → saidPlace p ≡ r → row ≡ stretch (saidPlace p) set → row ≡ stretch r set
+  stretch-said r e h = h ∙ ap (λ (x : Reply Stretch). stretch x set) e
 
 -- ---- the rows of an accepted set
 

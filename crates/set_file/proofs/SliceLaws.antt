@@ -10,12 +10,13 @@ use lib.Seq.{drop-drop}
 use Rattle.word.specs.Some.{anyBelow}
 use Rattle.word.proofs.SomeLaws.{any-below-false, any-below-ext}
 use Rattle.word.proofs.BoolLaws.{or-false-left, or-false-right}
+use Rattle.word.proofs.FileLaws.{part-small}
 use Rattle.register.specs.Row.{rowBytes, spareSet}
 use Rattle.set_file.specs.Layout.{rowsAt, setLength, chainsOf, slicesOf, valueAt, markAt, valueRow, markRow}
 use Rattle.set_file.specs.Reading.{spareInRows, valuedUnknown}
 use Rattle.set_file.specs.Writing.{listRow}
 use Rattle.set_file.specs.Code.{sharesBit}
-use Rattle.set_file.proofs.LayoutLaws.{row-step, part-bytes}
+use Rattle.set_file.proofs.LayoutLaws.{row-step}
 use Rattle.set_file.proofs.RangeLaws.{any-below-pairs}
 use Rattle.set_file.proofs.RowLaws.{SpareRow, valued-bytes}
 
@@ -78,7 +79,7 @@ module _ (set : List ℕ) where
 
   mark-bytes : ((i : ℕ) → getD set i 0 < 256) → (t i : ℕ) → getD (markRow set t) i 0 < 256
   unfolding markRow
-  mark-bytes small t i = part-bytes set (markAt (chainsOf set) t) (rowBytes (chainsOf set)) small i
+  mark-bytes small t i = part-small set small (markAt (chainsOf set) t) (rowBytes (chainsOf set)) i
 
   -- number 10 byte by byte
   pub valued-of-bytes : length set ≡ setLength (chainsOf set) (slicesOf set) → spareInRows set ≡ false → ((i : ℕ) → getD set i 0 < 256)

@@ -1,9 +1,9 @@
 -- What has been written and what is left, in the loops of the writer's inner functions. Assumes nothing.
 use mathlib.Core.Path.{_≡_, refl, sym, ap, ap₂, _∙_}
 use mathlib.Core.Bool.{true, false, _||_}
-use mathlib.Core.List.{List, [], _++_}
-use Prim.Native.Nat.{ℕ, zero, suc, _+_, _-_, _*_, _≤_, _<_, min}
-use native.Mathlib.Nat.{add-zero, mul-add, mul-one, mul-suc}
+use mathlib.Core.List.{List, _++_}
+use Prim.Native.Nat.{ℕ, suc, _+_, _-_, _*_, _≤_, _<_, min}
+use native.Mathlib.Nat.{add-zero, mul-add, mul-one, mul-assoc}
 use native.Mathlib.Numerals.{add-one}
 use native.Mathlib.Omega.{arith}
 use native.Mathlib.Decide.{decLt}
@@ -12,57 +12,14 @@ use borrow.Author.Tests.{ltb-false, le-ltb}
 use lib.Dec.{ltb}
 use lib.ListN.{length, getD, take, drop, set, length-set, length-append, length-take, length-drop, drop-of-length-le}
 use lib.Seq.{drop-cons, sets, length-sets}
-use Rattle.word.specs.Bytes.{bytesOf, wordBytes}
-use Rattle.word.proofs.ByteLaws.{bytes-of-length, sets-append, sets-past-end}
+use Rattle.word.proofs.FileLaws.{sets-parts}
+use Rattle.word.specs.Joined.{joined}
+use Rattle.word.proofs.JoinLaws.{joined-length}
+use Rattle.word.proofs.WritingLaws.{Writing, writing-start, writing-past, writing-end}
 use Rattle.set_file.specs.Code.{inTurn}
 use Rattle.word.proofs.BoolLaws.{or-false, or-false-left, or-false-right}
 use Rattle.set_file.proofs.LayoutLaws.{row-step}
 use Rattle.set_file.proofs.CodeLaws.{rows-small}
-
--- one write after another is a write of both
-pub sets-next : (a b l : List ℕ) (i j : ℕ) → i + length a ≡ j → sets l i (a ++ b) ≡ sets (sets l i a) j b
-sets-next a b l i j e = sets-append a b l i ∙ ap (λ (k : ℕ). sets (sets l i a) k b) e
-
--- the list l₀, with vs to be written from place `at` on, has become l, and us is left to be written from place i on
-pub record Writing (l₀ l vs us : List ℕ) (at i : ℕ) : Type 0 where
-  pub long : length l ≡ length l₀
-  pub rest : sets l i us ≡ sets l₀ at vs
-
-pub writing-start : (l vs : List ℕ) (at : ℕ) → Writing l l vs vs at at
-writing-start l vs at = record { long = refl; rest = refl }
-
-writing-turn : (l₀ l vs a us : List ℕ) (at i : ℕ) → Writing l₀ l vs (a ++ us) at i → Writing l₀ (sets l i a) vs us at (i + length a)
-writing-turn l₀ l vs a us at i w =
-    record { long = length-sets l i a ∙ w .long; rest = sym (sets-append a us l i) ∙ w .rest }
-
-pub writing-past : (l₀ l vs us : List ℕ) (at i : ℕ) → Writing l₀ l vs us at i → length l ≤ i → l ≡ sets l₀ at vs
-writing-past l₀ l vs us at i w h = sym (sets-past-end us l i h) ∙ w .rest
-
-writing-end : (l₀ l vs us : List ℕ) (at i : ℕ) → Writing l₀ l vs us at i → us ≡ [] → l ≡ sets l₀ at vs
-writing-end l₀ l vs us at i w e = ap (sets l i) (sym e) ∙ w .rest
-
--- ---- words
-
-abbrev pub WordsLeft : List ℕ → List ℕ → List ℕ → ℕ → ℕ → ℕ → Type 0
-WordsLeft l₀ l ws at i c = Writing l₀ l (wordBytes ws) (wordBytes (drop c ws)) at i
-
-word-bytes-from : (ws : List ℕ) (c : ℕ) → c < length ws → wordBytes (drop c ws) ≡ bytesOf 8 (getD ws c 0) ++ wordBytes (drop (c + 1) ws)
-unfolding wordBytes
-word-bytes-from ws c h =
-    ap wordBytes (drop-cons ws c 0 h) ∙ ap (λ (k : ℕ). bytesOf 8 (getD ws c 0) ++ wordBytes (drop k ws)) (sym (add-one c))
-
-pub words-turn : (l₀ l l′ ws : List ℕ) (at i c : ℕ) → WordsLeft l₀ l ws at i c → c < length ws → l′ ≡ sets l i (bytesOf 8 (getD ws c 0))
-    → WordsLeft l₀ l′ ws at (i + 8) (c + 1)
-words-turn l₀ l l′ ws at i c w h e =
-    let word = bytesOf 8 (getD ws c 0) in
-    let next : Writing l₀ (sets l i word) (wordBytes ws) (wordBytes (drop (c + 1) ws)) at (i + length word) =
-    writing-turn l₀ l (wordBytes ws) word (wordBytes (drop (c + 1) ws)) at i (rw (word-bytes-from ws c h) at w)
-    in
-    rw e (rw (bytes-of-length 8 (getD ws c 0)) at next)
-
-pub words-end : (l₀ l ws : List ℕ) (at i c : ℕ) → WordsLeft l₀ l ws at i c → length ws ≤ c → l ≡ sets l₀ at (wordBytes ws)
-unfolding wordBytes
-words-end l₀ l ws at i c w h = writing-end l₀ l (wordBytes ws) (wordBytes (drop c ws)) at i w (ap wordBytes (drop-of-length-le ws h))
 
 -- ---- bytes
 
@@ -97,12 +54,12 @@ turn-length b l t h = simp (length-take, length-drop) (omega arith)
 
 pub in-turn-length : (b : ℕ) (v k : List ℕ) (t : ℕ) → b * t ≤ length v → b * t ≤ length k → length (inTurn b v k t) ≡ 2 * (b * t)
 unfolding inTurn
-in-turn-length b v k zero hv hk = omega arith
-in-turn-length b v k (suc t) hv hk =
-    let hv′ : b * t + b ≤ length v = rw mul-suc at hv in
-    let hk′ : b * t + b ≤ length k = rw mul-suc at hk in
-    simp length-append
-    (omega (arith, in-turn-length b v k t (omega arith) (omega arith), turn-length b v t hv′, turn-length b k t hk′, mul-suc b t))
+in-turn-length b v k t hv hk =
+    joined-length (2 * b) (λ i. take b (drop (b * i) v) ++ take b (drop (b * i) k)) t
+    (λ i l.
+    length-append (take b (drop (b * i) v)) (take b (drop (b * i) k))
+    ∙ omega (arith, turn-length b v i (omega (arith, row-step b i t l)), turn-length b k i (omega (arith, row-step b i t l))))
+    ∙ mul-assoc 2 b t
 
 -- the first t rows of v and of k have been written in turn from place `at` of l₀ on, and the next ones go to place `to`
 pub record Turned (b : ℕ) (v k l₀ l : List ℕ) (at t from to : ℕ) : Type 0 where
@@ -114,7 +71,7 @@ pub record Turned (b : ℕ) (v k l₀ l : List ℕ) (at t from to : ℕ) : Type 
   pub done : l ≡ sets l₀ at (inTurn b v k t)
 
 pub turned-start : (b : ℕ) (v k l : List ℕ) (at : ℕ) → Turned b v k l l at 0 0 at
-unfolding inTurn
+unfolding inTurn joined
 turned-start b v k l at =
     record { source = omega arith; place = omega arith; inside-v = omega arith; inside-k = omega arith; long = refl; done = refl }
 
@@ -124,7 +81,7 @@ pub turned-turn : (b : ℕ) (v k l₀ l l₁ l₂ : List ℕ) (at t from to : �
     → l₁ ≡ sets l to (take (from + b - from) (drop from v))
     → l₂ ≡ sets l₁ (to + b) (take (from + b - from) (drop from k))
     → Turned b v k l₀ l₂ at (t + 1) (from + b) (to + 2 * b)
-unfolding inTurn
+unfolding inTurn joined
 turned-turn b v k l₀ l l₁ l₂ at t from to r hv hk e₁ e₂ = record {
   source = omega (arith, r .source, mul-add b t 1, mul-one b);
   place = omega (arith, r .place);
@@ -143,8 +100,8 @@ turned-turn b v k l₀ l l₁ l₂ at t from to r hv hk e₁ e₂ = record {
       let full : length (take b (drop (b * t) v)) ≡ b = turn-length b v t (omega (arith, r .source)) in
       e₂
       ∙ ap₂ (λ (x y : List ℕ). sets x (to + b) y) (e₁ ∙ ap₂ (λ (x y : List ℕ). sets x to y) (r .done) value) mark
-      ∙ sym (sets-next (take b (drop (b * t) v)) (take b (drop (b * t) k)) (sets l₀ at (inTurn b v k t)) to (to + b) (ap (λ (n : ℕ). to + n) full))
-      ∙ sym (sets-next (inTurn b v k t) (take b (drop (b * t) v) ++ take b (drop (b * t) k)) l₀ at to seam)
+      ∙ sym (sets-parts (take b (drop (b * t) v)) (take b (drop (b * t) k)) (sets l₀ at (inTurn b v k t)) to (to + b) (ap (λ (n : ℕ). to + n) full))
+      ∙ sym (sets-parts (inTurn b v k t) (take b (drop (b * t) v) ++ take b (drop (b * t) k)) l₀ at to seam)
       ∙ ap (λ (n : ℕ). sets l₀ at (inTurn b v k n)) (sym (add-one t));
 }
 

@@ -15,12 +15,15 @@
 --   markAt n t          the place of slice t's row of unknown marks
 --   valueRow set t      slice t's value row
 --   markRow set t       slice t's row of unknown marks
+--   valuesOf set        the set's value rows as one list, slice after slice
+--   marksOf set         its rows of unknown marks as one list, slice after slice
 --   values set t c      the value bit of chain c in slice t
 --   marks set t c       its mark: 1 where the cell is unknown
-use mathlib.Core.List.{List, [], _∷_}
-use Prim.Native.Nat.{ℕ, zero, suc, _+_, _*_}
+use mathlib.Core.List.{List}
+use Prim.Native.Nat.{ℕ, _+_, _*_}
 use lib.ListN.{take, drop}
 use Rattle.word.specs.Bytes.{countAt, wordAt, wordsAt}
+use Rattle.word.specs.Joined.{joined}
 use Rattle.register.specs.Row.{Cells, cell, rowBytes}
 use Rattle.register.specs.Circuit.{Circuit}
 
@@ -65,6 +68,12 @@ valueRow set t = take (rowBytes (chainsOf set)) (drop (valueAt (chainsOf set) t)
 
 unfoldable pub markRow : List ℕ → ℕ → List ℕ
 markRow set t = take (rowBytes (chainsOf set)) (drop (markAt (chainsOf set) t) set)
+
+abbrev pub valuesOf : List ℕ → List ℕ
+valuesOf set = joined (valueRow set) (slicesOf set)
+
+abbrev pub marksOf : List ℕ → List ℕ
+marksOf set = joined (markRow set) (slicesOf set)
 
 abbrev pub values : List ℕ → ℕ → Cells
 values set t = cell (valueRow set t)

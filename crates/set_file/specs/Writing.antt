@@ -3,24 +3,27 @@
 --
 --   SetContent          what the writer is handed: m, the tap word, the spread words, the value rows, the mark rows, s
 --   contentOf m t ws v k s    the content of these: m, the tap word, the spread words, the value rows, the mark rows, s
+--   contentIn set       the content of a set file: what the writer is handed to write it again
+--   chainCount k        document 01: n
 --   listRow n l t       row t of a list of rows of n chains
---   slicesBytes k s     the first s slices, each a value row and a mark row
+--   sliceBytes k t      slice t: its value row and its row of unknown marks
 --   setBytes k          the set file of the content k
 --   writeTests k room   the numbers that the writer meets, in order, for an output of `room` bytes
 --   writeReply k room   its reply: the length of the file
 --   saidWritten w       the paper's reading of what the writer hands back
 use mathlib.Core.Bool.{Bool, not, _&&_, _||_}
 use mathlib.Core.List.{List, [], _∷_, _++_}
-use Prim.Native.Nat.{ℕ, zero, suc, _*_}
+use Prim.Native.Nat.{ℕ, _*_}
 use lib.Dec.{eqb, ltb}
 use lib.ListN.{length, take, drop}
 use Rattle.word.specs.Word.{badWidth}
 use Rattle.word.specs.Some.{anyBelow}
 use Rattle.word.specs.Bytes.{bytesOf, wordBytes}
+use Rattle.word.specs.Joined.{joined}
 use Rattle.word.specs.Reply.{Test, _when_, Reply, answer, refusal, reply}
 use Rattle.register.specs.Row.{cell, rowBytes, spareSet}
 use Rattle.register.specs.Circuit.{badTaps, badChains, badSpread}
-use Rattle.set_file.specs.Layout.{setLength}
+use Rattle.set_file.specs.Layout.{setLength, widthOf, tapsOf, spreadOf, slicesOf, valuesOf, marksOf}
 use Rattle.set_file.specs.declared.Written.{Written}
 use Rattle.set_file.specs.declared.Written.the-variants.{Done, Refused}
 
@@ -35,20 +38,21 @@ pub record SetContent : Type 0 where
 abbrev pub contentOf : ℕ → ℕ → List ℕ → List ℕ → List ℕ → ℕ → SetContent
 contentOf m t ws v k s = record { m = m; taps = t; spread = ws; values = v; marks = k; s = s }
 
+abbrev pub contentIn : List ℕ → SetContent
+contentIn set = contentOf (widthOf set) (tapsOf set) (spreadOf set) (valuesOf set) (marksOf set) (slicesOf set)
+
 abbrev pub chainCount : SetContent → ℕ
 chainCount k = length (k .spread)
 
 unfoldable pub listRow : ℕ → List ℕ → ℕ → List ℕ
 listRow n l t = take (rowBytes n) (drop (rowBytes n * t) l)
 
-unfoldable pub slicesBytes : SetContent → ℕ → List ℕ
-slicesBytes k zero = []
-slicesBytes k (suc t) =
-    slicesBytes k t ++ (listRow (chainCount k) (k .values) t ++ listRow (chainCount k) (k .marks) t)
+unfoldable pub sliceBytes : SetContent → ℕ → List ℕ
+sliceBytes k t = listRow (chainCount k) (k .values) t ++ listRow (chainCount k) (k .marks) t
 
 unfoldable pub setBytes : SetContent → List ℕ
 setBytes k =
-    bytesOf 2 (k .m) ++ (bytesOf 8 (k .taps) ++ (bytesOf 2 (chainCount k) ++ (wordBytes (k .spread) ++ (bytesOf 2 (k .s) ++ slicesBytes k (k .s)))))
+    bytesOf 2 (k .m) ++ (bytesOf 8 (k .taps) ++ (bytesOf 2 (chainCount k) ++ (wordBytes (k .spread) ++ (bytesOf 2 (k .s) ++ joined (sliceBytes k) (k .s)))))
 
 -- 8: the length of a list of rows isn't what the counts give
 unfoldable pub badRows : SetContent → Bool

@@ -1,7 +1,7 @@
 // The set file of document 01: its reader, the rows of one slice, and its writer.
 ghost use mathlib.Core.Path.{_≡_};
 ghost use mathlib.Core.Bool.{false, not, _||_};
-ghost use Prim.Native.Nat.{min, _*_, _≤_, _<_};
+ghost use Prim.Native.Nat.{min, _*_, _≤_};
 ghost use lib.Dec.{eqb, ltb};
 ghost use lib.ListN.{length};
 ghost use lib.Seq.{sets};
@@ -15,7 +15,6 @@ ghost use Rattle.set_file.specs.Reading.{badSlices, spareInRows, valuedU
 ghost use Rattle.set_file.specs.Rows.{rowTests, valueReply, markReply, stretch, saidPlace};
 ghost use Rattle.set_file.specs.Writing.{contentOf, listRow, setBytes, writeTests, writeReply, saidWritten};
 ghost use Rattle.set_file.specs.Code.{noWords, sharesBit, inTurn, headBytes};
-ghost use Rattle.word.specs.Bytes.{wordBytes};
 
 // What the set reader answers: m, the tap word, n and s, or the first number that applies.
 pub enum SetAnswer {
@@ -184,8 +183,9 @@ fn has_wrong_length(set: &[u8]) -> bool
     set.len() != set_length(chain_count(set), slice_count(set))
 }
 
-// Whether one of the first `count` rows of a list of rows of n chains has a spare bit set.
-fn has_spare_row(n: usize, rows: &[u8], count: usize) -> bool
+// Whether one of the first `count` rows of a list of rows of n chains has a spare bit set; a row past the end of the list is
+// all 0. It meets no number.
+pub fn has_spare_row(n: usize, rows: &[u8], count: usize) -> bool
     ensures { λ r. ⌜ r ≡ anyBelow count (λ t. spareSet n (listRow n (now (rows .entry)) t)) ⌝ }
 {
     let bytes = register::row_bytes(n);
@@ -375,28 +375,28 @@ pub fn mark_place(set: &[u8], slice: u64) -> Place
     }
 }
 
+// The part of the set that a place names; empty where it is declined.
+fn stretch_at(set: &[u8], place: Place) -> &[u8]
+    ensures { λ r. ⌜ now r ≡ stretch (saidPlace place) (now (set .entry)) ⌝ }
+{
+    let Place::At { start, bytes } = place else {
+        return &set[..0];
+    };
+    word::part(set, start, bytes)
+}
+
 // The value row of a slice, the stretch of the set itself; empty where `value_place` declines.
 pub fn value_row(set: &[u8], slice: u64) -> &[u8]
     ensures { λ r. ⌜ now r ≡ stretch (valueReply (now (set .entry)) slice) (now (set .entry)) ⌝ }
 {
-    let place = value_place(set, slice);
-    let Place::At { start, bytes } = place else {
-        return &set[..0];
-    };
-    let end = start + bytes;
-    &set[start..end]
+    stretch_at(set, value_place(set, slice))
 }
 
 // The row of unknown marks of a slice, the stretch of the set itself; empty where `mark_place` declines.
 pub fn mark_row(set: &[u8], slice: u64) -> &[u8]
     ensures { λ r. ⌜ now r ≡ stretch (markReply (now (set .entry)) slice) (now (set .entry)) ⌝ }
 {
-    let place = mark_place(set, slice);
-    let Place::At { start, bytes } = place else {
-        return &set[..0];
-    };
-    let end = start + bytes;
-    &set[start..end]
+    stretch_at(set, mark_place(set, slice))
 }
 
 // Whether the length of a list of rows isn't that of s rows of n chains.
@@ -465,22 +465,6 @@ fn first_write_refusal(
     0
 }
 
-// The words, 8 bytes each, from place `at` of out on; nothing past its end.
-fn write_words(out: &mut [u8], at: usize, words: &[u64])
-    ensures { λ _. ⌜ now (out .exit) ≡ sets (now (out .entry)) at (wordBytes (now (words .entry))) ⌝ }
-{
-    let mut i = at;
-    let mut c = 0;
-    while c < words.len() {
-        if out.len() <= i {
-            return;
-        }
-        word::write_word(out, i, words[c]);
-        i += 8;
-        c += 1;
-    }
-}
-
 // The bytes from place `at` of out on; nothing past its end.
 fn write_bytes(out: &mut [u8], at: usize, bytes: &[u8])
     ensures { λ _. ⌜ now (out .exit) ≡ sets (now (out .entry)) at (now (bytes .entry)) ⌝ }
@@ -504,7 +488,7 @@ fn write_head(out: &mut [u8], m: u64, taps: u64, spread: &[u64], s: u64)
     word::write_count(out, 0, m);
     word::write_word(out, TAPS_AT, taps);
     word::write_count(out, CHAINS_AT, n as u64);
-    write_words(out, SPREAD_AT, spread);
+    word::write_words(out, SPREAD_AT, spread);
     word::write_count(out, SPREAD_AT + 8 * n, s);
 }
 

@@ -2,7 +2,7 @@
 -- and the digits of an XOR. Assumes nothing.
 use mathlib.Core.Path.{_≡_, refl, sym, ap, ap₂, _∙_}
 use mathlib.Core.Logic.{_⊎_, inl, inr}
-use Prim.Native.Nat.{ℕ, zero, suc, _+_, _-_, _*_, _/_, _%_, _^_, _<_, _≤_, min, max}
+use Prim.Native.Nat.{ℕ, zero, suc, _+_, _*_, _/_, _%_, _^_, _<_, min, max}
 use native.Mathlib.Nat.{add-zero, zero-add, zero-min, zero-mul, mul-one, mul-assoc, pow-suc, div-one, not-suc-le-zero, le-of-suc-le-suc}
 use native.Mathlib.Numerals.{one-add}
 use native.Mathlib.Omega.{arith}
@@ -126,16 +126,23 @@ digit-xor i a b =
 
 -- ---- AND over XOR, and parity
 
-pub and-xor : (a b c : ℕ) → bitAnd (bitXor a b) c ≡ bitXor (bitAnd a c) (bitAnd b c)
-and-xor =
-    bin-ind (λ (a : ℕ). (b c : ℕ) → bitAnd (bitXor a b) c ≡ bitXor (bitAnd a c) (bitAnd b c)) (λ b c. refl)
+-- AND goes over an operation that works bit by bit
+and-over : (op bit : ℕ → ℕ → ℕ) → ((b : ℕ) → op 0 b ≡ b) → ((a b : ℕ) → op a b / 2 ≡ op (a / 2) (b / 2))
+    → ((a b : ℕ) → op a b % 2 ≡ bit (a % 2) (b % 2))
+    → ((d e f : ℕ) → d < 2 → e < 2 → f < 2 → min (bit d e) f ≡ bit (min d f) (min e f))
+    → (a b c : ℕ) → bitAnd (op a b) c ≡ op (bitAnd a c) (bitAnd b c)
+and-over op bit none half low each =
+    bin-ind (λ (a : ℕ). (b c : ℕ) → bitAnd (op a b) c ≡ op (bitAnd a c) (bitAnd b c))
+    (λ b c. ap (λ (x : ℕ). bitAnd x c) (none b) ∙ sym (none (bitAnd b c)))
     (λ a ih b c.
     by-halves _ _
-    (and-half (bitXor a b) c ∙ ap (λ (x : ℕ). bitAnd x (c / 2)) (xor-half a b) ∙ ih (b / 2) (c / 2)
-    ∙ ap₂ bitXor (sym (and-half a c)) (sym (and-half b c)) ∙ sym (xor-half (bitAnd a c) (bitAnd b c)))
-    (and-low (bitXor a b) c ∙ ap (λ (x : ℕ). min x (c % 2)) (xor-low a b)
-    ∙ min-differ (a % 2) (b % 2) (c % 2) (mod2-lt a) (mod2-lt b) (mod2-lt c)
-    ∙ ap₂ differ (sym (and-low a c)) (sym (and-low b c)) ∙ sym (xor-low (bitAnd a c) (bitAnd b c))))
+    (and-half (op a b) c ∙ ap (λ (x : ℕ). bitAnd x (c / 2)) (half a b) ∙ ih (b / 2) (c / 2)
+    ∙ ap₂ op (sym (and-half a c)) (sym (and-half b c)) ∙ sym (half (bitAnd a c) (bitAnd b c)))
+    (and-low (op a b) c ∙ ap (λ (x : ℕ). min x (c % 2)) (low a b) ∙ each (a % 2) (b % 2) (c % 2) (mod2-lt a) (mod2-lt b) (mod2-lt c)
+    ∙ ap₂ bit (sym (and-low a c)) (sym (and-low b c)) ∙ sym (low (bitAnd a c) (bitAnd b c))))
+
+pub and-xor : (a b c : ℕ) → bitAnd (bitXor a b) c ≡ bitXor (bitAnd a c) (bitAnd b c)
+and-xor = and-over bitXor differ (λ b. refl) xor-half xor-low min-differ
 
 odd-sum : (p q r d e : ℕ) → p % 2 ≡ (q + r) % 2 → (((d + e) % 2) + p) % 2 ≡ ((d + q) + (e + r)) % 2
 odd-sum p q r d e h = omega arith
@@ -242,18 +249,8 @@ or-half a b = or-shr a b 1
 or-low : (a b : ℕ) → bitOr a b % 2 ≡ max (a % 2) (b % 2)
 or-low a b = omega (arith, or-step a b)
 
-min-max : (d e f : ℕ) → min (max d e) f ≡ max (min d f) (min e f)
-min-max d e f = omega arith
-
 pub and-or : (a b c : ℕ) → bitAnd (bitOr a b) c ≡ bitOr (bitAnd a c) (bitAnd b c)
-and-or =
-    bin-ind (λ (a : ℕ). (b c : ℕ) → bitAnd (bitOr a b) c ≡ bitOr (bitAnd a c) (bitAnd b c)) (λ b c. refl)
-    (λ a ih b c.
-    by-halves _ _
-    (and-half (bitOr a b) c ∙ ap (λ (x : ℕ). bitAnd x (c / 2)) (or-half a b) ∙ ih (b / 2) (c / 2)
-    ∙ ap₂ bitOr (sym (and-half a c)) (sym (and-half b c)) ∙ sym (or-half (bitAnd a c) (bitAnd b c)))
-    (and-low (bitOr a b) c ∙ ap (λ (x : ℕ). min x (c % 2)) (or-low a b) ∙ min-max (a % 2) (b % 2) (c % 2)
-    ∙ ap₂ max (sym (and-low a c)) (sym (and-low b c)) ∙ sym (or-low (bitAnd a c) (bitAnd b c))))
+and-or = and-over bitOr max (λ b. refl) or-half or-low (λ d e f hd he hf. omega arith)
 
 pub or-zero-left : (a b : ℕ) → bitOr a b ≡ 0 → a ≡ 0
 or-zero-left a b h = omega (arith, or-add-and a b, and-le-r a b)

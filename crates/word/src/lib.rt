@@ -1,12 +1,12 @@
 // Words of 64 bits, and numbers in lists of bytes. Every function is total.
 ghost use mathlib.Core.Path.{_≡_};
 ghost use mathlib.Core.List.{[], _∷_};
-ghost use Prim.Native.Nat.{min, _<_};
-ghost use lib.ListN.{getD, take, set};
+ghost use Prim.Native.Nat.{min, _+_, _<_};
+ghost use lib.ListN.{getD, take, drop, set};
 ghost use lib.Seq.{sets};
 ghost use Rattle.word.specs.Word.{lowMask, beyond, parity, highestBit, badWidth};
 ghost use Rattle.word.specs.Parities.{parities};
-ghost use Rattle.word.specs.Bytes.{number, countAt, wordAt, bytesOf};
+ghost use Rattle.word.specs.Bytes.{number, countAt, wordAt, bytesOf, wordBytes};
 
 // The word with bits 0 to m - 1 set; all 64 bits from m = 64 on.
 pub fn low_mask(m: u64) -> u64
@@ -79,6 +79,28 @@ pub fn byte_at(s: &[u8], i: usize) -> u8
     ensures { λ r. ⌜ r ≡ getD (now (s .entry)) i 0 ⌝ }
 {
     if i < s.len() { s[i] } else { 0 }
+}
+
+// The place `step` places after `at`, and no further than `end`.
+pub fn moved(at: usize, step: usize, end: usize) -> usize
+    ensures { λ r. ⌜ r ≡ min (at + step) end ⌝ }
+{
+    if end <= at {
+        return end;
+    }
+    if end - at < step {
+        return end;
+    }
+    at + step
+}
+
+// The `count` bytes at place `at`, as far as they are there.
+pub fn part(bytes: &[u8], at: usize, count: usize) -> &[u8]
+    ensures { λ r. ⌜ now r ≡ take count (drop at (now (bytes .entry))) ⌝ }
+{
+    let start = moved(at, 0, bytes.len());
+    let end = moved(start, count, bytes.len());
+    &bytes[start..end]
 }
 
 // The count of 2 bytes of s at place i, low byte first; a byte past the end counts as 0.
@@ -165,4 +187,20 @@ pub fn write_word(out: &mut [u8], i: usize, x: u64)
     write_count(out, i + 2, x / 65536);
     write_count(out, i + 4, x / 4294967296);
     write_count(out, i + 6, x / 281474976710656);
+}
+
+// The words, 8 bytes each, one after the other from place `at` of out on, low byte first; nothing past the end.
+pub fn write_words(out: &mut [u8], at: usize, words: &[u64])
+    ensures { λ _. ⌜ now (out .exit) ≡ sets (now (out .entry)) at (wordBytes (now (words .entry))) ⌝ }
+{
+    let mut i = at;
+    let mut c = 0;
+    while c < words.len() {
+        if out.len() <= i {
+            return;
+        }
+        write_word(out, i, words[c]);
+        i += 8;
+        c += 1;
+    }
 }

@@ -1,8 +1,8 @@
 -- `part` meets its contract: the start and the end are clamped.
-use Rattle.response.proofs.PlaceLaws.{part-clamped}
+use Rattle.word.proofs.PartLaws.{part-clamped}
 use borrow.Author.Needs.{needs}
-use Rattle.response.proofs.part.Statement.{statement}
-use Rattle.response.proofs.part.Tie as tie
+use Rattle.word.proofs.part.Statement.{statement}
+use Rattle.word.proofs.part.Tie as tie
 
 moved-requires : tie.Need-moved-requires
 moved-requires c κs = search needs
