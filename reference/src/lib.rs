@@ -13,6 +13,7 @@ pub mod set;
 pub mod both;
 pub mod library;
 pub mod plain;
+pub mod same;
 pub mod random;
 
 /// A bit vector, bit 0 first.

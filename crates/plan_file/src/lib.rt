@@ -54,7 +54,7 @@ pub fn expected_bits(plan: &[u8]) -> u64
     ensures { λ r. ⌜ r ≡ wordAt (now (plan .entry)) (bitsAt (countOf (now (plan .entry)))) ⌝ }
 {
     let q = count(plan) as usize;
-    word::read_word(plan, 6 + 8 * q)
+    word::read_short_word(plan, 6 + 8 * q)
 }
 
 // Number 19: whether the plan has fewer than 2 bytes, or its m isn't 1 to 64.

@@ -1,13 +1,16 @@
 -- Numbers in a list of bytes: reading one byte on, how large a number is, and that what is written is read back.
-use mathlib.Core.Path.{_≡_, refl, sym, ap, _∙_}
+use mathlib.Core.Path.{_≡_, refl, sym, ap, ap₂, _∙_}
 use mathlib.Core.List.{List, [], _∷_, _++_, append-assoc}
-use Prim.Native.Nat.{ℕ, zero, suc, _+_, _*_, _/_, _%_, _^_, _≤_, _<_}
+use mathlib.Core.Logic.{_⊎_, inl, inr, ⊎-elim, dite}
+use Prim.Native.Nat.{ℕ, zero, suc, _+_, _-_, _*_, _/_, _%_, _^_, _≤_, _<_, min}
 use native.Mathlib.Omega.{arith}
-use native.Mathlib.Nat.{add-zero, add-suc, suc-add, pow-suc, mod-lt, mod-one, one-le-pow, div-div-eq-div-mul, le-of-suc-le-suc}
+use native.Mathlib.Nat.{add-zero, add-suc, suc-add, pow-suc, mod-lt, mod-one, one-le-pow, div-div-eq-div-mul, le-of-suc-le-suc, lt-of-lt-of-le}
+use native.Mathlib.Decide.{decLt}
 use native.Mathlib.Numerals.{add-one, towards-suc}
 use lib.Arith.{mod-mul}
 use lib.Dec.{lit<}
 use lib.ListN.{length, getD, set, length-append, drop-of-length-le}
+use lib.Pow.{pow-mono, pow-add}
 use lib.Seq.{take-nil, take-at, drop-append-seam, sets, set-out}
 use Rattle.word.specs.Bytes.{number, numberAt, countAt, wordAt, wordsAt, bytesOf, wordBytes}
 
@@ -49,6 +52,46 @@ word-of-bytes s i = simp towards-suc (number-of-bytes 8 s i)
 pub word-of-counts : (s : List ℕ) (i : ℕ) → wordAt s i ≡ countAt s i + 65536 * (countAt s (i + 2) + 65536 * (countAt s (i + 4) + 65536 * countAt s (i + 6)))
 unfolding number
 word-of-counts s i = simp (towards-suc, number-of-bytes) (omega arith)
+
+-- ---- a word, from its last byte on
+
+-- of the 8 bytes at place i those from place i + k on make w; a byte past the end counts as 0
+abbrev pub Numbered : List ℕ → ℕ → ℕ → ℕ → Type 0
+Numbered s i k w = (k ≤ 8) × (i + k ≤ length s) × (w ≡ numberAt (8 - k) s (i + k)) × (w < 2 ^ (8 * (8 - k)))
+
+pub numbered-start : (s : List ℕ) (i k : ℕ) → i < length s → k ≡ min (length s - i) 8 → Numbered s i k 0
+numbered-start s i k h e = (
+  omega (arith, e),
+  omega (arith, e, h),
+  sym (⊎-elim (λ (z : k ≡ 8). ap (λ (x : ℕ). numberAt x s (i + k)) (omega (arith, z)) ∙ number-at-zero s (i + k)) (λ (z : length s ≤ i + k). number-at-end (8 - k) s (i + k) z) full),
+  one-le-pow (8 * (8 - k)) 2 (omega arith),
+)
+  where
+    full : (k ≡ 8) ⊎ (length s ≤ i + k)
+    full = dite (decLt (length s - i) 8) (λ (z : length s - i < 8). inr (omega (arith, e, h, z))) (λ (z : length s - i < 8 → ⊥). inl (omega (arith, e, z)))
+
+pub numbered-small : (s : List ℕ) (i k w : ℕ) → Numbered s i k w → 0 < k → w < 2 ^ 56
+numbered-small s i k w n h =
+    let few : 8 * (8 - k) ≤ 56 = omega (arith, h) in
+    lt-of-lt-of-le (n .3) (pow-mono few)
+
+pub numbered-turn : (s : List ℕ) (i k w b : ℕ) → Numbered s i k w → 0 < k → b ≡ getD s (i + (k - 1)) 0 → b < 256 → Numbered s i (k - 1) (256 * w + b)
+numbered-turn s i zero w b n h e l = let z : ⊥ = omega arith in absurd z
+numbered-turn s i (suc k) w b n h e l =
+    let more : 8 - (suc k - 1) ≡ suc (8 - suc k) = omega (arith, n .0) in
+    let next : i + suc k ≡ suc (i + (suc k - 1)) = omega arith in
+    let step : numberAt (suc (8 - suc k)) s (i + (suc k - 1)) ≡ getD s (i + (suc k - 1)) 0 + 256 * numberAt (8 - suc k) s (suc (i + (suc k - 1))) = number-at-suc (8 - suc k) s (i + (suc k - 1)) in
+    let here : w ≡ numberAt (8 - suc k) s (suc (i + (suc k - 1))) = n .2 ∙ ap (numberAt (8 - suc k) s) next in
+    let split : 8 * suc (8 - suc k) ≡ 8 * (8 - suc k) + 8 = omega arith in
+    let whole : 2 ^ (8 * suc (8 - suc k)) ≡ 2 ^ (8 * (8 - suc k)) * 256 = ap (λ (x : ℕ). 2 ^ x) split ∙ pow-add 2 (8 * (8 - suc k)) 8 in (
+      omega (arith, n .0),
+      omega (arith, n .1),
+      omega (arith, step, here, e, ap (λ (x : ℕ). numberAt x s (i + (suc k - 1))) more),
+      omega (arith, whole, n .3, l, ap (λ (x : ℕ). 2 ^ (8 * x)) more),
+    )
+
+pub numbered-done : (s : List ℕ) (i k w : ℕ) → Numbered s i k w → k ≡ 0 → w ≡ wordAt s i
+numbered-done s i k w n z = n .2 ∙ ap₂ (λ (x y : ℕ). numberAt x s y) (omega (arith, z)) (omega (arith, z))
 
 pub bytes-of-length : (k x : ℕ) → length (bytesOf k x) ≡ k
 unfolding bytesOf

@@ -129,7 +129,30 @@ fn word_of(b0: u8, b1: u8, b2: u8, b3: u8, b4: u8, b5: u8, b6: u8, b7: u8) -> u6
     256 * w + b0 as u64
 }
 
-// The word of 8 bytes of s at place i, low byte first; a byte past the end counts as 0.
+fn at_most_8(n: usize) -> usize
+    ensures { λ r. ⌜ r ≡ min n 8 ⌝ }
+{
+    if n < 8 { n } else { 8 }
+}
+
+// The word of 8 bytes of s at place i, low byte first; a byte past the end counts as 0. It goes over the bytes that are there,
+// from the last one on, and is for places where fewer than 8 may be left.
+pub fn read_short_word(s: &[u8], i: usize) -> u64
+    ensures { λ r. ⌜ r ≡ wordAt (now (s .entry)) i ⌝ }
+{
+    if s.len() <= i {
+        return 0;
+    }
+    let mut k = at_most_8(s.len() - i);
+    let mut w: u64 = 0;
+    while 0 < k {
+        k -= 1;
+        w = 256 * w + wide(s[i + k]);
+    }
+    w
+}
+
+// The same, in one load where 8 bytes are left.
 pub fn read_word(s: &[u8], i: usize) -> u64
     ensures { λ r. ⌜ r ≡ wordAt (now (s .entry)) i ⌝ }
 {
@@ -148,12 +171,7 @@ pub fn read_word(s: &[u8], i: usize) -> u64
             s[i + 7],
         );
     }
-    // the highest count first: a read of s[i] at the start of both ways would keep the eight reads above from
-    // becoming one load
-    let w = read_count(s, i + 6);
-    let w = 65536 * w + read_count(s, i + 4);
-    let w = 65536 * w + read_count(s, i + 2);
-    65536 * w + read_count(s, i)
+    read_short_word(s, i)
 }
 
 // The byte b at place i of out; nothing past the end.

@@ -6,18 +6,18 @@ use Rattle.plan_file.proofs.expected_bits.Tie as tie
 count-requires : tie.Need-count-requires
 count-requires c κs = search needs
 
-mul-read-word : tie.Need-mul-read-word
-mul-read-word c = search needs
+mul-read-short-word : tie.Need-mul-read-short-word
+mul-read-short-word c = search needs
 
-add-read-word : tie.Need-add-read-word
-add-read-word c = search needs
+add-read-short-word : tie.Need-add-read-short-word
+add-read-short-word c = search needs
 
-read-word-requires : tie.Need-read-word-requires
-read-word-requires c κs = search needs
+read-short-word-requires : tie.Need-read-short-word-requires
+read-short-word-requires c κs = search needs
 
 returns : tie.Need-returns
-returns c = rw (c .read-word .ensures, c .before .count .ensures .0)
+returns c = rw (c .read-short-word .ensures, c .before .count .ensures .0)
 
 pub expected-bits-spec : {M : Type 1} → statement M
 expected-bits-spec =
-    tie.close (tie.spec count-requires mul-read-word add-read-word read-word-requires returns)
+    tie.close (tie.spec count-requires mul-read-short-word add-read-short-word read-short-word-requires returns)

@@ -1,8 +1,9 @@
--- `read_word` meets its contract: past the end the word is 0; eight bytes within the list make it, and so do four counts.
+-- `read_word` meets its contract: past the end the word is 0; eight bytes within the list make it, and so do the four counts of
+-- `read_short_word`.
 use mathlib.Core.Path.{sym}
 use native.Mathlib.Omega.{arith}
 use borrow.Author.Needs.{needs}
-use Rattle.word.proofs.ByteLaws.{number-at-end, word-of-bytes, word-of-counts}
+use Rattle.word.proofs.ByteLaws.{number-at-end, word-of-bytes}
 use Rattle.word.proofs.read_word.Statement.{statement}
 use Rattle.word.proofs.read_word.Tie as tie
 
@@ -13,7 +14,7 @@ returns-2 : tie.Need-returns-2
 returns-2 c = rw word-of-bytes (c .word-of .ensures)
 
 returns-3 : tie.Need-returns-3
-returns-3 c = rw word-of-counts (omega arith)
+returns-3 c = c .read-short-word .ensures
 
 pub read-word-spec : {M : Type 1} → statement M
 read-word-spec =
@@ -38,17 +39,5 @@ read-word-spec =
     (λ c. search needs)
     (λ c κs. search needs)
     returns-2
-    (λ c. search needs)
     (λ c κs. search needs)
-    (λ c. search needs)
-    (λ c. search needs)
-    (λ c κs. search needs)
-    (λ c. search needs)
-    (λ c. search needs)
-    (λ c. search needs)
-    (λ c κs. search needs)
-    (λ c. search needs)
-    (λ c. search needs)
-    (λ c κs. search needs)
-    (λ c. search needs)
     returns-3)
