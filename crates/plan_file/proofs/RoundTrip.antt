@@ -5,6 +5,7 @@
 --   written-words      .. its words
 --   written-expected   .. its expected bits
 --   written-taken      .. and meets no number
+--   written-output     .. it is the front of the output, as many bytes as the writer answers with
 --   plan-of-content    a plan that meets no number is the plan file of its m, its words and its expected bits
 -- Assumes nothing.
 use mathlib.Core.Path.{_≡_, refl, sym, ap, ap₂, _∙_, subst}
@@ -17,19 +18,20 @@ use borrow.Author.Tests.{ltb-false, le-ltb, eq-eqb, not-true, not-false}
 use lib.Dec.{eqb, ltb, lit<}
 use lib.ListN.{length, take, drop, getD, length-append, length-drop}
 use lib.Pow.{pow-mono}
-use lib.Seq.{take-all}
+use lib.Seq.{take-all, take-at}
 use Rattle.word.specs.Word.{badWidth, beyond}
 use Rattle.word.specs.Some.{allOf}
 use Rattle.word.specs.Bytes.{numberAt, countAt, wordsAt, bytesOf, wordBytes}
-use Rattle.word.specs.Reply.{firstOf}
+use Rattle.word.specs.Reply.{Reply, answer, firstOf, front, lent}
 use Rattle.word.proofs.BoolLaws.{and-left, and-right, or-false-left, or-false-right}
 use Rattle.word.proofs.ByteLaws.{bytes-of-length, length-word-bytes}
 use Rattle.word.proofs.FileLaws.{number-back, words-back, pow-bytes, number-bytes, words-bytes, part-joins}
+use Rattle.word.proofs.TestLaws.{replied-answer}
 use Rattle.word.proofs.WordLaws.{good-width, within, not-beyond}
 use Rattle.elimination.specs.Reduced.{isReduced, ascending, topsClear}
 use Rattle.plan_file.specs.Layout.{againAt, bitBytes, bitsAt, planLength, widthOf, countOf, wordsOf, againOf, expectedOf}
 use Rattle.plan_file.specs.Reading.{badPlanWidth, badPlanCount, badPlanEnd, planTests}
-use Rattle.plan_file.specs.Writing.{PlanContent, contentOf, wordCount, planBytes, writeTests}
+use Rattle.plan_file.specs.Writing.{PlanContent, contentOf, wordCount, planBytes, writeTests, writeReply}
 use Rattle.plan_file.proofs.Laws.{Taken, taken}
 use Rattle.plan_file.proofs.WordPlaces.{plan-words-length}
 use Rattle.plan_file.proofs.WriteLaws.{none-of-write, length-plan-bytes}
@@ -165,6 +167,14 @@ module _ (k : PlanContent) (c : Content k) where
             subst (λ (x : ℕ). x < 2 ^ countOf (planBytes k)) (sym written-expected)
             (subst (λ (n : ℕ). k .expected < 2 ^ n) (sym written-count) (c .expected-inside));
       })
+
+pub written-output : (k : PlanContent) (l : List ℕ) (n : ℕ) → writeReply k (length l) ≡ answer n
+    → take n (lent (writeReply k (length l)) (planBytes k) l) ≡ planBytes k
+unfolding writeReply front
+written-output k l n e =
+    let done = replied-answer (firstOf (writeTests k (length l))) (planLength (wordCount k)) n e in
+    let long : length (planBytes k) ≡ n = length-plan-bytes k ∙ sym (done .1) in
+    ap (λ (r : Reply ℕ). take n (lent r (planBytes k) l)) e ∙ take-at (planBytes k) _ n long
 
 -- ---- a plan of bytes, part after part
 

@@ -7,6 +7,7 @@
 --   planTests plan       the numbers 19 to 22, in order
 --   readTests plan room  .. and then 18, for a lent list of `room` places
 --   PlanParts            what the reader answers
+--   partsOf plan         .. of the plan: m, q and the expected bits
 --   planReply            its reply
 --   said a               the paper's reading of what the reader hands back
 use mathlib.Core.Bool.{Bool, not, _||_}

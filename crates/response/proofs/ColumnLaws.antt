@@ -3,7 +3,6 @@
 use mathlib.Core.Path.{_≡_, refl, sym, ap, ap₂, _∙_}
 use mathlib.Core.Bool.{Bool, false, true, cond, _&&_}
 use mathlib.Core.Logic.{⊎-elim}
-use mathlib.Core.List.{_++_}
 use Prim.Native.Nat.{ℕ, zero, suc, _+_, _-_, _^_, _≤_, _<_}
 use native.Mathlib.Nat.{eq-or-lt-of-le, le-of-suc-le-suc, not-suc-le-zero}
 use native.Mathlib.Omega.{arith}
@@ -111,14 +110,6 @@ length-listed (suc zero) w h = refl
 length-listed (suc (suc d)) w h = let z : ⊥ = omega arith in absurd z
 
 module _ (k : Circuit) (s : ℕ) (u : Response) where
-  pub slice-columns-suc : (t c : ℕ) → sliceColumns k s u t (suc c) ≡ sliceColumns k s u t c ++ listed (u t c) (column k s t c)
-  unfolding sliceColumns
-  slice-columns-suc t c = refl
-
-  pub columns-below-suc : (t : ℕ) → columnsBelow k s u (suc t) ≡ columnsBelow k s u t ++ sliceColumns k s u t (chains k)
-  unfolding columnsBelow
-  columns-below-suc t = refl
-
   pub length-slice-columns : ((t c : ℕ) → u t c < 2) → (t c : ℕ) → length (sliceColumns k s u t c) ≡ total c (u t)
   unfolding sliceColumns total
   length-slice-columns hu t zero = refl

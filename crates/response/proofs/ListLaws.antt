@@ -1,5 +1,5 @@
 -- The columns of one slice, written from the end: the start, the turn and the end of the loop over the chains. Assumes nothing.
-use mathlib.Core.Path.{_≡_, refl, sym, ap, ap₂, _∙_}
+use mathlib.Core.Path.{_≡_, refl, sym, ap, _∙_}
 use mathlib.Core.Bool.{Bool, true, false, cond, _&&_}
 use mathlib.Core.List.{List, [], _++_}
 use Prim.Native.Nat.{ℕ, zero, suc, _+_, _-_, _/_, _%_, _≤_, _<_}
@@ -83,27 +83,26 @@ module _ (ws row : List ℕ) where
   unfolding Listing
   listing-starts l = (omega arith, rw words-from-end (omega arith), rw words-from-end (sym (back-none l)))
 
-  pub listing-turns : (l₀ l l′ : List ℕ) (place place′ c c′ d w : ℕ) → Listing l₀ l place c → 0 < c
-      → c′ ≡ c - stepDown row (c - 1) → d ≡ cell row c′ → w ≡ getD ws c′ 0
-      → place′ ≡ length (take place l) - length (listed d w) → l′ ≡ back (listed d w) (take place l) ++ drop place l
+  pub listing-turns : (l₀ l l′ : List ℕ) (place place′ c c′ : ℕ) → Listing l₀ l place c → 0 < c → c′ ≡ c - stepDown row (c - 1)
+      → place′ ≡ length (take place l) - length (word c′) → l′ ≡ back (word c′) (take place l) ++ drop place l
       → Listing l₀ l′ place′ c′
   unfolding Listing
-  listing-turns l₀ l l′ place place′ zero c′ d w k h ec ed ew ep el = let z : ⊥ = omega arith in absurd z
-  listing-turns l₀ l l′ place place′ (suc c) c′ d w k h ec ed ew ep el = (
+  listing-turns l₀ l l′ place place′ zero c′ k h ec ep el = let z : ⊥ = omega arith in absurd z
+  listing-turns l₀ l l′ place place′ (suc c) c′ k h ec ep el = (
     omega arith,
-    ep ∙ ap (λ (x : List ℕ). length (take place x) - length (listed d w)) (k .2)
-        ∙ back-more-room (listed d w) (wordsFrom (suc c)) l₀ place (k .1) ∙ ap (λ (x : List ℕ). length l₀ - length x) (sym words),
-    el ∙ ap (λ (x : List ℕ). back (listed d w) (take place x) ++ drop place x) (k .2)
-        ∙ back-more (listed d w) (wordsFrom (suc c)) l₀ place (k .1) ∙ ap (λ (x : List ℕ). back x l₀) (sym words),
+    ep ∙ ap (λ (x : List ℕ). length (take place x) - length (word c′)) (k .2)
+        ∙ back-more-room (word c′) (wordsFrom (suc c)) l₀ place (k .1) ∙ ap (λ (x : List ℕ). length l₀ - length x) (sym words),
+    el ∙ ap (λ (x : List ℕ). back (word c′) (take place x) ++ drop place x) (k .2)
+        ∙ back-more (word c′) (wordsFrom (suc c)) l₀ place (k .1) ∙ ap (λ (x : List ℕ). back x l₀) (sym words),
   )
     where
       low : c′ ≡ suc c - stepDown row c
       low = ec ∙ let same : suc c - 1 ≡ c = omega arith in ap (λ (x : ℕ). suc c - stepDown row x) same
 
-      words : wordsFrom c′ ≡ listed d w ++ wordsFrom (suc c)
+      words : wordsFrom c′ ≡ word c′ ++ wordsFrom (suc c)
       words =
           ap wordsFrom low ∙ words-from-down c (stepDown row c) (k .0) (passed row c)
-          ∙ ap (λ (x : List ℕ). x ++ wordsFrom (suc c)) (sym (ap₂ listed ed ew ∙ ap word low))
+          ∙ ap (λ (x : ℕ). word x ++ wordsFrom (suc c)) (sym low)
 
   pub listing-ends : (l₀ l : List ℕ) (place c : ℕ) → Listing l₀ l place c → c ≡ 0
       → (place ≡ length l₀ - length (chosenWords ws (cell row) (length ws))) × (l ≡ back (chosenWords ws (cell row) (length ws)) l₀)

@@ -1,5 +1,5 @@
 -- Rows that stand in a list as far as it goes, and what each small function writes or answers. Assumes nothing.
-use mathlib.Core.Path.{_≡_, refl, sym, ap, _∙_}
+use mathlib.Core.Path.{_≡_, refl, sym, ap, ap₂, _∙_}
 use mathlib.Core.List.{List, [], _∷_, _++_}
 use Prim.Native.Nat.{ℕ, zero, suc, _+_, _-_, _*_, _/_, _%_, min}
 use native.Mathlib.Nat.{mul-suc, mul-zero}
@@ -57,6 +57,12 @@ module _ (l : List ℕ) (d w : ℕ) where
       go : (d : ℕ) → (d ≡ 0 → ⊥) → (length l - 1 ≡ length l - length (listed d w)) × (set l (length l - 1) w ≡ back (listed d w) l)
       go zero f = absurd (f refl)
       go (suc d) f = (omega arith, write)
+
+-- .. by what is written there
+pub put-same : (l l′ : List ℕ) (r d w d′ w′ : ℕ) → d ≡ d′ → w ≡ w′ → r ≡ length l - length (listed d w) → l′ ≡ back (listed d w) l
+    → (r ≡ length l - length (listed d′ w′)) × (l′ ≡ back (listed d′ w′) l)
+put-same l l′ r d w d′ w′ ed ew er el =
+    (er ∙ ap₂ (λ (x y : ℕ). length l - length (listed x y)) ed ew, el ∙ ap₂ (λ (x y : ℕ). back (listed x y) l) ed ew)
 
 -- ---- how many chains at once
 

@@ -157,6 +157,15 @@ fn put_last(columns: &mut [u64], digit: u64, word: u64) -> usize
     room - 1
 }
 
+// Writes the word of chain c over the list's last place where its cell in the row is 1, and answers with how many places stand
+// before what it wrote.
+fn put_cell(columns: &mut [u64], words: &[u64], row: &[u8], c: usize) -> usize
+    ensures { λ r. ⌜ r ≡ length (now (columns .entry)) - length (listed (cell (now (row .entry)) c) (getD (now (words .entry)) c 0)) ⌝ }
+    ensures { λ _. ⌜ now (columns .exit) ≡ back (listed (cell (now (row .entry)) c) (getD (now (words .entry)) c 0)) (now (columns .entry)) ⌝ }
+{
+    put_last(columns, register::cell_at(row, c), word_at(words, c))
+}
+
 // How many chains, chain c the last of them, are dealt with at once: a byte of the row without a mark is passed over whole.
 fn step_down(row: &[u8], c: usize) -> usize
     ensures { λ r. ⌜ r ≡ stepDown (now (row .entry)) c ⌝ }
@@ -179,7 +188,7 @@ fn list_row(columns: &mut [u64], words: &[u64], row: &[u8]) -> usize
     let mut c = words.len();
     while 0 < c {
         c -= step_down(row, c - 1);
-        place = put_last(&mut columns[..place], register::cell_at(row, c), words[c]);
+        place = put_cell(&mut columns[..place], words, row, c);
     }
     place
 }

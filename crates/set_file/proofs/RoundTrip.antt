@@ -4,6 +4,7 @@
 --   written-holds      .. as the file that the writer makes of k does
 --   ReadBack k         what the set reader and the row calls answer of that file
 --   written-set        .. so they give back what the writer was handed
+--   written-output     .. and that file is the front of the output, as many bytes as the writer answers with
 --   accepted-back      a set that is right in each part meets no number
 --   content-holds      an accepted set gives its own content
 --   file-of-content    an accepted set that gives the content k is the file of k
@@ -32,6 +33,7 @@ use Rattle.word.proofs.BoolLaws.{or-false}
 use Rattle.word.proofs.ByteLaws.{bytes-of-length, length-word-bytes}
 use Rattle.word.proofs.FileLaws.{number-back, words-back, number-bytes, words-bytes, part-joins}
 use Rattle.word.proofs.JoinLaws.{joined-ext, joined-length, joined-row, joined-back}
+use Rattle.word.proofs.TestLaws.{replied-answer}
 use Rattle.word.proofs.WordLaws.{good-width}
 use Rattle.register.specs.Row.{cell, rowBytes, spareSet}
 use Rattle.register.specs.Circuit.{badTaps, badChains, badSpread}
@@ -251,6 +253,14 @@ written-set k room none =
       value-stretches = λ t l. value-stretch (setBytes k) taken t (rw (h .slices) l) ∙ h .value-rows t l;
       mark-stretches = λ t l. mark-stretch (setBytes k) taken t (rw (h .slices) l) ∙ h .mark-rows t l;
     }
+
+pub written-output : (k : SetContent) (l : List ℕ) (n : ℕ) → writeReply k (length l) ≡ answer n
+    → take n (lent (writeReply k (length l)) (setBytes k) l) ≡ setBytes k
+unfolding writeReply front
+written-output k l n e =
+    let done = replied-answer (firstOf (writeTests k (length l))) (setLength (chainCount k) (k .s)) n e in
+    let long : length (setBytes k) ≡ n = set-bytes-length k (writable k (length l) (done .0) .rows) ∙ sym (done .1) in
+    ap (λ (r : Reply ℕ). take n (lent r (setBytes k) l)) e ∙ take-at (setBytes k) _ n long
 
 -- ---- an accepted set, part after part
 

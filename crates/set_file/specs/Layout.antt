@@ -15,8 +15,8 @@
 --   markAt n t          the place of slice t's row of unknown marks
 --   valueRow set t      slice t's value row
 --   markRow set t       slice t's row of unknown marks
---   valuesOf set        the set's value rows as one list, slice after slice
---   marksOf set         its rows of unknown marks as one list, slice after slice
+--   valuesOf set        document 01, "the two lists of rows": the value rows of all slices, one after the other
+--   marksOf set         .. and their rows of unknown marks
 --   values set t c      the value bit of chain c in slice t
 --   marks set t c       its mark: 1 where the cell is unknown
 use mathlib.Core.List.{List}

@@ -6,6 +6,7 @@
 --   valuedUnknown set    document 01, 10: an unknown cell has its value bit set
 --   setTests set         the numbers 1 to 10, in order
 --   SetParts             what the reader answers
+--   partsOf set          .. of the set: m, the tap word, n and s
 --   setReply set         its reply
 --   spreadBeside r ws    the 256 words beside the reply r: the words ws and zeros after an answer, zeros after a refusal
 --   said a               the paper's reading of what the reader hands back

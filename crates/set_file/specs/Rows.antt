@@ -5,6 +5,8 @@
 --   rowTests set t      the set's numbers, then 11: the slice number isn't below s
 --   Stretch             a part of the set: its first byte and how many
 --   rowReply set t i    the companion's reply, for the row of slice t that stands at place i
+--   valueReply set t    .. for its value row
+--   markReply set t     .. for its row of unknown marks
 --   stretch r set       the part of the set that the reply r names; nothing in a refusal
 --   saidPlace p         the paper's reading of what the companion hands back
 use mathlib.Core.Bool.{not}

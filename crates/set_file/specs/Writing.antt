@@ -8,6 +8,9 @@
 --   listRow n l t       row t of a list of rows of n chains
 --   sliceBytes k t      slice t: its value row and its row of unknown marks
 --   setBytes k          the set file of the content k
+--   badRows k           document 01, 8: the length of a list of rows isn't what the counts give
+--   spareInLists k      document 01, 9: a row has a spare bit set
+--   valuedInLists k     document 01, 10: an unknown cell has its value bit set
 --   writeTests k room   the numbers that the writer meets, in order, for an output of `room` bytes
 --   writeReply k room   its reply: the length of the file
 --   saidWritten w       the paper's reading of what the writer hands back
@@ -54,17 +57,14 @@ unfoldable pub setBytes : SetContent → List ℕ
 setBytes k =
     bytesOf 2 (k .m) ++ (bytesOf 8 (k .taps) ++ (bytesOf 2 (chainCount k) ++ (wordBytes (k .spread) ++ (bytesOf 2 (k .s) ++ joined (sliceBytes k) (k .s)))))
 
--- 8: the length of a list of rows isn't what the counts give
 unfoldable pub badRows : SetContent → Bool
 badRows k =
     not (eqb (length (k .values)) (rowBytes (chainCount k) * k .s)) || not (eqb (length (k .marks)) (rowBytes (chainCount k) * k .s))
 
--- 9: a row has a spare bit set
 unfoldable pub spareInLists : SetContent → Bool
 spareInLists k =
     anyBelow (k .s) (λ t. spareSet (chainCount k) (listRow (chainCount k) (k .values) t) || spareSet (chainCount k) (listRow (chainCount k) (k .marks) t))
 
--- 10: an unknown cell has its value bit set
 unfoldable pub valuedInLists : SetContent → Bool
 valuedInLists k =
     anyBelow (k .s)

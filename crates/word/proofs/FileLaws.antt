@@ -23,14 +23,14 @@ use lib.Pow.{pow-add}
 use lib.Seq.{take-all, take-add, drop-drop, getD-drop, sets, sets-eq}
 use Rattle.word.specs.Bytes.{number, numberAt, wordAt, wordsAt, bytesOf, wordBytes}
 use Rattle.word.specs.Reply.{front}
-use Rattle.word.proofs.ByteLaws.{bytes-of-length, number-at-append, number-bytes-of, bytes-of-number, sets-append}
+use Rattle.word.proofs.ByteLaws.{bytes-of-length, number-at-bytes, bytes-of-number, sets-append}
 
 -- ---- what is written is read back
 
 pub number-back : (k x : ℕ) (a b : List ℕ) (i : ℕ) → length a ≡ i → x < 256 ^ k → numberAt k (a ++ (bytesOf k x ++ b)) i ≡ x
 number-back k x a b i e h =
     ap₂ (λ (s : List ℕ) (n : ℕ). numberAt k s n) (sym (append-assoc a (bytesOf k x) b)) (sym e)
-    ∙ number-at-append k a (bytesOf k x) b (bytes-of-length k x) ∙ number-bytes-of k x ∙ mod-eq-of-lt h
+    ∙ number-at-bytes k x a b ∙ mod-eq-of-lt h
 
 pub words-back : (ws a b : List ℕ) (i : ℕ) → length a ≡ i → ((j : ℕ) → getD ws j 0 < 256 ^ 8) → wordsAt (a ++ (wordBytes ws ++ b)) i (length ws) ≡ ws
 unfolding wordsAt wordBytes

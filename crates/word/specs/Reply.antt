@@ -2,9 +2,11 @@
 -- numbers about its own input, in this order"; "a refusal carries its number and nothing more"; "success writes the front
 -- of each lent list or output and not the rest", and a refusal writes nothing.
 --
---   n when b        the refusal number n, and whether it applies
+--   Test            a refusal number, and whether it applies
+--   n when b        the number n, which applies where b holds
 --   firstOf ts      the first number of ts that applies; 0 where none does
 --   Reply A         an answer with its data, or a refusal with its number
+--   replied n a     the refusal with the number n; the answer a for 0
 --   reply ts a      the refusal with the first number of ts that applies; the answer a where none does
 --   numberOf r      the refusal's number; 0 of an answer
 --   front vs l      the list l with vs written over its front

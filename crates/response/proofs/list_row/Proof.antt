@@ -28,37 +28,28 @@ step-down-requires c κs = search needs
 sub-c : tie.Need-sub-c Inv-loop μ-loop
 sub-c c = step-fits _ _ _ (c .step-down .ensures) (c .before .loop-test .taken) .1
 
-slice-relend-prefix-put-last : tie.Need-slice-relend-prefix-put-last Inv-loop μ-loop
-slice-relend-prefix-put-last c = search needs
+slice-relend-prefix-put-cell : tie.Need-slice-relend-prefix-put-cell Inv-loop μ-loop
+slice-relend-prefix-put-cell c = search needs
 
-slice-aggregate-put-last : tie.Need-slice-aggregate-put-last Inv-loop μ-loop
-slice-aggregate-put-last c = sym (length-take-le _ _ (search needs))
+slice-aggregate-put-cell : tie.Need-slice-aggregate-put-cell Inv-loop μ-loop
+slice-aggregate-put-cell c = sym (length-take-le _ _ (search needs))
 
-cell-at-requires : tie.Need-cell-at-requires Inv-loop μ-loop
-cell-at-requires c κs = search needs
-
-mul-put-last : tie.Need-mul-put-last Inv-loop μ-loop
-mul-put-last c = omega (arith, c .before .before .before .before .before .before .before .before .good .1 .0 .1)
-
-shared-slice-read-put-last : tie.Need-shared-slice-read-put-last Inv-loop μ-loop
-shared-slice-read-put-last c =
-    omega (arith, step-fits _ _ _ (c .before .before .before .step-down .ensures) (c .before .before .before .before .loop-test .taken) .0)
-
-put-last-requires : tie.Need-put-last-requires Inv-loop μ-loop
-put-last-requires c κs = search needs
+put-cell-requires : tie.Need-put-cell-requires Inv-loop μ-loop
+put-cell-requires c κs = search needs
 
 loop-less : tie.Need-loop-less Inv-loop μ-loop
-loop-less c = omega (arith, step-fits _ _ _ (c .before .before .before .before .before .before .step-down .ensures) (c .before .before .before .before .before .before .before .loop-test .taken) .0)
+loop-less c = omega (arith, step-fits _ _ _ (c .before .before .before .before .step-down .ensures) (c .before .before .before .before .before .loop-test .taken) .0)
 
 loop-again : tie.Need-loop-again Inv-loop μ-loop
 loop-again c =
-    let at = c .before .before .before .before .before .before .before .before .loop in
+    let at = c .before .before .before .before .before .before .loop in
+    let args = c .before .before .before .before .before .before .before .before .before .before .args in
     let k =
-    listing-turns (c .before .before .before .before .before .before .before .before .before .before .before .before .args .words .now) (c .before .before .before .before .before .before .before .before .before .before .before .before .args .row .now) _ _ _ _ _ _ _ _ _ (at .inv .2)
-    (c .before .before .before .before .before .before .before .loop-test .taken)
-    (ap (λ (x : ℕ). at .c - x) (c .before .before .before .before .before .before .step-down .ensures))
-    (c .before .before .before .before .cell-at .ensures) refl (c .before .before .put-last .ensures .0)
-    (ap (λ (x : List ℕ). x ++ drop (at .place) (at .columns)) (c .before .before .put-last .ensures .1)) in
+    listing-turns (args .words .now) (args .row .now) _ _ _ _ _ _ _ (at .inv .2)
+    (c .before .before .before .before .before .loop-test .taken)
+    (ap (λ (x : ℕ). at .c - x) (c .before .before .before .before .step-down .ensures))
+    (c .before .before .put-cell .ensures .0)
+    (ap (λ (x : List ℕ). x ++ drop (at .place) (at .columns)) (c .before .before .put-cell .ensures .1)) in
     (search needs, listing-room _ _ _ _ _ _ k .1, k)
 
 same-length : tie.Need-same-length Inv-loop μ-loop
@@ -77,12 +68,9 @@ list-row-spec =
     sub-step-down
     step-down-requires
     sub-c
-    slice-relend-prefix-put-last
-    slice-aggregate-put-last
-    cell-at-requires
-    mul-put-last
-    shared-slice-read-put-last
-    put-last-requires
+    slice-relend-prefix-put-cell
+    slice-aggregate-put-cell
+    put-cell-requires
     loop-less
     loop-again
     same-length
