@@ -2,8 +2,10 @@
 # make test   the whole gate: layout, proofs from nothing, must-fail edits, programs, the Rust and C tests
 # make lib    the static library for C and Rust: target/staticlib/libcanceller.a (header: include/canceller.h)
 # make soak SECONDS=60   random calls by the library and the second implementation
+# make bench  the benchmark's tables, and the picture docs/growth.svg
+# make bench-instructions   instructions of each call, by valgrind's callgrind
 # make fmt    lay every source out as the gate asks
-.PHONY: run test lib soak fmt tools rust-tools
+.PHONY: run test lib soak bench bench-instructions fmt tools rust-tools
 
 SECONDS ?= 60
 
@@ -19,6 +21,12 @@ lib: tools
 
 soak: lib rust-tools
 	cargo run --offline --release --manifest-path reference/Cargo.toml --bin soak -- $(SECONDS)
+
+bench: lib rust-tools
+	scripts/bench.sh
+
+bench-instructions: lib rust-tools
+	scripts/bench.sh instructions
 
 fmt: tools
 	rt fmt

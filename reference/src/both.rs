@@ -34,16 +34,28 @@ impl Both {
         for f in &mut fences {
             f.side = side;
         }
-        Both { fences, calls: 0, at: String::new() }
+        Both {
+            fences,
+            calls: 0,
+            at: String::new(),
+        }
     }
 
     fn same<T: PartialEq + std::fmt::Debug>(&mut self, call: &str, library: T, second: T) {
         self.calls += 1;
-        assert!(library == second, "{call}, {}: the library gives {library:?}, the second implementation {second:?}", self.at);
+        assert!(
+            library == second,
+            "{call}, {}: the library gives {library:?}, the second implementation {second:?}",
+            self.at
+        );
     }
 
     fn kept<T: PartialEq + std::fmt::Debug>(&self, call: &str, lent: &[T], before: &[T]) {
-        assert!(lent == before, "{call}, {}: the library changed what it was lent to read", self.at);
+        assert!(
+            lent == before,
+            "{call}, {}: the library changed what it was lent to read",
+            self.at
+        );
     }
 
     /// The set reader.
@@ -52,7 +64,14 @@ impl Both {
         let lent_set = a.put(set);
         let got = unsafe { canceller_read_set(lent_set.as_ptr(), lent_set.len()) };
         let same = lent_set == set;
-        let mut want = CSet { refusal: 0, m: 0, taps: 0, n: 0, s: 0, spread: [0; 256] };
+        let mut want = CSet {
+            refusal: 0,
+            m: 0,
+            taps: 0,
+            n: 0,
+            s: 0,
+            spread: [0; 256],
+        };
         match read_set(set) {
             Err(n) => want.refusal = n,
             Ok(read) => {
@@ -80,8 +99,16 @@ impl Both {
                 }
             };
             let want = match row_place(set, slice, mark) {
-                Err(n) => CStretch { refusal: n, start: 0, length: 0 },
-                Ok((start, length)) => CStretch { refusal: 0, start: start as u64, length: length as u64 },
+                Err(n) => CStretch {
+                    refusal: n,
+                    start: 0,
+                    length: 0,
+                },
+                Ok((start, length)) => CStretch {
+                    refusal: 0,
+                    start: start as u64,
+                    length: length as u64,
+                },
             };
             self.same("row", got, want);
         }
@@ -89,7 +116,16 @@ impl Both {
 
     /// The set writer, with an output of `room` bytes.
     #[allow(clippy::too_many_arguments)]
-    pub fn write_set(&mut self, m: u64, taps: u64, spread: &[u64], values: &[u8], marks: &[u8], s: u64, room: usize) -> Reply<Vec<u8>> {
+    pub fn write_set(
+        &mut self,
+        m: u64,
+        taps: u64,
+        spread: &[u64],
+        values: &[u8],
+        marks: &[u8],
+        s: u64,
+        room: usize,
+    ) -> Reply<Vec<u8>> {
         let [a, b, c, d] = &mut self.fences;
         let (ls, lv, lk) = (a.put(spread), b.put(values), c.put(marks));
         let out = d.put(&vec![PATTERN_BYTE; room]);
@@ -112,8 +148,20 @@ impl Both {
         let same = ls == spread && lv == values && lk == marks;
         let want = write_set(m, taps, spread, values, marks, s, room);
         let (pair, list) = match &want {
-            Err(n) => (CPair { refusal: *n, value: 0 }, lent(&[], PATTERN_BYTE, room)),
-            Ok(file) => (CPair { refusal: 0, value: file.len() as u64 }, lent(file, PATTERN_BYTE, room)),
+            Err(n) => (
+                CPair {
+                    refusal: *n,
+                    value: 0,
+                },
+                lent(&[], PATTERN_BYTE, room),
+            ),
+            Ok(file) => (
+                CPair {
+                    refusal: 0,
+                    value: file.len() as u64,
+                },
+                lent(file, PATTERN_BYTE, room),
+            ),
         };
         assert!(same, "write_set, {}: an input was changed", self.at);
         self.same("write_set", (got, left), (pair, list));
@@ -124,10 +172,18 @@ impl Both {
     pub fn clock(&mut self, m: u64, taps: u64, state: u64, spread: &[u64], row: &[u8]) {
         let [a, b, ..] = &mut self.fences;
         let (ls, lr) = (a.put(spread), b.put(row));
-        let got = unsafe { canceller_clock(m, taps, state, ls.as_ptr(), ls.len(), lr.as_ptr(), lr.len()) };
+        let got = unsafe {
+            canceller_clock(m, taps, state, ls.as_ptr(), ls.len(), lr.as_ptr(), lr.len())
+        };
         let want = match clock(m, taps, state, spread, row) {
-            Err(n) => CPair { refusal: n, value: state },
-            Ok(next) => CPair { refusal: 0, value: next },
+            Err(n) => CPair {
+                refusal: n,
+                value: state,
+            },
+            Ok(next) => CPair {
+                refusal: 0,
+                value: next,
+            },
         };
         self.same("clock", got, want);
     }
@@ -142,8 +198,14 @@ impl Both {
         self.kept("sign", &lr, record);
         let want = sign(set, record);
         let pair = match want {
-            Err(n) => CPair { refusal: n, value: 0 },
-            Ok(y) => CPair { refusal: 0, value: y },
+            Err(n) => CPair {
+                refusal: n,
+                value: 0,
+            },
+            Ok(y) => CPair {
+                refusal: 0,
+                value: y,
+            },
         };
         self.same("sign", got, pair);
         want
@@ -153,11 +215,24 @@ impl Both {
     pub fn list_columns(&mut self, set: &[u8], room: usize) {
         let [a, b, ..] = &mut self.fences;
         let (ls, lc) = (a.put(set), b.put(&vec![PATTERN; room]));
-        let got = unsafe { canceller_list_columns(ls.as_ptr(), ls.len(), lc.as_mut_ptr(), lc.len()) };
+        let got =
+            unsafe { canceller_list_columns(ls.as_ptr(), ls.len(), lc.as_mut_ptr(), lc.len()) };
         let left = lc.to_vec();
         let (pair, list) = match list_columns(set, room) {
-            Err(n) => (CPair { refusal: n, value: 0 }, lent(&[], PATTERN, room)),
-            Ok(columns) => (CPair { refusal: 0, value: columns.len() as u64 }, lent(&columns, PATTERN, room)),
+            Err(n) => (
+                CPair {
+                    refusal: n,
+                    value: 0,
+                },
+                lent(&[], PATTERN, room),
+            ),
+            Ok(columns) => (
+                CPair {
+                    refusal: 0,
+                    value: columns.len() as u64,
+                },
+                lent(&columns, PATTERN, room),
+            ),
         };
         self.same("list_columns", (got, left), (pair, list));
     }
@@ -166,48 +241,123 @@ impl Both {
     pub fn eliminate(&mut self, m: u64, columns: &[u64], room: usize) {
         let [a, b, ..] = &mut self.fences;
         let (lc, lw) = (a.put(columns), b.put(&vec![PATTERN; room]));
-        let got = unsafe { canceller_eliminate(m, lc.as_ptr(), lc.len(), lw.as_mut_ptr(), lw.len()) };
+        let got =
+            unsafe { canceller_eliminate(m, lc.as_ptr(), lc.len(), lw.as_mut_ptr(), lw.len()) };
         let left = lw.to_vec();
         let lc = lc.to_vec();
         self.kept("eliminate", &lc, columns);
         let (answer, list) = match eliminate(m, columns, room) {
-            Err(n) => (CEliminated { refusal: n, rank: 0, q: 0 }, lent(&[], PATTERN, room)),
-            Ok((rank, words)) => {
-                (CEliminated { refusal: 0, rank, q: words.len() as u64 }, lent(&words, PATTERN, room))
-            }
+            Err(n) => (
+                CEliminated {
+                    refusal: n,
+                    rank: 0,
+                    q: 0,
+                },
+                lent(&[], PATTERN, room),
+            ),
+            Ok((rank, words)) => (
+                CEliminated {
+                    refusal: 0,
+                    rank,
+                    q: words.len() as u64,
+                },
+                lent(&words, PATTERN, room),
+            ),
         };
         self.same("eliminate", (got, left), (answer, list));
     }
 
     /// Planning, with lists of these many places. Gives m, the words and the expected bits.
-    pub fn plan(&mut self, set: &[u8], column_room: usize, word_room: usize) -> Reply<planning::Planned> {
+    pub fn plan(
+        &mut self,
+        set: &[u8],
+        column_room: usize,
+        word_room: usize,
+    ) -> Reply<planning::Planned> {
         let [a, b, c, ..] = &mut self.fences;
-        let (ls, lc, lw) = (a.put(set), b.put(&vec![PATTERN; column_room]), c.put(&vec![PATTERN; word_room]));
-        let got = unsafe { canceller_plan(ls.as_ptr(), ls.len(), lc.as_mut_ptr(), lc.len(), lw.as_mut_ptr(), lw.len()) };
+        let (ls, lc, lw) = (
+            a.put(set),
+            b.put(&vec![PATTERN; column_room]),
+            c.put(&vec![PATTERN; word_room]),
+        );
+        let got = unsafe {
+            canceller_plan(
+                ls.as_ptr(),
+                ls.len(),
+                lc.as_mut_ptr(),
+                lc.len(),
+                lw.as_mut_ptr(),
+                lw.len(),
+            )
+        };
         let (columns_left, words_left) = (lc.to_vec(), lw.to_vec());
         let want = plan(set, column_room, word_room);
         let columns = lent(&want.columns.unwrap_or_default(), PATTERN, column_room);
         let (answer, words) = match &want.reply {
-            Err(n) => (CPlanned { refusal: *n, m: 0, q: 0, expected: 0 }, lent(&[], PATTERN, word_room)),
+            Err(n) => (
+                CPlanned {
+                    refusal: *n,
+                    m: 0,
+                    q: 0,
+                    expected: 0,
+                },
+                lent(&[], PATTERN, word_room),
+            ),
             Ok(p) => (
-                CPlanned { refusal: 0, m: p.m, q: p.words.len() as u64, expected: p.expected },
+                CPlanned {
+                    refusal: 0,
+                    m: p.m,
+                    q: p.words.len() as u64,
+                    expected: p.expected,
+                },
                 lent(&p.words, PATTERN, word_room),
             ),
         };
-        self.same("plan", (got, columns_left, words_left), (answer, columns, words));
+        self.same(
+            "plan",
+            (got, columns_left, words_left),
+            (answer, columns, words),
+        );
         want.reply
     }
 
     /// The plan writer, with an output of `room` bytes.
-    pub fn write_plan(&mut self, m: u64, words: &[u64], expected: u64, room: usize) -> Reply<Vec<u8>> {
+    pub fn write_plan(
+        &mut self,
+        m: u64,
+        words: &[u64],
+        expected: u64,
+        room: usize,
+    ) -> Reply<Vec<u8>> {
         let [a, b, ..] = &mut self.fences;
         let (lw, out) = (a.put(words), b.put(&vec![PATTERN_BYTE; room]));
-        let got = unsafe { canceller_write_plan(m, lw.as_ptr(), lw.len(), expected, out.as_mut_ptr(), out.len()) };
+        let got = unsafe {
+            canceller_write_plan(
+                m,
+                lw.as_ptr(),
+                lw.len(),
+                expected,
+                out.as_mut_ptr(),
+                out.len(),
+            )
+        };
         let left = out.to_vec();
         let want = write_plan(m, words, expected, room);
         let (pair, list) = match &want {
-            Err(n) => (CPair { refusal: *n, value: 0 }, lent(&[], PATTERN_BYTE, room)),
-            Ok(file) => (CPair { refusal: 0, value: file.len() as u64 }, lent(file, PATTERN_BYTE, room)),
+            Err(n) => (
+                CPair {
+                    refusal: *n,
+                    value: 0,
+                },
+                lent(&[], PATTERN_BYTE, room),
+            ),
+            Ok(file) => (
+                CPair {
+                    refusal: 0,
+                    value: file.len() as u64,
+                },
+                lent(file, PATTERN_BYTE, room),
+            ),
         };
         self.same("write_plan", (got, left), (pair, list));
         want
@@ -220,9 +370,22 @@ impl Both {
         let got = unsafe { canceller_read_plan(lp.as_ptr(), lp.len(), lw.as_mut_ptr(), lw.len()) };
         let left = lw.to_vec();
         let (answer, words) = match read_plan_into(plan, room) {
-            Err(n) => (CPlanned { refusal: n, m: 0, q: 0, expected: 0 }, lent(&[], PATTERN, room)),
+            Err(n) => (
+                CPlanned {
+                    refusal: n,
+                    m: 0,
+                    q: 0,
+                    expected: 0,
+                },
+                lent(&[], PATTERN, room),
+            ),
             Ok(p) => (
-                CPlanned { refusal: 0, m: p.m, q: p.words.len() as u64, expected: p.expected },
+                CPlanned {
+                    refusal: 0,
+                    m: p.m,
+                    q: p.words.len() as u64,
+                    expected: p.expected,
+                },
                 lent(&p.words, PATTERN, room),
             ),
         };
@@ -235,7 +398,12 @@ impl Both {
         let got = unsafe { canceller_judge(lp.as_ptr(), lp.len(), signature) };
         let want = judge(plan, signature);
         let answer = match want {
-            Err(n) => CJudged { refusal: n, cancelled: 0, failed: 0, index: 0 },
+            Err(n) => CJudged {
+                refusal: n,
+                cancelled: 0,
+                failed: 0,
+                index: 0,
+            },
             Ok(j) => CJudged {
                 refusal: 0,
                 cancelled: j.cancelled,
@@ -251,7 +419,8 @@ impl Both {
     pub fn every_call(&mut self, set: &[u8], record: &[u8], unknowns: usize) {
         self.read_set(set);
         self.sign(set, record).ok();
-        let slices = number_at(set, 12 + 8 * number_at(set, 10, 2).unwrap_or(0) as usize, 2).unwrap_or(0);
+        let slices =
+            number_at(set, 12 + 8 * number_at(set, 10, 2).unwrap_or(0) as usize, 2).unwrap_or(0);
         for slice in [0, slices / 2, slices.wrapping_sub(1), slices, u64::MAX] {
             self.rows(set, slice);
         }
@@ -276,7 +445,9 @@ impl Both {
         for room in [length - 1, length + extra % 5, 0] {
             self.write_plan(p.m, &p.words, p.expected, room).ok();
         }
-        let file = self.write_plan(p.m, &p.words, p.expected, length).expect("a plan that planning made");
+        let file = self
+            .write_plan(p.m, &p.words, p.expected, length)
+            .expect("a plan that planning made");
         for room in [q, q - 1, q + 2, 0] {
             self.read_plan(&file, room);
         }

@@ -4,7 +4,9 @@ use crate::*;
 
 /// Whether a combination shares an even number of bits with every column.
 pub fn x_free(word: u64, columns: &[u64]) -> bool {
-    columns.iter().all(|&c| !odd_with(&bits_of(word, 64), &bits_of(c, 64)))
+    columns
+        .iter()
+        .all(|&c| !odd_with(&bits_of(word, 64), &bits_of(c, 64)))
 }
 
 /// Independent rows so far: each in echelon form, with the bits whose rows it is the XOR of.
@@ -46,9 +48,16 @@ pub fn reduced_list(m: usize, columns: &[u64]) -> Vec<u64> {
 pub fn reduced_list_by_trial(m: usize, columns: &[u64]) -> Vec<u64> {
     let free: Vec<u64> = (1u64..1 << m).filter(|&w| x_free(w, columns)).collect();
     let top = |w: u64| (0..m).rev().find(|&i| w >> i & 1 == 1).unwrap();
-    let tops: Vec<usize> = (0..m).filter(|&i| free.iter().any(|&w| top(w) == i)).collect();
+    let tops: Vec<usize> = (0..m)
+        .filter(|&i| free.iter().any(|&w| top(w) == i))
+        .collect();
     tops.iter()
-        .map(|&i| *free.iter().find(|&&w| top(w) == i && tops.iter().all(|&j| j == i || w >> j & 1 == 0)).unwrap())
+        .map(|&i| {
+            *free
+                .iter()
+                .find(|&&w| top(w) == i && tops.iter().all(|&j| j == i || w >> j & 1 == 0))
+                .unwrap()
+        })
         .collect()
 }
 
@@ -100,5 +109,7 @@ pub fn is_reduced(m: usize, words: &[u64]) -> bool {
     let top = |w: u64| (0..64).rev().find(|&i| w >> i & 1 == 1);
     words.iter().all(|&w| w != 0 && !beyond(w, m))
         && words.windows(2).all(|p| p[0] < p[1])
-        && (0..words.len()).all(|i| (0..words.len()).all(|j| i == j || words[j] >> top(words[i]).unwrap() & 1 == 0))
+        && (0..words.len()).all(|i| {
+            (0..words.len()).all(|j| i == j || words[j] >> top(words[i]).unwrap() & 1 == 0)
+        })
 }

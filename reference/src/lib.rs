@@ -13,8 +13,8 @@ pub mod set;
 pub mod both;
 pub mod library;
 pub mod plain;
-pub mod same;
 pub mod random;
+pub mod same;
 
 /// A bit vector, bit 0 first.
 pub type Bits = Vec<bool>;
@@ -27,7 +27,11 @@ pub fn bits_of(word: u64, count: usize) -> Bits {
 }
 
 pub fn word_of(bits: &[bool]) -> u64 {
-    bits.iter().enumerate().filter(|(_, &b)| b).map(|(i, _)| 1u64 << i).sum()
+    bits.iter()
+        .enumerate()
+        .filter(|(_, &b)| b)
+        .map(|(i, _)| 1u64 << i)
+        .sum()
 }
 
 /// Whether the word has a bit at or above m.

@@ -73,10 +73,34 @@ extern "C" {
         out: *mut u8,
         out_len: usize,
     ) -> CPair;
-    pub fn canceller_clock(m: u64, taps: u64, state: u64, spread: *const u64, n: usize, row: *const u8, row_len: usize) -> CPair;
-    pub fn canceller_sign(set: *const u8, set_len: usize, record: *const u8, record_len: usize) -> CPair;
-    pub fn canceller_list_columns(set: *const u8, set_len: usize, columns: *mut u64, columns_len: usize) -> CPair;
-    pub fn canceller_eliminate(m: u64, columns: *const u64, columns_len: usize, words: *mut u64, words_len: usize) -> CEliminated;
+    pub fn canceller_clock(
+        m: u64,
+        taps: u64,
+        state: u64,
+        spread: *const u64,
+        n: usize,
+        row: *const u8,
+        row_len: usize,
+    ) -> CPair;
+    pub fn canceller_sign(
+        set: *const u8,
+        set_len: usize,
+        record: *const u8,
+        record_len: usize,
+    ) -> CPair;
+    pub fn canceller_list_columns(
+        set: *const u8,
+        set_len: usize,
+        columns: *mut u64,
+        columns_len: usize,
+    ) -> CPair;
+    pub fn canceller_eliminate(
+        m: u64,
+        columns: *const u64,
+        columns_len: usize,
+        words: *mut u64,
+        words_len: usize,
+    ) -> CEliminated;
     pub fn canceller_plan(
         set: *const u8,
         set_len: usize,
@@ -85,11 +109,30 @@ extern "C" {
         words: *mut u64,
         words_len: usize,
     ) -> CPlanned;
-    pub fn canceller_write_plan(m: u64, words: *const u64, words_len: usize, expected: u64, out: *mut u8, out_len: usize) -> CPair;
-    pub fn canceller_read_plan(plan: *const u8, plan_len: usize, words: *mut u64, words_len: usize) -> CPlanned;
+    pub fn canceller_write_plan(
+        m: u64,
+        words: *const u64,
+        words_len: usize,
+        expected: u64,
+        out: *mut u8,
+        out_len: usize,
+    ) -> CPair;
+    pub fn canceller_read_plan(
+        plan: *const u8,
+        plan_len: usize,
+        words: *mut u64,
+        words_len: usize,
+    ) -> CPlanned;
     pub fn canceller_judge(plan: *const u8, plan_len: usize, signature: u64) -> CJudged;
 
-    fn mmap(at: *mut c_void, length: usize, protection: i32, flags: i32, file: i32, offset: i64) -> *mut c_void;
+    fn mmap(
+        at: *mut c_void,
+        length: usize,
+        protection: i32,
+        flags: i32,
+        file: i32,
+        offset: i64,
+    ) -> *mut c_void;
     fn mprotect(at: *mut c_void, length: usize, protection: i32) -> i32;
     fn munmap(at: *mut c_void, length: usize) -> i32;
 }
@@ -121,10 +164,24 @@ impl Fenced {
     pub fn new(bytes: usize) -> Fenced {
         let inner = bytes.div_ceil(PAGE).max(1) * PAGE;
         unsafe {
-            let whole = mmap(std::ptr::null_mut(), inner + 2 * PAGE, 0, PRIVATE_ANONYMOUS, -1, 0) as *mut u8;
+            let whole = mmap(
+                std::ptr::null_mut(),
+                inner + 2 * PAGE,
+                0,
+                PRIVATE_ANONYMOUS,
+                -1,
+                0,
+            ) as *mut u8;
             assert!(whole as isize != -1, "no memory to fence");
-            assert_eq!(mprotect(whole.add(PAGE) as *mut c_void, inner, READ_WRITE), 0);
-            Fenced { whole, inner, side: Side::End }
+            assert_eq!(
+                mprotect(whole.add(PAGE) as *mut c_void, inner, READ_WRITE),
+                0
+            );
+            Fenced {
+                whole,
+                inner,
+                side: Side::End,
+            }
         }
     }
 

@@ -73,13 +73,28 @@ pub fn read_set(set: &[u8]) -> Result<PlainSet<'_>, u64> {
             }
         }
     }
-    Ok(PlainSet { m, taps, spread, s, b, rows })
+    Ok(PlainSet {
+        m,
+        taps,
+        spread,
+        s,
+        b,
+        rows,
+    })
 }
 
 impl PlainSet<'_> {
     fn clocked(&self, state: u64) -> u64 {
-        let mask = if self.m == 64 { u64::MAX } else { (1 << self.m) - 1 };
-        let feedback = if state >> (self.m - 1) & 1 == 1 { self.taps } else { 0 };
+        let mask = if self.m == 64 {
+            u64::MAX
+        } else {
+            (1 << self.m) - 1
+        };
+        let feedback = if state >> (self.m - 1) & 1 == 1 {
+            self.taps
+        } else {
+            0
+        };
         (state << 1 & mask) ^ feedback
     }
 
@@ -140,7 +155,11 @@ impl PlainSet<'_> {
     pub fn plan(&self) -> Option<(Vec<u64>, u64)> {
         let words = eliminate(self.m, &self.swept_columns())?;
         let zero = self.signature(self.rows, 2 * self.b);
-        let expected = words.iter().enumerate().map(|(i, w)| u64::from((w & zero).count_ones() & 1) << i).sum();
+        let expected = words
+            .iter()
+            .enumerate()
+            .map(|(i, w)| u64::from((w & zero).count_ones() & 1) << i)
+            .sum();
         Some((words, expected))
     }
 }
@@ -179,7 +198,11 @@ pub fn eliminate(m: u32, columns: &[u64]) -> Option<Vec<u64>> {
             words.push(word);
         }
     }
-    if words.is_empty() { None } else { Some(words) }
+    if words.is_empty() {
+        None
+    } else {
+        Some(words)
+    }
 }
 
 /// Judging, bit by bit: the cancelled bits and the first word that disagrees.

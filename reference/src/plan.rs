@@ -48,7 +48,10 @@ pub fn read_plan(bytes: &[u8]) -> Reply<Plan> {
     if has_spare(&bytes[at..], q) {
         return Err(22);
     }
-    let expected = (0..q).filter(|&i| row_bit(&bytes[at..], i)).map(|i| 1u64 << i).sum();
+    let expected = (0..q)
+        .filter(|&i| row_bit(&bytes[at..], i))
+        .map(|i| 1u64 << i)
+        .sum();
     Ok(Plan { m, words, expected })
 }
 
@@ -108,7 +111,16 @@ pub fn judge(bytes: &[u8], signature: u64) -> Reply<Judged> {
         return Err(23);
     }
     let observed = bits_of(signature, 64);
-    let cancelled: Bits = plan.words.iter().map(|&w| odd_with(&bits_of(w, 64), &observed)).collect();
-    let fails_at = (0..plan.words.len()).find(|&i| cancelled[i] != (plan.expected >> i & 1 == 1)).map(|i| i as u64);
-    Ok(Judged { cancelled: word_of(&cancelled), fails_at })
+    let cancelled: Bits = plan
+        .words
+        .iter()
+        .map(|&w| odd_with(&bits_of(w, 64), &observed))
+        .collect();
+    let fails_at = (0..plan.words.len())
+        .find(|&i| cancelled[i] != (plan.expected >> i & 1 == 1))
+        .map(|i| i as u64);
+    Ok(Judged {
+        cancelled: word_of(&cancelled),
+        fails_at,
+    })
 }

@@ -37,7 +37,11 @@ impl Random {
 
     /// A word without a bit at or above m.
     pub fn within(&mut self, m: usize) -> u64 {
-        if m >= 64 { self.word() } else { self.word() & ((1 << m) - 1) }
+        if m >= 64 {
+            self.word()
+        } else {
+            self.word() & ((1 << m) - 1)
+        }
     }
 
     /// .. and not zero.
@@ -72,7 +76,16 @@ pub struct Content {
 
 impl Content {
     pub fn file(&self) -> Vec<u8> {
-        write_set(self.m, self.taps, &self.spread, &self.values, &self.marks, self.s, usize::MAX).expect("a good content")
+        write_set(
+            self.m,
+            self.taps,
+            &self.spread,
+            &self.values,
+            &self.marks,
+            self.s,
+            usize::MAX,
+        )
+        .expect("a good content")
     }
 }
 
@@ -97,11 +110,23 @@ pub fn content(r: &mut Random, m: usize, n: usize, s: usize, one: usize, of: usi
     for (v, k) in values.iter_mut().zip(&marks) {
         *v &= !k;
     }
-    Content { m: m as u64, taps: r.taps(m), spread: (0..n).map(|_| r.some_within(m)).collect(), values, marks, s: s as u64 }
+    Content {
+        m: m as u64,
+        taps: r.taps(m),
+        spread: (0..n).map(|_| r.some_within(m)).collect(),
+        values,
+        marks,
+        s: s as u64,
+    }
 }
 
 /// A good content of random small size.
-pub fn small_content(r: &mut Random, largest_m: usize, largest_n: usize, largest_s: usize) -> Content {
+pub fn small_content(
+    r: &mut Random,
+    largest_m: usize,
+    largest_n: usize,
+    largest_s: usize,
+) -> Content {
     let m = 1 + r.below(largest_m);
     let n = 1 + r.below(largest_n);
     let s = r.below(largest_s + 1);
@@ -123,6 +148,9 @@ pub fn reduced_words(r: &mut Random, m: usize) -> Vec<u64> {
             continue;
         }
         let mask = tops.iter().fold(0u64, |a, &t| a | 1 << t);
-        return tops.iter().map(|&t| (r.within(t) & !mask) | 1 << t).collect();
+        return tops
+            .iter()
+            .map(|&t| (r.within(t) & !mask) | 1 << t)
+            .collect();
     }
 }

@@ -76,11 +76,22 @@ pub fn read_set(set: &[u8]) -> Result<Read, u64> {
         return Err(9);
     }
     for slice in rows.chunks_exact(2 * b) {
-        if slice[..b].iter().zip(&slice[b..]).fold(0, |a, (v, k)| a | (v & k)) != 0 {
+        if slice[..b]
+            .iter()
+            .zip(&slice[b..])
+            .fold(0, |a, (v, k)| a | (v & k))
+            != 0
+        {
             return Err(10);
         }
     }
-    Ok(Read { m, taps, n, s, spread })
+    Ok(Read {
+        m,
+        taps,
+        n,
+        s,
+        spread,
+    })
 }
 
 fn next_state(m: u64, taps: u64, state: u64) -> u64 {
@@ -109,7 +120,8 @@ fn run_rows(read: &Read, bytes: &[u8], stride: usize, b: usize) -> u64 {
         let row = &bytes[stride * t..stride * t + b];
         let mut drive = 0;
         for (i, &byte) in row.iter().enumerate() {
-            drive ^= table[32 * i + usize::from(byte % 16)] ^ table[32 * i + 16 + usize::from(byte / 16)];
+            drive ^= table[32 * i + usize::from(byte % 16)]
+                ^ table[32 * i + 16 + usize::from(byte / 16)];
         }
         state = next_state(read.m, read.taps, state) ^ drive;
     }
@@ -123,7 +135,11 @@ pub fn sign(set: &[u8], record: &[u8]) -> Result<u64, u64> {
     if record.len() != b * read.s {
         return Err(12);
     }
-    if read.n % 8 != 0 && record.chunks_exact(b).any(|row| row[read.n / 8] >> (read.n % 8) != 0) {
+    if read.n % 8 != 0
+        && record
+            .chunks_exact(b)
+            .any(|row| row[read.n / 8] >> (read.n % 8) != 0)
+    {
         return Err(13);
     }
     Ok(run_rows(&read, record, b, b))
@@ -135,7 +151,10 @@ fn marks_word(row: &[u8], i: usize) -> u64 {
     if at + 8 <= row.len() {
         word(row, at)
     } else {
-        row[at..].iter().rev().fold(0, |w, &b| w << 8 | u64::from(b))
+        row[at..]
+            .iter()
+            .rev()
+            .fold(0, |w, &b| w << 8 | u64::from(b))
     }
 }
 
@@ -177,7 +196,11 @@ fn sweep(set: &[u8], read: &Read, columns: &mut [u64]) {
     let mut words = read.spread;
     let mut place = columns.len();
     for t in (0..read.s).rev() {
-        place = list_row(&mut columns[..place], &words[..read.n], mark_row(set, read.n, t));
+        place = list_row(
+            &mut columns[..place],
+            &words[..read.n],
+            mark_row(set, read.n, t),
+        );
         for w in &mut words[..read.n] {
             *w = next_state(read.m, read.taps, *w);
         }
@@ -214,7 +237,11 @@ fn sparse(set: &[u8], read: &Read, columns: &mut [u64]) {
 }
 
 fn fill_columns(set: &[u8], read: &Read, columns: &mut [u64]) {
-    if columns.len() <= 512 { sparse(set, read, columns) } else { sweep(set, read, columns) }
+    if columns.len() <= 512 {
+        sparse(set, read, columns)
+    } else {
+        sweep(set, read, columns)
+    }
 }
 
 /// The columns.
@@ -230,7 +257,9 @@ pub fn list_columns(set: &[u8], columns: &mut [u64]) -> Result<usize, u64> {
 
 /// Takes a column into the words; how many are left.
 fn add_column(words: &mut [u64], column: u64) -> usize {
-    let Some(at) = words.iter().position(|&w| odd(w, column) == 1) else { return words.len() };
+    let Some(at) = words.iter().position(|&w| odd(w, column) == 1) else {
+        return words.len();
+    };
     let pivot = words[at];
     for i in at + 1..words.len() {
         let w = words[i];
@@ -247,7 +276,10 @@ fn byte_parities(words: &[u64]) -> [u64; 2048] {
             let top = v.ilog2() as usize;
             let entry = 256 * b + v;
             table[entry] = if v == 1 << top {
-                words.iter().enumerate().fold(0, |a, (i, w)| a | (w >> (8 * b + top) & 1) << i)
+                words
+                    .iter()
+                    .enumerate()
+                    .fold(0, |a, (i, w)| a | (w >> (8 * b + top) & 1) << i)
             } else {
                 table[entry - (1 << top)] ^ table[256 * b + (1 << top)]
             };
@@ -260,7 +292,13 @@ fn skip_even(words: &[u64], columns: &[u64]) -> usize {
     let table = byte_parities(words);
     columns
         .iter()
-        .position(|c| c.to_le_bytes().iter().enumerate().fold(0, |a, (b, &v)| a ^ table[256 * b + usize::from(v)]) != 0)
+        .position(|c| {
+            c.to_le_bytes()
+                .iter()
+                .enumerate()
+                .fold(0, |a, (b, &v)| a ^ table[256 * b + usize::from(v)])
+                != 0
+        })
         .unwrap_or(columns.len())
 }
 
@@ -307,7 +345,10 @@ pub fn plan(set: &[u8], columns: &mut [u64], words: &mut [u64]) -> Result<(u64, 
     let (_, q) = eliminate(read.m, &columns[..unknowns], words)?;
     let b = read.n.div_ceil(8);
     let zero = run_rows(&read, &set[14 + 8 * read.n..], 2 * b, b);
-    let expected = words[..q].iter().enumerate().fold(0, |e, (i, &w)| e | odd(w, zero) << i);
+    let expected = words[..q]
+        .iter()
+        .enumerate()
+        .fold(0, |e, (i, &w)| e | odd(w, zero) << i);
     Ok((read.m, q, expected))
 }
 
@@ -326,7 +367,11 @@ fn is_reduced(m: u64, words: &[u8]) -> bool {
 }
 
 fn expected_bits(plan: &[u8], at: usize) -> u64 {
-    plan[at..].iter().take(8).rev().fold(0, |w, &b| w << 8 | u64::from(b))
+    plan[at..]
+        .iter()
+        .take(8)
+        .rev()
+        .fold(0, |w, &b| w << 8 | u64::from(b))
 }
 
 /// Numbers 19 to 22: m, q and the expected bits.
@@ -367,7 +412,14 @@ pub fn judge(plan: &[u8], signature: u64) -> Result<(u64, Option<u32>), u64> {
         cancelled = 2 * cancelled + odd(word(part, 0), signature);
     }
     let differing = cancelled ^ expected;
-    Ok((cancelled, if differing == 0 { None } else { Some(differing.trailing_zeros()) }))
+    Ok((
+        cancelled,
+        if differing == 0 {
+            None
+        } else {
+            Some(differing.trailing_zeros())
+        },
+    ))
 }
 
 /// The plan reader.
@@ -421,7 +473,15 @@ pub fn write_plan(m: u64, words: &[u64], expected: u64, out: &mut [u8]) -> Resul
 
 /// The set writer.
 #[allow(clippy::too_many_arguments)]
-pub fn write_set(m: u64, taps: u64, spread: &[u64], values: &[u8], marks: &[u8], s: u64, out: &mut [u8]) -> Result<usize, u64> {
+pub fn write_set(
+    m: u64,
+    taps: u64,
+    spread: &[u64],
+    values: &[u8],
+    marks: &[u8],
+    s: u64,
+    out: &mut [u8],
+) -> Result<usize, u64> {
     if !(1..=64).contains(&m) {
         return Err(2);
     }
@@ -442,7 +502,12 @@ pub fn write_set(m: u64, taps: u64, spread: &[u64], values: &[u8], marks: &[u8],
     if values.len() != b * slices || marks.len() != b * slices {
         return Err(8);
     }
-    if n % 8 != 0 && values.chunks_exact(b).chain(marks.chunks_exact(b)).any(|row| row[n / 8] >> (n % 8) != 0) {
+    if n % 8 != 0
+        && values
+            .chunks_exact(b)
+            .chain(marks.chunks_exact(b))
+            .any(|row| row[n / 8] >> (n % 8) != 0)
+    {
         return Err(9);
     }
     if values.iter().zip(marks).fold(0, |a, (v, k)| a | (v & k)) != 0 {

@@ -37,7 +37,9 @@ impl Circuit {
 
     /// The state after the last slice, from zero. Each slice lists the chains whose cell is 1.
     pub fn signature(&self, slices: &[Vec<usize>]) -> Bits {
-        slices.iter().fold(vec![false; self.m], |state, driving| self.clock(&state, driving))
+        slices.iter().fold(vec![false; self.m], |state, driving| {
+            self.clock(&state, driving)
+        })
     }
 }
 
@@ -71,13 +73,20 @@ impl Set {
     }
 
     pub fn columns(&self) -> Vec<u64> {
-        self.unknowns().into_iter().map(|(t, c)| word_of(&self.column(t, c))).collect()
+        self.unknowns()
+            .into_iter()
+            .map(|(t, c)| word_of(&self.column(t, c)))
+            .collect()
     }
 
     /// The signature for all unknowns 0.
     pub fn zero_signature(&self) -> u64 {
         let filled: Vec<Vec<usize>> = (0..self.s())
-            .map(|t| (0..self.n()).filter(|&c| self.values[t][c] && !self.marks[t][c]).collect())
+            .map(|t| {
+                (0..self.n())
+                    .filter(|&c| self.values[t][c] && !self.marks[t][c])
+                    .collect()
+            })
             .collect();
         word_of(&self.circuit.signature(&filled))
     }
@@ -147,8 +156,16 @@ pub fn read_set(bytes: &[u8]) -> Reply<Set> {
     if (0..s).any(|t| (0..n).any(|c| values[t][c] && marks[t][c])) {
         return Err(10);
     }
-    let circuit = Circuit { m, taps: bits_of(taps, m), spread: spread.iter().map(|&w| bits_of(w, m)).collect() };
-    Ok(Set { circuit, values, marks })
+    let circuit = Circuit {
+        m,
+        taps: bits_of(taps, m),
+        spread: spread.iter().map(|&w| bits_of(w, m)).collect(),
+    };
+    Ok(Set {
+        circuit,
+        values,
+        marks,
+    })
 }
 
 /// Where a row of one slice stands: its first byte and how many. `mark` is 0 for the value row, 1 for the mark row.
@@ -163,7 +180,15 @@ pub fn row_place(bytes: &[u8], slice: u64, mark: usize) -> Reply<(usize, usize)>
 
 /// The set writer: the file, or the number.
 #[allow(clippy::too_many_arguments)]
-pub fn write_set(m: u64, taps: u64, spread: &[u64], values: &[u8], marks: &[u8], s: u64, room: usize) -> Reply<Vec<u8>> {
+pub fn write_set(
+    m: u64,
+    taps: u64,
+    spread: &[u64],
+    values: &[u8],
+    marks: &[u8],
+    s: u64,
+    room: usize,
+) -> Reply<Vec<u8>> {
     if m < 1 || m > 64 {
         return Err(2);
     }
@@ -190,7 +215,9 @@ pub fn write_set(m: u64, taps: u64, spread: &[u64], values: &[u8], marks: &[u8],
     if (0..slices).any(|t| has_spare(&row(values, t), n) || has_spare(&row(marks, t), n)) {
         return Err(9);
     }
-    if (0..slices).any(|t| (0..n).any(|c| row_bit(&row(values, t), c) && row_bit(&row(marks, t), c))) {
+    if (0..slices)
+        .any(|t| (0..n).any(|c| row_bit(&row(values, t), c) && row_bit(&row(marks, t), c)))
+    {
         return Err(10);
     }
     let mut file = Vec::new();
@@ -236,8 +263,14 @@ pub fn clock(m: u64, taps: u64, state: u64, spread: &[u64], row: &[u8]) -> Reply
     if beyond(state, width) {
         return Err(23);
     }
-    let circuit = Circuit { m: width, taps: bits_of(taps, width), spread: spread.iter().map(|&w| bits_of(w, width)).collect() };
-    Ok(word_of(&circuit.clock(&bits_of(state, width), &driving(&cells(row, n)))))
+    let circuit = Circuit {
+        m: width,
+        taps: bits_of(taps, width),
+        spread: spread.iter().map(|&w| bits_of(w, width)).collect(),
+    };
+    Ok(word_of(
+        &circuit.clock(&bits_of(state, width), &driving(&cells(row, n))),
+    ))
 }
 
 /// The cells of a record of the set's shape: numbers 12 and 13.

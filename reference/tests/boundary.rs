@@ -20,7 +20,11 @@ fn run(compiler: &str, standard: &str, name: &str) -> String {
         .arg(&out)
         .output()
         .unwrap_or_else(|e| panic!("{compiler} could not be started: {e}"));
-    assert!(built.status.success(), "{}", String::from_utf8_lossy(&built.stderr));
+    assert!(
+        built.status.success(),
+        "{}",
+        String::from_utf8_lossy(&built.stderr)
+    );
     let ran = Command::new(&out).output().expect("the C program starts");
     let text = String::from_utf8(ran.stdout).unwrap();
     assert!(ran.status.success(), "{text}");
@@ -40,13 +44,22 @@ fn the_header_says_what_the_library_defines() {
     let source = std::fs::read_to_string(repository().join("crates/canceller/src/lib.rt")).unwrap();
     let named = |text: &str, start: &str| -> Vec<String> {
         text.match_indices(start)
-            .map(|(i, _)| text[i..].chars().skip(start.len() - 10).take_while(|c| c.is_alphanumeric() || *c == '_').collect())
+            .map(|(i, _)| {
+                text[i..]
+                    .chars()
+                    .skip(start.len() - 10)
+                    .take_while(|c| c.is_alphanumeric() || *c == '_')
+                    .collect()
+            })
             .collect()
     };
     let mut exported = named(&source, "extern \"C\" fn canceller_");
     exported.sort();
     assert_eq!(exported.len(), 12);
     for name in &exported {
-        assert!(header.contains(&format!(" {name}(")), "the header does not declare {name}");
+        assert!(
+            header.contains(&format!(" {name}(")),
+            "the header does not declare {name}"
+        );
     }
 }

@@ -49,30 +49,54 @@ fn exactly_the_explained_signatures_pass() {
         if u > 12 {
             continue;
         }
-        let explained: BTreeSet<u64> = (0..1u64 << u).map(|f| signature(&set, &filled(&set, f))).collect();
+        let explained: BTreeSet<u64> = (0..1u64 << u)
+            .map(|f| signature(&set, &filled(&set, f)))
+            .collect();
         let all = 1u64 << c.m;
         match both.plan(&file, u, 64) {
             Err(n) => {
                 assert_eq!(n, 17, "seed {seed}");
-                assert_eq!(explained.len() as u64, all, "seed {seed}: 17 although some signature is not explained");
+                assert_eq!(
+                    explained.len() as u64,
+                    all,
+                    "seed {seed}: 17 although some signature is not explained"
+                );
                 refused += 1;
             }
             Ok(p) => {
-                assert!((explained.len() as u64) < all, "seed {seed}: a plan although every signature is explained");
-                let plan = both.write_plan(p.m, &p.words, p.expected, 600).expect("a plan of planning's answer");
+                assert!(
+                    (explained.len() as u64) < all,
+                    "seed {seed}: a plan although every signature is explained"
+                );
+                let plan = both
+                    .write_plan(p.m, &p.words, p.expected, 600)
+                    .expect("a plan of planning's answer");
                 for y in 0..all {
-                    let judged = both.judge(&plan, y).expect("a signature of the register's width");
-                    assert_eq!(judged.fails_at.is_none(), explained.contains(&y), "seed {seed}, signature {y}");
+                    let judged = both
+                        .judge(&plan, y)
+                        .expect("a signature of the register's width");
+                    assert_eq!(
+                        judged.fails_at.is_none(),
+                        explained.contains(&y),
+                        "seed {seed}, signature {y}"
+                    );
                     let first = (0..p.words.len()).find(|&i| {
                         ((p.words[i] & y).count_ones() % 2 == 1) != (p.expected >> i & 1 == 1)
                     });
-                    assert_eq!(judged.fails_at, first.map(|i| i as u64), "seed {seed}, signature {y}");
+                    assert_eq!(
+                        judged.fails_at,
+                        first.map(|i| i as u64),
+                        "seed {seed}, signature {y}"
+                    );
                 }
                 plans += 1;
             }
         }
     }
-    assert!(plans > 1_500 && refused > 300, "{plans} plans and {refused} refusals are too few to show anything");
+    assert!(
+        plans > 1_500 && refused > 300,
+        "{plans} plans and {refused} refusals are too few to show anything"
+    );
 }
 
 #[test]
@@ -86,10 +110,14 @@ fn records_alike_in_the_known_cells_are_judged_alike() {
         let file = c.file();
         let set = read_set(&file).unwrap();
         let unknowns = set.unknowns();
-        let Ok(p) = both.plan(&file, unknowns.len(), 64) else { continue };
+        let Ok(p) = both.plan(&file, unknowns.len(), 64) else {
+            continue;
+        };
         let plan = both.write_plan(p.m, &p.words, p.expected, 600).unwrap();
         // a record that need not agree with the set, and others alike in the known cells
-        let mut cells: Vec<Bits> = (0..set.s()).map(|_| (0..set.n()).map(|_| r.one_in(2)).collect()).collect();
+        let mut cells: Vec<Bits> = (0..set.s())
+            .map(|_| (0..set.n()).map(|_| r.one_in(2)).collect())
+            .collect();
         let first = both.sign(&file, &record_of(&cells)).unwrap();
         let judged = both.judge(&plan, first).unwrap();
         for _ in 0..8 {
@@ -101,7 +129,10 @@ fn records_alike_in_the_known_cells_are_judged_alike() {
             pairs += usize::from(other != first);
         }
     }
-    assert!(pairs > 2_000, "{pairs} pairs with different signatures are too few to show anything");
+    assert!(
+        pairs > 2_000,
+        "{pairs} pairs with different signatures are too few to show anything"
+    );
 }
 
 #[test]
@@ -115,21 +146,32 @@ fn a_record_with_one_known_cell_changed_fails_or_is_explained() {
         let file = c.file();
         let set = read_set(&file).unwrap();
         let u = set.unknowns().len();
-        let Ok(p) = both.plan(&file, u, 64) else { continue };
+        let Ok(p) = both.plan(&file, u, 64) else {
+            continue;
+        };
         if u > 10 || set.s() == 0 {
             continue;
         }
         let plan = both.write_plan(p.m, &p.words, p.expected, 600).unwrap();
-        let explained: BTreeSet<u64> = (0..1u64 << u).map(|f| signature(&set, &filled(&set, f))).collect();
+        let explained: BTreeSet<u64> = (0..1u64 << u)
+            .map(|f| signature(&set, &filled(&set, f)))
+            .collect();
         let mut cells = filled(&set, r.word());
         let (t, k) = (r.below(set.s()), r.below(set.n()));
         cells[t][k] = !cells[t][k];
         let y = both.sign(&file, &record_of(&cells)).unwrap();
         let judged = both.judge(&plan, y).unwrap();
-        assert_eq!(judged.fails_at.is_none(), explained.contains(&y), "seed {seed}");
+        assert_eq!(
+            judged.fails_at.is_none(),
+            explained.contains(&y),
+            "seed {seed}"
+        );
         failed += usize::from(judged.fails_at.is_some());
     }
-    assert!(failed > 300, "{failed} failing records are too few to show anything");
+    assert!(
+        failed > 300,
+        "{failed} failing records are too few to show anything"
+    );
 }
 
 #[test]
@@ -146,10 +188,18 @@ fn the_listed_words_make_every_x_free_combination_and_no_other() {
             Err(_) => Vec::new(),
         };
         let made: BTreeSet<u64> = (0..1u64 << words.len())
-            .map(|k| (0..words.len()).filter(|&i| k >> i & 1 == 1).fold(0, |a, i| a ^ words[i]))
+            .map(|k| {
+                (0..words.len())
+                    .filter(|&i| k >> i & 1 == 1)
+                    .fold(0, |a, i| a ^ words[i])
+            })
             .collect();
         for w in 0..1u64 << c.m {
-            assert_eq!(x_free(w, &columns), made.contains(&w), "seed {seed}, combination {w}");
+            assert_eq!(
+                x_free(w, &columns),
+                made.contains(&w),
+                "seed {seed}, combination {w}"
+            );
         }
     }
 }

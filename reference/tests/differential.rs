@@ -19,7 +19,8 @@ fn all_of(both: &mut Both, r: &mut Random, c: &Content) {
     let file = c.file();
     let n = c.spread.len();
     for room in [file.len(), file.len() + 7, file.len() - 1, 0] {
-        both.write_set(c.m, c.taps, &c.spread, &c.values, &c.marks, c.s, room).ok();
+        both.write_set(c.m, c.taps, &c.spread, &c.values, &c.marks, c.s, room)
+            .ok();
     }
     let record = record(r, n, c.s as usize);
     both.every_call(&file, &record, unknowns(c));
@@ -73,7 +74,12 @@ fn every_width_and_every_chain_count() {
 
 #[test]
 fn the_largest_sets() {
-    for (side, one, of) in [(Side::End, 0, 1), (Side::Start, 1, 2000), (Side::End, 1, 2000), (Side::End, 1, 33)] {
+    for (side, one, of) in [
+        (Side::End, 0, 1),
+        (Side::Start, 1, 2000),
+        (Side::End, 1, 2000),
+        (Side::End, 1, 33),
+    ] {
         let mut both = Both::new(side);
         both.at = format!("seed 31, m 64, n 256, s 512, {one} of {of} cells unknown");
         let mut r = Random::new(31);
@@ -87,8 +93,10 @@ fn the_largest_sets() {
         both.rows(&file, 512);
         both.list_columns(&file, u);
         both.plan(&file, u, 64).ok();
-        both.write_set(c.m, c.taps, &c.spread, &c.values, &c.marks, c.s, 34_830).unwrap();
-        both.write_set(c.m, c.taps, &c.spread, &c.values, &c.marks, c.s, 34_829).unwrap_err();
+        both.write_set(c.m, c.taps, &c.spread, &c.values, &c.marks, c.s, 34_830)
+            .unwrap();
+        both.write_set(c.m, c.taps, &c.spread, &c.values, &c.marks, c.s, 34_829)
+            .unwrap_err();
     }
 }
 
@@ -117,7 +125,11 @@ fn small_files() -> Vec<(Vec<u8>, Vec<u8>, usize)> {
     for seed in 40..52 {
         let mut r = Random::new(seed);
         let c = small_content(&mut r, 64, 19, 4);
-        files.push((c.file(), record(&mut r, c.spread.len(), c.s as usize), unknowns(&c)));
+        files.push((
+            c.file(),
+            record(&mut r, c.spread.len(), c.s as usize),
+            unknowns(&c),
+        ));
     }
     files
 }
@@ -175,7 +187,8 @@ fn damaged_records() {
                 for fill in [0, 0xff] {
                     let mut bad = record.clone();
                     bad.resize(length, fill);
-                    both.at = format!("small set {i}, a record of {length} bytes, filled with {fill}");
+                    both.at =
+                        format!("small set {i}, a record of {length} bytes, filled with {fill}");
                     both.sign(set, &bad).ok();
                     bad.fill(fill);
                     both.sign(set, &bad).ok();
@@ -203,7 +216,11 @@ fn faults() -> Vec<(&'static str, fn(&mut Vec<u8>))> {
         }
     }
     fn chains(set: &[u8]) -> usize {
-        if set.len() < 12 { 0 } else { set[10] as usize + 256 * set[11] as usize }
+        if set.len() < 12 {
+            0
+        } else {
+            set[10] as usize + 256 * set[11] as usize
+        }
     }
     vec![
         ("m 0", |s| put(s, 0, &[0, 0])),
@@ -320,7 +337,8 @@ fn lists_of_every_length_around_what_is_needed() {
                 }
             }
             for room in file.len().saturating_sub(3)..file.len() + 4 {
-                both.write_set(c.m, c.taps, &c.spread, &c.values, &c.marks, c.s, room).ok();
+                both.write_set(c.m, c.taps, &c.spread, &c.values, &c.marks, c.s, room)
+                    .ok();
             }
         }
     }
@@ -372,7 +390,8 @@ fn the_set_writer_on_bad_content() {
             }
             let length = 14 + 8 * c.spread.len() + c.values.len() + c.marks.len();
             for room in [length, length + 9, length.saturating_sub(1), 0] {
-                both.write_set(c.m, c.taps, &c.spread, &c.values, &c.marks, c.s, room).ok();
+                both.write_set(c.m, c.taps, &c.spread, &c.values, &c.marks, c.s, room)
+                    .ok();
             }
         }
     }
@@ -386,7 +405,11 @@ fn clocks() {
             let mut r = Random::new(seed);
             both.at = format!("seed {seed}");
             let m = 1 + r.below(64);
-            let n = if r.one_in(20) { r.pick(&[0, 255, 256, 257]) } else { 1 + r.below(20) };
+            let n = if r.one_in(20) {
+                r.pick(&[0, 255, 256, 257])
+            } else {
+                1 + r.below(20)
+            };
             let mut spread: Vec<u64> = (0..n).map(|_| r.some_within(m)).collect();
             let mut row = rows(&mut r, n, 1, 1, 2);
             let (mut width, mut taps, mut state) = (m as u64, r.taps(m), r.within(m));
@@ -423,7 +446,11 @@ fn columns_of_rank(r: &mut Random, m: usize, rank: usize, count: usize) -> Vec<u
     (0..count)
         .map(|_| {
             let choice = r.word();
-            basis.iter().enumerate().filter(|(i, _)| choice >> (i % 64) & 1 == 1).fold(0, |a, (_, w)| a ^ w)
+            basis
+                .iter()
+                .enumerate()
+                .filter(|(i, _)| choice >> (i % 64) & 1 == 1)
+                .fold(0, |a, (_, w)| a ^ w)
         })
         .collect()
 }
@@ -483,7 +510,11 @@ fn small_eliminations_by_trying_every_combination() {
         let m = 1 + r.below(8);
         let (rank, count) = (r.below(m + 1), r.below(12));
         let columns = columns_of_rank(&mut r, m, rank, count);
-        assert_eq!(reduced_list(m, &columns), reduced_list_by_trial(m, &columns), "seed {seed}");
+        assert_eq!(
+            reduced_list(m, &columns),
+            reduced_list_by_trial(m, &columns),
+            "seed {seed}"
+        );
         let mut both = Both::new(Side::End);
         both.at = format!("seed {seed}");
         both.eliminate(m as u64, &columns, 64);
@@ -568,7 +599,8 @@ fn plans_with_fields_at_their_limits() {
                             for (field, n) in [(a, x), (b, y)] {
                                 put(&mut bad, [0, 2, 4 + 8 * q][field], n);
                             }
-                            both.at = format!("plan {i}, field {a} set to {x} and field {b} to {y}");
+                            both.at =
+                                format!("plan {i}, field {a} set to {x} and field {b} to {y}");
                             judged(&mut both, &mut r, &bad);
                         }
                     }
@@ -626,7 +658,8 @@ fn judging_many_signatures() {
         both.at = format!("plan {i}");
         for _ in 0..3_000 {
             let y = r.within(plan[0] as usize);
-            both.judge(plan, y).expect("a good plan and a good signature");
+            both.judge(plan, y)
+                .expect("a good plan and a good signature");
         }
     }
 }
@@ -639,7 +672,9 @@ fn files_read_back_to_what_was_written() {
         both.at = format!("seed {seed}");
         let c = small_content(&mut r, 64, 30, 6);
         let length = c.file().len();
-        let file = both.write_set(c.m, c.taps, &c.spread, &c.values, &c.marks, c.s, length).expect("a good content");
+        let file = both
+            .write_set(c.m, c.taps, &c.spread, &c.values, &c.marks, c.s, length)
+            .expect("a good content");
         let read = read_set(&file).expect("a written set");
         assert_eq!(read.circuit.m as u64, c.m, "{}", both.at);
         assert_eq!(read.s() as u64, c.s, "{}", both.at);
@@ -648,8 +683,18 @@ fn files_read_back_to_what_was_written() {
         for t in 0..c.s as usize {
             both.rows(&file, t as u64);
             let at = 14 + 8 * c.spread.len() + 2 * b * t;
-            assert_eq!(file[at..at + b], c.values[b * t..b * (t + 1)], "{}", both.at);
-            assert_eq!(file[at + b..at + 2 * b], c.marks[b * t..b * (t + 1)], "{}", both.at);
+            assert_eq!(
+                file[at..at + b],
+                c.values[b * t..b * (t + 1)],
+                "{}",
+                both.at
+            );
+            assert_eq!(
+                file[at + b..at + 2 * b],
+                c.marks[b * t..b * (t + 1)],
+                "{}",
+                both.at
+            );
         }
     }
 }

@@ -15,18 +15,31 @@ fn repository() -> PathBuf {
 
 fn printer() -> Command {
     let path = repository().join("target/bin/plan_printer");
-    assert!(path.exists(), "{} is missing: run `rt check plan_printer` first", path.display());
+    assert!(
+        path.exists(),
+        "{} is missing: run `rt check plan_printer` first",
+        path.display()
+    );
     Command::new(path)
 }
 
 fn started() -> Child {
-    printer().stdin(Stdio::piped()).stdout(Stdio::piped()).stderr(Stdio::piped()).spawn().expect("the printer starts")
+    printer()
+        .stdin(Stdio::piped())
+        .stdout(Stdio::piped())
+        .stderr(Stdio::piped())
+        .spawn()
+        .expect("the printer starts")
 }
 
 /// Waits for the end, which must come.
 fn ended(mut child: Child) -> Output {
     let end = Instant::now() + Duration::from_secs(20);
-    while child.try_wait().expect("the printer can be waited for").is_none() {
+    while child
+        .try_wait()
+        .expect("the printer can be waited for")
+        .is_none()
+    {
         if Instant::now() > end {
             child.kill().ok();
             panic!("the printer does not end");
@@ -52,7 +65,11 @@ fn prints(input: &[u8], piece: usize) -> String {
     }
     drop(stdin);
     let output = ended(child);
-    assert!(output.stderr.is_empty(), "{}", String::from_utf8_lossy(&output.stderr));
+    assert!(
+        output.stderr.is_empty(),
+        "{}",
+        String::from_utf8_lossy(&output.stderr)
+    );
     String::from_utf8(output.stdout).expect("text")
 }
 
@@ -61,8 +78,11 @@ fn the_stored_samples() {
     let mut count = 0;
     for entry in std::fs::read_dir(repository().join("samples")).unwrap() {
         let text = entry.unwrap().path();
-        let Some(name) = text.to_str().and_then(|n| n.strip_suffix(".plan.txt")) else { continue };
-        let set = std::fs::read(format!("{name}.set")).unwrap_or_else(|e| panic!("{name}.set: {e}"));
+        let Some(name) = text.to_str().and_then(|n| n.strip_suffix(".plan.txt")) else {
+            continue;
+        };
+        let set =
+            std::fs::read(format!("{name}.set")).unwrap_or_else(|e| panic!("{name}.set: {e}"));
         let stored = std::fs::read_to_string(&text).unwrap();
         assert_eq!(printed(&set), stored, "{name}: the second implementation");
         assert_eq!(prints(&set, 1 << 20), stored, "{name}: the printer");
@@ -74,7 +94,10 @@ fn the_stored_samples() {
 #[test]
 fn the_sample_writes_document_01s_four_lines() {
     let set = std::fs::read(repository().join("samples/sample.set")).unwrap();
-    assert_eq!(prints(&set, 1 << 20), "set 3 2 2 1\nword 0 3 0\nword 1 4 0\nend 2\n");
+    assert_eq!(
+        prints(&set, 1 << 20),
+        "set 3 2 2 1\nword 0 3 0\nword 1 4 0\nend 2\n"
+    );
 }
 
 #[test]
@@ -82,7 +105,11 @@ fn random_sets() {
     for seed in 200_000..200_150 {
         let mut r = Random::new(seed);
         let c = small_content(&mut r, 64, 40, 30);
-        assert_eq!(prints(&c.file(), 1 << 20), printed(&c.file()), "seed {seed}");
+        assert_eq!(
+            prints(&c.file(), 1 << 20),
+            printed(&c.file()),
+            "seed {seed}"
+        );
     }
 }
 
@@ -113,7 +140,11 @@ fn inputs_around_the_longest_set() {
         assert_eq!(prints(&input, 1 << 20), printed(&input), "{length} bytes");
         // an earlier number still comes first
         input[0] = 65;
-        assert_eq!(prints(&input, 1 << 20), "refused 2\n", "{length} bytes with m 65");
+        assert_eq!(
+            prints(&input, 1 << 20),
+            "refused 2\n",
+            "{length} bytes with m 65"
+        );
     }
 }
 
@@ -151,10 +182,25 @@ fn a_standard_output_that_nobody_reads() {
 fn an_input_that_cannot_be_read() {
     // a folder can be opened, and reading it fails
     let folder = File::open(repository()).unwrap();
-    let mut child = printer().stdin(Stdio::from(folder)).stdout(Stdio::piped()).stderr(Stdio::piped()).spawn().unwrap();
+    let mut child = printer()
+        .stdin(Stdio::from(folder))
+        .stdout(Stdio::piped())
+        .stderr(Stdio::piped())
+        .spawn()
+        .unwrap();
     let (mut out, mut err) = (String::new(), String::new());
-    child.stdout.take().unwrap().read_to_string(&mut out).unwrap();
-    child.stderr.take().unwrap().read_to_string(&mut err).unwrap();
+    child
+        .stdout
+        .take()
+        .unwrap()
+        .read_to_string(&mut out)
+        .unwrap();
+    child
+        .stderr
+        .take()
+        .unwrap()
+        .read_to_string(&mut err)
+        .unwrap();
     ended(child);
     assert_eq!(out, "", "no plan is written");
     assert!(err.contains("read"), "a clear message: {err:?}");

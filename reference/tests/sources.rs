@@ -17,8 +17,18 @@ fn both(at: &str) -> Both {
 
 /// Rows of bits written from the paper, top row first, as columns: bit i of a column is row i.
 fn columns_of(rows: &[&str]) -> Vec<u64> {
-    let rows: Vec<Vec<u64>> = rows.iter().map(|r| r.bytes().filter(|b| *b != b' ').map(|b| u64::from(b - b'0')).collect()).collect();
-    (0..rows[0].len()).map(|j| rows.iter().enumerate().map(|(i, r)| r[j] << i).sum()).collect()
+    let rows: Vec<Vec<u64>> = rows
+        .iter()
+        .map(|r| {
+            r.bytes()
+                .filter(|b| *b != b' ')
+                .map(|b| u64::from(b - b'0'))
+                .collect()
+        })
+        .collect();
+    (0..rows[0].len())
+        .map(|j| rows.iter().enumerate().map(|(i, r)| r[j] << i).sum())
+        .collect()
 }
 
 /// A set of one slice whose chains have these spread words; the cells in `unknown` are unknown, all others 0.
@@ -28,7 +38,15 @@ fn one_slice(m: usize, spread: &[u64], unknown: &[usize]) -> Vec<u8> {
     for &c in unknown {
         marks[c / 8] |= 1 << (c % 8);
     }
-    Content { m: m as u64, taps: 1, spread: spread.to_vec(), values: vec![0; b], marks, s: 1 }.file()
+    Content {
+        m: m as u64,
+        taps: 1,
+        spread: spread.to_vec(),
+        values: vec![0; b],
+        marks,
+        s: 1,
+    }
+    .file()
 }
 
 /// The record of one slice in which these cells are 1.
@@ -41,15 +59,21 @@ fn cells(n: usize, ones: &[usize]) -> Vec<u8> {
 }
 
 fn planned(both: &mut Both, set: &[u8]) -> (Planned, Vec<u8>) {
-    let p = both.plan(set, 300, 64).expect("the paper's example has X-free words");
-    let file = both.write_plan(p.m, &p.words, p.expected, 600).expect("a plan can be written");
+    let p = both
+        .plan(set, 300, 64)
+        .expect("the paper's example has X-free words");
+    let file = both
+        .write_plan(p.m, &p.words, p.expected, 600)
+        .expect("a plan can be written");
     (p, file)
 }
 
 /// Where the plan fails a record of one slice: None where it passes.
 fn judged(both: &mut Both, set: &[u8], plan: &[u8], record: &[u8]) -> Option<u64> {
     let y = both.sign(set, record).expect("a record of the set's shape");
-    both.judge(plan, y).expect("a signature of the register's width").fails_at
+    both.judge(plan, y)
+        .expect("a signature of the register's width")
+        .fails_at
 }
 
 /// All subsets of `of` with `count` elements.
@@ -69,7 +93,15 @@ fn choices(of: &[usize], count: usize) -> Vec<Vec<usize>> {
 
 /// All ways to set the cells of `of`.
 fn fillings(of: &[usize]) -> Vec<Vec<usize>> {
-    (0..1usize << of.len()).map(|k| of.iter().enumerate().filter(|(i, _)| k >> i & 1 == 1).map(|(_, &c)| c).collect()).collect()
+    (0..1usize << of.len())
+        .map(|k| {
+            of.iter()
+                .enumerate()
+                .filter(|(i, _)| k >> i & 1 == 1)
+                .map(|(_, &c)| c)
+                .collect()
+        })
+        .collect()
 }
 
 // ---- document 000
@@ -87,10 +119,17 @@ fn document_000_figures_2_and_3() {
     let set = one_slice(6, &columns, &[0, 1, 2, 3]);
     let (p, plan) = planned(&mut both, &set);
     assert_eq!((p.words, p.expected), (vec![9, 21], 0));
-    let explained: BTreeSet<u64> = fillings(&[0, 1, 2, 3]).iter().map(|f| both.sign(&set, &cells(4, f)).unwrap()).collect();
+    let explained: BTreeSet<u64> = fillings(&[0, 1, 2, 3])
+        .iter()
+        .map(|f| both.sign(&set, &cells(4, f)).unwrap())
+        .collect();
     assert_eq!(explained.len(), 16, "the paper's 16 signatures");
     for y in 0..64 {
-        assert_eq!(both.judge(&plan, y).unwrap().fails_at.is_none(), explained.contains(&y), "signature {y}");
+        assert_eq!(
+            both.judge(&plan, y).unwrap().fails_at.is_none(),
+            explained.contains(&y),
+            "signature {y}"
+        );
     }
 }
 
@@ -113,7 +152,9 @@ fn document_000_section_2_the_share_of_signatures_that_pass() {
     let mut both = both("000, section II");
     let set = one_slice(6, &columns_of(&FIGURE_2), &[0, 1, 2, 3]);
     let (p, plan) = planned(&mut both, &set);
-    let passing = (0..64).filter(|&y| both.judge(&plan, y).unwrap().fails_at.is_none()).count();
+    let passing = (0..64)
+        .filter(|&y| both.judge(&plan, y).unwrap().fails_at.is_none())
+        .count();
     assert_eq!(passing * (1 << p.words.len()), 64);
     assert_eq!(passing, 16);
 }
@@ -155,7 +196,11 @@ fn document_000_figure_1_from_the_printed_equations() {
         }
         let judged = both.judge(&plan, y).unwrap();
         let in_word = !unknown_cell && in_sum.contains(&cell);
-        assert_eq!(judged.cancelled >> 1 & 1 == 1, in_word, "cell {cell} in M1 + M3 + M5");
+        assert_eq!(
+            judged.cancelled >> 1 & 1 == 1,
+            in_word,
+            "cell {cell} in M1 + M3 + M5"
+        );
     }
 }
 
@@ -171,10 +216,17 @@ fn document_003_equations_1_to_3() {
     let (_, plan) = planned(&mut both, &set);
     // 0000, 0111, 1001 and 1110, written s0 first
     let printed: BTreeSet<u64> = [0b0000, 0b1110, 0b1001, 0b0111].into();
-    let explained: BTreeSet<u64> = fillings(&[3, 4]).iter().map(|f| both.sign(&set, &cells(8, f)).unwrap()).collect();
+    let explained: BTreeSet<u64> = fillings(&[3, 4])
+        .iter()
+        .map(|f| both.sign(&set, &cells(8, f)).unwrap())
+        .collect();
     assert_eq!(explained, printed);
     for y in 0..16 {
-        assert_eq!(both.judge(&plan, y).unwrap().fails_at.is_none(), printed.contains(&y), "output {y}");
+        assert_eq!(
+            both.judge(&plan, y).unwrap().fails_at.is_none(),
+            printed.contains(&y),
+            "output {y}"
+        );
     }
 }
 
@@ -192,9 +244,22 @@ fn document_003_section_3_example_1() {
         for e in [0, 1, 2, 5, 6, 7] {
             let mut ones = f.clone();
             ones.push(e);
-            let at = if first.contains(&e) { Some(0) } else if second.contains(&e) { Some(1) } else { None };
-            assert!(at.is_some(), "any single error in the known bits is detected");
-            assert_eq!(judged(&mut both, &set, &plan, &cells(8, &ones)), at, "an error in d{e}");
+            let at = if first.contains(&e) {
+                Some(0)
+            } else if second.contains(&e) {
+                Some(1)
+            } else {
+                None
+            };
+            assert!(
+                at.is_some(),
+                "any single error in the known bits is detected"
+            );
+            assert_eq!(
+                judged(&mut both, &set, &plan, &cells(8, &ones)),
+                at,
+                "an error in d{e}"
+            );
         }
     }
 }
@@ -212,7 +277,11 @@ fn document_003_section_3_example_2() {
             let mut ones = f.clone();
             ones.push(e);
             let at = words.iter().position(|w| w.contains(&e)).map(|i| i as u64);
-            assert_eq!(judged(&mut both, &set, &plan, &cells(8, &ones)), at, "an error in d{e}");
+            assert_eq!(
+                judged(&mut both, &set, &plan, &cells(8, &ones)),
+                at,
+                "an error in d{e}"
+            );
         }
         // "the two bits d0 and d1 are in error then this error will be detected in the third bit": word 1 of the list
         let mut ones = f.clone();
@@ -243,7 +312,11 @@ fn document_003_theorem_2_2_on_the_8_4_4_code() {
         for unknown in choices(&all, x) {
             let set = one_slice(4, &h, &unknown);
             let (_, plan) = planned(&mut both, &set);
-            let known: Vec<usize> = all.iter().copied().filter(|c| !unknown.contains(c)).collect();
+            let known: Vec<usize> = all
+                .iter()
+                .copied()
+                .filter(|c| !unknown.contains(c))
+                .collect();
             for e in 1..4 - x {
                 for errors in choices(&known, e) {
                     for mut ones in fillings(&unknown) {
@@ -284,11 +357,17 @@ fn document_003_section_5_the_special_code_at_width_4() {
     let all: Vec<usize> = (0..10).collect();
     for count in 1..3 {
         for errors in choices(&all, count) {
-            assert!(judged(&mut both, &set, &plan, &cells(10, &errors)).is_some(), "{errors:?}");
+            assert!(
+                judged(&mut both, &set, &plan, &cells(10, &errors)).is_some(),
+                "{errors:?}"
+            );
         }
     }
     // "any odd number of errors" does not hold: the columns 3, 5 and 6 XOR to nothing
-    let three: Vec<usize> = [3, 5, 6].iter().map(|w| printed.iter().position(|c| c == w).unwrap()).collect();
+    let three: Vec<usize> = [3, 5, 6]
+        .iter()
+        .map(|w| printed.iter().position(|c| c == w).unwrap())
+        .collect();
     assert_eq!(judged(&mut both, &set, &plan, &cells(10, &three)), None);
 }
 
@@ -328,11 +407,17 @@ fn document_003_section_5_the_extended_hamming_code_at_width_9() {
         for error in (0..256).filter(|&e| e != unknown) {
             let other = (error + 1 + r.below(254)) % 256;
             for ones in [vec![error], vec![error, unknown]] {
-                assert!(judged(&mut both, &set, &plan, &cells(256, &ones)).is_some(), "unknown {unknown}, error {error}");
+                assert!(
+                    judged(&mut both, &set, &plan, &cells(256, &ones)).is_some(),
+                    "unknown {unknown}, error {error}"
+                );
                 if other != unknown && other != error {
                     let mut two = ones.clone();
                     two.push(other);
-                    assert!(judged(&mut both, &set, &plan, &cells(256, &two)).is_some(), "unknown {unknown}, errors {error} and {other}");
+                    assert!(
+                        judged(&mut both, &set, &plan, &cells(256, &two)).is_some(),
+                        "unknown {unknown}, errors {error} and {other}"
+                    );
                 }
             }
         }
@@ -376,7 +461,13 @@ fn document_004_figure_2_as_an_elimination() {
     let columns = columns_of(&FIGURE_2_OF_004);
     for (k, column) in columns.iter().enumerate() {
         for (z, equation) in EQUATIONS.iter().enumerate() {
-            assert_eq!(column >> z & 1 == 1, equation.contains(&(k + 1)), "X{} in Z{}", k + 1, z + 1);
+            assert_eq!(
+                column >> z & 1 == 1,
+                equation.contains(&(k + 1)),
+                "X{} in Z{}",
+                k + 1,
+                z + 1
+            );
         }
     }
     assert_eq!(columns[1], columns[4], "X2 and X5 reach the same cells");
@@ -386,7 +477,15 @@ fn document_004_figure_2_as_an_elimination() {
     }
     let words = reduced_list(12, &columns);
     // Z6 is Z3, Z7 and Z10 are Z1 + Z4, and Z11 is Z5 + Z8
-    assert_eq!(words, [1 << 5 | 1 << 2, 1 << 6 | 1 << 3 | 1, 1 << 9 | 1 << 3 | 1, 1 << 10 | 1 << 7 | 1 << 4]);
+    assert_eq!(
+        words,
+        [
+            1 << 5 | 1 << 2,
+            1 << 6 | 1 << 3 | 1,
+            1 << 9 | 1 << 3 | 1,
+            1 << 10 | 1 << 7 | 1 << 4
+        ]
+    );
 }
 
 #[test]
@@ -402,7 +501,12 @@ fn document_004_figure_1_clocked() {
             state = reference::set::clock(4, 3, state, &[8, 1], &row).unwrap();
             for z in 0..4 {
                 let there = state >> (3 - z) & 1 == 1;
-                assert_eq!(there, EQUATIONS[4 * slice + z].contains(&symbol), "X{symbol} in Z{}", 4 * slice + z + 1);
+                assert_eq!(
+                    there,
+                    EQUATIONS[4 * slice + z].contains(&symbol),
+                    "X{symbol} in Z{}",
+                    4 * slice + z + 1
+                );
             }
         }
     }

@@ -7,7 +7,9 @@ use reference::set::{clock, list_columns, read_set, sign};
 use std::path::Path;
 
 fn sample(name: &str) -> Vec<u8> {
-    let path = Path::new(env!("CARGO_MANIFEST_DIR")).join("../samples").join(name);
+    let path = Path::new(env!("CARGO_MANIFEST_DIR"))
+        .join("../samples")
+        .join(name);
     std::fs::read(&path).unwrap_or_else(|e| panic!("{}: {e}", path.display()))
 }
 
@@ -17,8 +19,12 @@ fn both() -> Both {
 
 #[test]
 fn eliminations() {
-    let lines: [(u64, Vec<u64>, &[u64]); 4] =
-        [(6, vec![27, 2, 54, 32], &[9, 21]), (4, vec![14, 9], &[6, 11]), (3, vec![], &[1, 2, 4]), (2, vec![0], &[1, 2])];
+    let lines: [(u64, Vec<u64>, &[u64]); 4] = [
+        (6, vec![27, 2, 54, 32], &[9, 21]),
+        (4, vec![14, 9], &[6, 11]),
+        (3, vec![], &[1, 2, 4]),
+        (2, vec![0], &[1, 2]),
+    ];
     for (m, columns, words) in lines {
         both().eliminate(m, &columns, 64);
         assert_eq!(reduced_list(m as usize, &columns), words, "m {m}");
@@ -50,9 +56,16 @@ fn the_sample() {
     assert_eq!((p.m, p.words.clone(), p.expected), (3, vec![3, 4], 0));
     let plan = both.write_plan(p.m, &p.words, p.expected, 23).unwrap();
     for (y, verdict) in [(3, None), (0, None), (1, Some(0)), (7, Some(1))] {
-        assert_eq!(both.judge(&plan, y).unwrap().fails_at, verdict, "signature {y}");
+        assert_eq!(
+            both.judge(&plan, y).unwrap().fails_at,
+            verdict,
+            "signature {y}"
+        );
     }
-    for (record, y) in [("sample-unknown-0.record", 3), ("sample-unknown-1.record", 0)] {
+    for (record, y) in [
+        ("sample-unknown-0.record", 3),
+        ("sample-unknown-1.record", 0),
+    ] {
         both.sign(&set, &sample(record)).unwrap();
         assert_eq!(sign(&set, &sample(record)), Ok(y), "{record}");
     }

@@ -32,7 +32,7 @@ fn first_refusal(plan: &[u8], signature: u64) -> u64
 fn cancelled_bits(plan: &[u8], signature: u64) -> u64
     ensures { λ r. ⌜ (countOf (now (plan .entry)) ≤ 64 → r ≡ parities (wordsOf (now (plan .entry))) signature) ⌝ }
 {
-    let q = plan_file::count(plan) as usize;
+    let q = plan_file::count(plan) as u16;
     if 64 < q {
         return 0;
     }

@@ -39,13 +39,11 @@ pub fn count(plan: &[u8]) -> u64
 }
 
 // The 8 bytes at the place of word i; a byte past the end counts as 0. It meets no number.
-pub fn plan_word(plan: &[u8], i: usize) -> u64
+pub fn plan_word(plan: &[u8], i: u16) -> u64
     ensures { λ r. ⌜ r ≡ wordAt (now (plan .entry)) (wordsPlace + 8 * i) ⌝ }
 {
-    if plan.len() / 8 < i {
-        return 0;
-    }
-    word::read_word(plan, 4 + 8 * i)
+    let place = i as usize;
+    word::read_word(plan, 4 + 8 * place)
 }
 
 // The 8 bytes from the place of the expected bits on; a byte past the end counts as 0. They are the expected bits as one
@@ -79,10 +77,10 @@ fn is_bad_word_list(plan: &[u8]) -> bool
     ensures { λ r. ⌜ (widthOf (now (plan .entry)) ≤ 64 → r ≡ not (isReduced (widthOf (now (plan .entry))) (wordsOf (now (plan .entry))))) ⌝ }
 {
     let m = width(plan);
-    let q = count(plan) as usize;
+    let q = count(plan) as u16;
     let mut last: u64 = 0;
     let mut seen: u64 = 0;
-    let mut i: usize = 0;
+    let mut i: u16 = 0;
     while i < q {
         let w = plan_word(plan, i);
         if !elimination::is_next(m, last, seen, w) {
@@ -151,7 +149,7 @@ fn copy_words(plan: &[u8], words: &mut [u64])
         if words.len() <= i {
             return;
         }
-        words[i] = plan_word(plan, i);
+        words[i] = plan_word(plan, i as u16);
         i += 1;
     }
 }

@@ -29,6 +29,9 @@ same-length c = search needs
 returns : tie.Need-returns Inv-loop μ-loop
 returns c = λ h. let z : ⊥ = omega (arith, c .before .before .before .count .ensures .0) in absurd z
 
+cast-plan-word : tie.Need-cast-plan-word Inv-loop μ-loop
+cast-plan-word c = search needs
+
 plan-word-requires : tie.Need-plan-word-requires Inv-loop μ-loop
 plan-word-requires c κs = search needs
 
@@ -67,6 +70,7 @@ copy-words-spec =
     loop-holds
     same-length
     returns
+    cast-plan-word
     plan-word-requires
     mul-words
     slice-write-words

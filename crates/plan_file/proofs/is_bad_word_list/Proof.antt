@@ -17,6 +17,9 @@ width-requires c κs = search needs
 count-requires : tie.Need-count-requires Inv-loop μ-loop
 count-requires c κs = search needs
 
+cast-q : tie.Need-cast-q Inv-loop μ-loop
+cast-q c = search needs
+
 loop-holds : tie.Need-loop-holds Inv-loop μ-loop
 loop-holds c = passed-start _ _ _ (c .before .width .ensures .0) (c .count .ensures .0)
 
@@ -52,6 +55,7 @@ is-bad-word-list-spec =
     μ-loop
     width-requires
     count-requires
+    cast-q
     loop-holds
     plan-word-requires
     is-next-requires
