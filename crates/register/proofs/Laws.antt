@@ -1,7 +1,7 @@
 -- The laws of the clock that the crates above cite: it is linear, a tap word with bit 0 loses no state, a state stays
 -- within the width, and one chain drives its own spread word. Assumes nothing.
 use mathlib.Core.Path.{_≡_, refl, sym, ap, ap₂, _∙_}
-use mathlib.Core.Bool.{false, cond, _||_}
+use mathlib.Core.Bool.{Bool, false, cond, _||_}
 use mathlib.Core.Logic.{⊎-elim, dite}
 use mathlib.Core.List.{List, []}
 use Prim.Native.Nat.{ℕ, zero, suc, _+_, _-_, _*_, _/_, _%_, _^_, _≤_, _<_}
@@ -12,7 +12,7 @@ use native.Mathlib.Omega.{arith}
 use borrow.Author.Tests.{eqb-false, eq-eqb, ne-eqb}
 use lib.Bits.{bitXor, xor-zero-r, xor-lt, xor-mod, xor-self}
 use lib.Dec.{eqb}
-use lib.ListN.{length, getD, drop, List·getD-eq-default}
+use lib.ListN.{length, getD, drop, drop-of-length-le, List·getD-eq-default}
 use lib.Seq.{drop-cons}
 use lib.Pow.{pow-pos, mod-pow-add}
 use Rattle.word.specs.Word.{digit, beyond}
@@ -204,6 +204,15 @@ pub bad-spread-from : (m : ℕ) (ws : List ℕ) (c : ℕ) → c < length ws
     → badSpread m (drop c ws) ≡ ((eqb (getD ws c 0) 0 || beyond m (getD ws c 0)) || badSpread m (drop (suc c) ws))
 unfolding badSpread anyOf
 bad-spread-from m ws c l = rw (drop-cons ws c 0 l)
+
+-- the word of chain c and the words after it decide what the words from c on do
+pub bad-spread-turn : (m : ℕ) (ws : List ℕ) (c : ℕ) (b : Bool) → c < length ws → badSpread m (drop c ws) ≡ badSpread m ws
+    → (eqb (getD ws c 0) 0 || beyond m (getD ws c 0)) ≡ b → (b || badSpread m (drop (suc c) ws)) ≡ badSpread m ws
+bad-spread-turn m ws c b l e h = sym (rw h at (bad-spread-from m ws c l)) ∙ e
+
+-- after the last word nothing is left to decide it
+pub bad-spread-ended : (m : ℕ) (ws : List ℕ) (c : ℕ) → length ws ≤ c → badSpread m (drop c ws) ≡ badSpread m ws → false ≡ badSpread m ws
+bad-spread-ended m ws c l e = sym (bad-spread-none m) ∙ ap (badSpread m) (sym (drop-of-length-le ws l)) ∙ e
 
 good-spread-word : (m : ℕ) (ws : List ℕ) → badSpread m ws ≡ false → (c : ℕ) → c < length ws → (eqb (getD ws c 0) 0 || beyond m (getD ws c 0)) ≡ false
 unfolding badSpread

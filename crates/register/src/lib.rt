@@ -66,7 +66,7 @@ pub fn is_bad_chains(n: usize) -> bool
 }
 
 // Whether a spread word is zero or has a bit at or above m.
-fn is_bad_spread_word(m: u64, w: u64) -> bool
+pub fn is_bad_spread_word(m: u64, w: u64) -> bool
     ensures { λ r. ⌜ r ≡ (eqb w 0 || beyond m w) ⌝ }
 {
     (w == 0) | word::is_beyond(m, w)

@@ -2,8 +2,9 @@
 use mathlib.Core.Path.{_≡_, sym, ap, ap₂, _∙_}
 use mathlib.Core.Bool.{Bool, true, false, not, _||_}
 use mathlib.Core.List.{List}
-use Prim.Native.Nat.{ℕ, _+_, _-_, _*_, _≤_, _<_}
+use Prim.Native.Nat.{ℕ, suc, _+_, _-_, _*_, _≤_, _<_}
 use native.Mathlib.Nat.{mul-le-mul-left, le-trans, mul-add, mul-one, mul-zero}
+use native.Mathlib.Numerals.{add-one}
 use native.Mathlib.Omega.{arith}
 use borrow.Author.Tests.{eqb-true, not-false}
 use lib.Dec.{eqb, ltb}
@@ -13,7 +14,8 @@ use Rattle.word.specs.Some.{anyBelow}
 use Rattle.word.specs.Reply.{front}
 use Rattle.word.proofs.BoolLaws.{or-false-right}
 use Rattle.register.specs.Row.{rowBytes, spareSet}
-use Rattle.register.specs.Circuit.{badChains, badSpread}
+use Rattle.register.specs.Circuit.{badSpread}
+use Rattle.register.proofs.Laws.{bad-spread-turn, bad-spread-ended}
 use Rattle.set_file.specs.Layout.{spreadAt, rowsAt, setLength, widthOf, chainsOf, spreadOf, slicesOf, valueAt, markAt, valueRow, markRow}
 use Rattle.set_file.specs.Reading.{spareInRows, valuedUnknown}
 use Rattle.set_file.specs.Writing.{listRow}
@@ -22,7 +24,9 @@ use Rattle.set_file.proofs.LayoutLaws.{good-chains}
 use Rattle.set_file.proofs.RangeLaws.{none-passed, one-passed, one-found, all-passed}
 use Rattle.set_file.proofs.RowLaws.{SpareRow, spare-rows-none}
 use Rattle.set_file.proofs.SliceLaws.{rowsOf, spare-of-rows, slice-inside, valued-of-bytes}
-use Rattle.word.specs.Bytes.{wordsAt}
+use Rattle.word.specs.Word.{beyond}
+use Rattle.word.specs.Bytes.{wordAt, wordsAt}
+use Rattle.word.proofs.FileLaws.{word-at-place}
 use Rattle.word.proofs.ByteLaws.{length-words-at}
 
 -- counts of 2 bytes keep a set's length small
@@ -34,10 +38,35 @@ pub spread-front : (l spread : List ℕ) (n : ℕ) → spread ≡ front (wordsAt
 unfolding front
 spread-front l spread n e = ap (take n) e ∙ take-at (wordsAt l spreadAt n) _ n (length-words-at l spreadAt n)
 
-pub bad-spread-of : (set spread : List ℕ) (m n : ℕ) (r : Bool) → m ≡ widthOf set → n ≡ chainsOf set → r ≡ badSpread m (take n spread)
-    → spread ≡ front (spreadOf set) noWords → r ≡ badSpread (widthOf set) (spreadOf set)
-bad-spread-of set spread m n r em en er e =
-    er ∙ ap₂ badSpread em (ap (λ (k : ℕ). take k spread) en ∙ spread-front set spread (chainsOf set) e)
+-- ---- number 6: the spread words before c aren't bad, so that those from c on decide
+
+abbrev pub Sought : List ℕ → ℕ → ℕ → ℕ → Type 0
+Sought set m n c = (c ≤ n) × (badSpread m (drop c (wordsAt set spreadAt n)) ≡ badSpread m (wordsAt set spreadAt n))
+
+sought-turn : (set : List ℕ) (m n c w : ℕ) (r b : Bool) → Sought set m n c → c < n → w ≡ wordAt set (12 + 8 * c) → r ≡ (eqb w 0 || beyond m w)
+    → r ≡ b → (b || badSpread m (drop (suc c) (wordsAt set spreadAt n))) ≡ badSpread m (wordsAt set spreadAt n)
+sought-turn set m n c w r b i l e h g =
+    bad-spread-turn m (wordsAt set spreadAt n) c b (omega (arith, l, length-words-at set spreadAt n)) (i .1)
+    (ap (λ (x : ℕ). eqb x 0 || beyond m x) (word-at-place set spreadAt n c l ∙ sym e) ∙ sym h ∙ g)
+
+pub sought-found : (set : List ℕ) (m n c w : ℕ) (r : Bool) → m ≡ widthOf set → n ≡ chainsOf set → Sought set m n c → c < n → w ≡ wordAt set (12 + 8 * c)
+    → r ≡ (eqb w 0 || beyond m w) → r ≡ true → true ≡ badSpread (widthOf set) (spreadOf set)
+sought-found set m n c w r em en i l e h g =
+    sought-turn set m n c w r true i l e h g ∙ ap₂ (λ (x y : ℕ). badSpread x (wordsAt set spreadAt y)) em en
+
+pub sought-next : (set : List ℕ) (m n c w : ℕ) (r : Bool) → Sought set m n c → c < n → w ≡ wordAt set (12 + 8 * c) → r ≡ (eqb w 0 || beyond m w)
+    → r ≡ false → Sought set m n (c + 1)
+sought-next set m n c w r i l e h g = (
+  omega (arith, l),
+  ap (λ (x : ℕ). badSpread m (drop x (wordsAt set spreadAt n))) (add-one c) ∙ sought-turn set m n c w r false i l e h g,
+)
+
+pub sought-none : (set : List ℕ) (m n c : ℕ) → m ≡ widthOf set → n ≡ chainsOf set → Sought set m n c → n ≤ c → false ≡ badSpread (widthOf set) (spreadOf set)
+sought-none set m n c em en i l =
+    bad-spread-ended m (wordsAt set spreadAt n) c (omega (arith, l, length-words-at set spreadAt n)) (i .1)
+    ∙ ap₂ (λ (x y : ℕ). badSpread x (wordsAt set spreadAt y)) em en
+
+-- ---- number 8
 
 pub wrong-length-of : (set : List ℕ) (n s r : ℕ) → n ≡ chainsOf set → s ≡ slicesOf set → r ≡ setLength n s
     → not (eqb (length set) r) ≡ not (eqb (length set) (setLength (chainsOf set) (slicesOf set)))
@@ -127,9 +156,6 @@ module _ (set : List ℕ) (small : (i : ℕ) → getD set i 0 < 256) where
       all-passed (SharedIn set) (slicesOf set) t (u .none) (e ∙ es) ∙ valued-of-bytes set long clean small
 
 -- ---- what the tests before leave
-
-pub chains-fit : (set : List ℕ) (r : Bool) → r ≡ (ltb (length set) 12 || badChains (chainsOf set)) → r ≡ false → chainsOf set ≤ 256
-chains-fit set r e h = good-chains (chainsOf set) (or-false-right (ltb (length set) 12) (badChains (chainsOf set)) (sym e ∙ h)) .1
 
 pub length-fits : (set : List ℕ) (r : Bool) → r ≡ not (eqb (length set) (setLength (chainsOf set) (slicesOf set))) → r ≡ false
     → length set ≡ setLength (chainsOf set) (slicesOf set)

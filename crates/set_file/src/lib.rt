@@ -150,16 +150,21 @@ fn ends_in_spread(set: &[u8]) -> bool
     set.len() < slices_at(chain_count(set))
 }
 
-// Number 6, for up to 256 chains: whether a spread word is zero or has a bit at or above m.
+// Number 6: whether a spread word is zero or has a bit at or above m.
 fn has_bad_spread(set: &[u8]) -> bool
-    ensures { λ r. ⌜ (chainsOf (now (set .entry)) ≤ 256 → r ≡ badSpread (widthOf (now (set .entry))) (spreadOf (now (set .entry)))) ⌝ }
+    ensures { λ r. ⌜ r ≡ badSpread (widthOf (now (set .entry))) (spreadOf (now (set .entry))) ⌝ }
 {
-    let n = chain_count(set) as usize;
-    if register::Register::LARGEST_CHAINS < n {
-        return true;
+    let m = word::read_count(set, 0);
+    let n = chain_count(set);
+    let mut c: u16 = 0;
+    while c < n {
+        let chain = c as usize;
+        if register::is_bad_spread_word(m, word::read_word(set, SPREAD_AT + 8 * chain)) {
+            return true;
+        }
+        c += 1;
     }
-    let spread = spread_words(set);
-    register::is_bad_spread(word::read_count(set, 0), &spread[..n])
+    false
 }
 
 // Whether s is above 512.

@@ -1,25 +1,14 @@
 -- `is_bad_spread` meets its contract. The loop's invariant: the answer rests on the words from `c` on.
-use mathlib.Core.Path.{_≡_, refl, sym, ap, _∙_}
-use mathlib.Core.Bool.{Bool, true, false, _||_}
-use mathlib.Core.List.{List}
-use Prim.Native.Nat.{ℕ, suc, _≤_, _<_, _-_}
+use mathlib.Core.Path.{_≡_, refl}
+use mathlib.Core.Bool.{true, false}
+use Prim.Native.Nat.{_≤_, _-_}
 use native.Mathlib.Numerals.{add-one}
 use borrow.Author.Needs.{needs}
-use lib.Dec.{eqb}
-use lib.ListN.{length, drop, getD, drop-of-length-le}
-use Rattle.word.specs.Word.{beyond}
+use lib.ListN.{length, drop}
 use Rattle.register.specs.Circuit.{badSpread}
-use Rattle.register.proofs.Laws.{bad-spread-none, bad-spread-from}
+use Rattle.register.proofs.Laws.{bad-spread-turn, bad-spread-ended}
 use Rattle.register.proofs.is_bad_spread.Statement.{statement}
 use Rattle.register.proofs.is_bad_spread.Tie as tie
-
--- the word of chain c and the words after it decide what the words from c on do
-turn : (m : ℕ) (ws : List ℕ) (c : ℕ) (b : Bool) → c < length ws → badSpread m (drop c ws) ≡ badSpread m ws
-    → (eqb (getD ws c 0) 0 || beyond m (getD ws c 0)) ≡ b → (b || badSpread m (drop (suc c) ws)) ≡ badSpread m ws
-turn m ws c b l e h = sym (rw h at (bad-spread-from m ws c l)) ∙ e
-
-ended : (m : ℕ) (ws : List ℕ) (c : ℕ) → length ws ≤ c → badSpread m (drop c ws) ≡ badSpread m ws → false ≡ badSpread m ws
-ended m ws c l e = sym (bad-spread-none m) ∙ ap (badSpread m) (sym (drop-of-length-le ws l)) ∙ e
 
 abbrev Inv-loop : tie.InvT-loop
 Inv-loop m spread c₀ c = (c ≤ length spread) × (badSpread m (drop c spread) ≡ badSpread m spread)
@@ -42,7 +31,7 @@ is-bad-spread-word-requires c κs = search needs
 
 returns : tie.Need-returns Inv-loop μ-loop
 returns c =
-    turn (c .before .before .before .before .before .before .args .m)
+    bad-spread-turn (c .before .before .before .before .before .before .args .m)
     (c .before .before .before .before .before .before .args .spread .now)
     (c .before .before .before .before .loop .c) true (search needs) (c .before .before .before .before .loop .inv .1) (cc)
 
@@ -56,14 +45,14 @@ loop-again : tie.Need-loop-again Inv-loop μ-loop
 loop-again c = (
   search needs,
   rw add-one
-      (turn (c .before .before .before .before .before .before .args .m)
+      (bad-spread-turn (c .before .before .before .before .before .before .args .m)
       (c .before .before .before .before .before .before .args .spread .now)
       (c .before .before .before .before .loop .c) false (search needs) (c .before .before .before .before .loop .inv .1) (cc)),
 )
 
 returns-2 : tie.Need-returns-2 Inv-loop μ-loop
 returns-2 c =
-    ended (c .before .before .before .args .m) (c .before .before .before .args .spread .now) (c .before .loop .c) (search needs)
+    bad-spread-ended (c .before .before .before .args .m) (c .before .before .before .args .spread .now) (c .before .loop .c) (search needs)
     (c .before .loop .inv .1)
 
 pub is-bad-spread-spec : {M : Type 1} → statement M

@@ -1,5 +1,5 @@
 -- `first_refusal` meets its contract: one test for each number, in the order of the list.
-use Rattle.set_file.proofs.CodeLaws.{chains-fit, length-fits}
+use Rattle.set_file.proofs.CodeLaws.{length-fits}
 use Rattle.set_file.specs.Reading.{setTests}
 use Rattle.word.proofs.ReplyLaws.{refusals}
 use mathlib.Core.Path.{sym, _∙_}
@@ -47,39 +47,39 @@ has-bad-spread-requires c κs = search needs
 
 returns-6 : tie.Need-returns-6
 unfolding setTests
-returns-6 c = let spread = c .before .has-bad-spread .ensures (chains-fit _ _ (c .before .before .before .before .before .has-bad-chains .ensures) (c .before .before .before .before .if4 .left)) in search refusals depth 24 fits 40000
+returns-6 c = search refusals depth 24 fits 40000
 
 has-bad-slices-requires : tie.Need-has-bad-slices-requires
 has-bad-slices-requires c κs = search needs
 
 returns-7 : tie.Need-returns-7
 unfolding setTests
-returns-7 c = let spread = c .before .before .before .has-bad-spread .ensures (chains-fit _ _ (c .before .before .before .before .before .before .before .has-bad-chains .ensures) (c .before .before .before .before .before .before .if4 .left)) in search refusals depth 24 fits 40000
+returns-7 c = search refusals depth 24 fits 40000
 
 has-wrong-length-requires : tie.Need-has-wrong-length-requires
 has-wrong-length-requires c κs = search needs
 
 returns-8 : tie.Need-returns-8
 unfolding setTests
-returns-8 c = let spread = c .before .before .before .before .before .has-bad-spread .ensures (chains-fit _ _ (c .before .before .before .before .before .before .before .before .before .has-bad-chains .ensures) (c .before .before .before .before .before .before .before .before .if4 .left)) in search refusals depth 24 fits 40000
+returns-8 c = search refusals depth 24 fits 40000
 
 has-spare-bits-requires : tie.Need-has-spare-bits-requires
 has-spare-bits-requires c κs = search needs
 
 returns-9 : tie.Need-returns-9
 unfolding setTests
-returns-9 c = let spread = c .before .before .before .before .before .before .before .has-bad-spread .ensures (chains-fit _ _ (c .before .before .before .before .before .before .before .before .before .before .before .has-bad-chains .ensures) (c .before .before .before .before .before .before .before .before .before .before .if4 .left)) in search refusals depth 24 fits 40000
+returns-9 c = search refusals depth 24 fits 40000
 
 has-valued-unknown-requires : tie.Need-has-valued-unknown-requires
 has-valued-unknown-requires c κs = search needs
 
 returns-10 : tie.Need-returns-10
 unfolding setTests
-returns-10 c = let spread = c .before .before .before .before .before .before .before .before .before .has-bad-spread .ensures (chains-fit _ _ (c .before .before .before .before .before .before .before .before .before .before .before .before .before .has-bad-chains .ensures) (c .before .before .before .before .before .before .before .before .before .before .before .before .if4 .left)) in let valued = c .before .has-valued-unknown .ensures (length-fits _ _ (c .before .before .before .before .before .has-wrong-length .ensures) (c .before .before .before .before .if8 .left)) (sym (c .before .before .before .has-spare-bits .ensures) ∙ c .before .before .if9 .left) in search refusals depth 24 fits 40000
+returns-10 c = let valued = c .before .has-valued-unknown .ensures (length-fits _ _ (c .before .before .before .before .before .has-wrong-length .ensures) (c .before .before .before .before .if8 .left)) (sym (c .before .before .before .has-spare-bits .ensures) ∙ c .before .before .if9 .left) in search refusals depth 24 fits 40000
 
 returns-11 : tie.Need-returns-11
 unfolding setTests
-returns-11 c = let spread = c .before .before .before .before .before .before .before .before .before .has-bad-spread .ensures (chains-fit _ _ (c .before .before .before .before .before .before .before .before .before .before .before .before .before .has-bad-chains .ensures) (c .before .before .before .before .before .before .before .before .before .before .before .before .if4 .left)) in let valued = c .before .has-valued-unknown .ensures (length-fits _ _ (c .before .before .before .before .before .has-wrong-length .ensures) (c .before .before .before .before .if8 .left)) (sym (c .before .before .before .has-spare-bits .ensures) ∙ c .before .before .if9 .left) in search refusals depth 24 fits 40000
+returns-11 c = let valued = c .before .has-valued-unknown .ensures (length-fits _ _ (c .before .before .before .before .before .has-wrong-length .ensures) (c .before .before .before .before .if8 .left)) (sym (c .before .before .before .has-spare-bits .ensures) ∙ c .before .before .if9 .left) in search refusals depth 24 fits 40000
 
 pub first-refusal-spec : {M : Type 1} → statement M
 first-refusal-spec =

@@ -1,49 +1,73 @@
--- `has_bad_spread` meets its contract.
-use Rattle.set_file.proofs.CodeLaws.{bad-spread-of}
-use native.Mathlib.Omega.{arith}
-use lib.Seq.{length-take-le}
-use mathlib.Core.Path.{sym}
+-- `has_bad_spread` meets its contract: the words from `c` on decide.
+use mathlib.Core.Path.{refl}
+use Prim.Native.Nat.{_-_}
 use borrow.Author.Needs.{needs}
+use Rattle.set_file.proofs.CodeLaws.{Sought, sought-found, sought-next, sought-none}
 use Rattle.set_file.proofs.has_bad_spread.Statement.{statement}
 use Rattle.set_file.proofs.has_bad_spread.Tie as tie
 
-chain-count-requires : tie.Need-chain-count-requires
-chain-count-requires c κs = search needs
+abbrev Inv-loop : tie.InvT-loop
+Inv-loop set m n c₀ c = Sought set m n c
 
-cast-n : tie.Need-cast-n
-cast-n c = search needs
+abbrev μ-loop : tie.MeasureT-loop
+μ-loop set m n c₀ c = n - c
 
-returns : tie.Need-returns
-returns c = λ h. let z : ⊥ = omega arith in absurd z
-
-spread-words-requires : tie.Need-spread-words-requires
-spread-words-requires c κs = search needs
-
-read-count-requires : tie.Need-read-count-requires
+read-count-requires : tie.Need-read-count-requires Inv-loop μ-loop
 read-count-requires c κs = search needs
 
-array-share-prefix-spread : tie.Need-array-share-prefix-spread
-array-share-prefix-spread c = search needs
+chain-count-requires : tie.Need-chain-count-requires Inv-loop μ-loop
+chain-count-requires c κs = search needs
 
-slice-aggregate-is-bad-spread : tie.Need-slice-aggregate-is-bad-spread
-slice-aggregate-is-bad-spread c = sym (length-take-le _ _ (search needs))
+loop-holds : tie.Need-loop-holds Inv-loop μ-loop
+loop-holds c = (search needs, refl)
 
-is-bad-spread-requires : tie.Need-is-bad-spread-requires
-is-bad-spread-requires c κs = search needs
+cast-chain : tie.Need-cast-chain Inv-loop μ-loop
+cast-chain c = search needs
 
-returns-2 : tie.Need-returns-2
-returns-2 c = λ h. bad-spread-of _ _ _ _ _ (c .before .before .read-count .ensures .0) (c .before .before .before .before .before .chain-count .ensures) (c .is-bad-spread .ensures) (c .before .before .before .spread-words .ensures h)
+mul-read-word : tie.Need-mul-read-word Inv-loop μ-loop
+mul-read-word c = search needs
+
+add-read-word : tie.Need-add-read-word Inv-loop μ-loop
+add-read-word c = search needs
+
+read-word-requires : tie.Need-read-word-requires Inv-loop μ-loop
+read-word-requires c κs = search needs
+
+is-bad-spread-word-requires : tie.Need-is-bad-spread-word-requires Inv-loop μ-loop
+is-bad-spread-word-requires c κs = search needs
+
+returns : tie.Need-returns Inv-loop μ-loop
+returns c =
+    sought-found _ _ _ _ _ _ (c .before .before .before .before .before .before .read-count .ensures .0) (c .before .before .before .before .before .chain-count .ensures) (c .before .before .before .before .loop .inv) (c .before .before .before .loop-test .taken) (c .before .before .read-word .ensures) (c .before .is-bad-spread-word .ensures) (c .if1 .taken)
+
+add-c : tie.Need-add-c Inv-loop μ-loop
+add-c c = search needs
+
+loop-less : tie.Need-loop-less Inv-loop μ-loop
+loop-less c = search needs
+
+loop-again : tie.Need-loop-again Inv-loop μ-loop
+loop-again c = sought-next _ _ _ _ _ _ (c .before .before .before .before .loop .inv) (c .before .before .before .loop-test .taken) (c .before .before .read-word .ensures) (c .before .is-bad-spread-word .ensures) (c .if1 .left)
+
+returns-2 : tie.Need-returns-2 Inv-loop μ-loop
+returns-2 c = sought-none _ _ _ _ (c .before .before .before .read-count .ensures .0) (c .before .before .chain-count .ensures) (c .before .loop .inv) (search needs)
 
 pub has-bad-spread-spec : {M : Type 1} → statement M
 has-bad-spread-spec =
     tie.close
     (tie.spec
-    chain-count-requires
-    cast-n
-    returns
-    spread-words-requires
+    Inv-loop
+    μ-loop
     read-count-requires
-    array-share-prefix-spread
-    slice-aggregate-is-bad-spread
-    is-bad-spread-requires
+    chain-count-requires
+    loop-holds
+    cast-chain
+    mul-read-word
+    add-read-word
+    read-word-requires
+    is-bad-spread-word-requires
+    returns
+    add-c
+    loop-less
+    loop-again
     returns-2)
