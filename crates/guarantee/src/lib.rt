@@ -4,7 +4,7 @@ ghost use Prim.Native.Nat.{ℕ};
 ghost use lib.ListN.{length};
 ghost use Rattle.word.specs.Reply.{answer, numberOf, lent};
 ghost use Rattle.response.specs.Signing.{signReply, saidSigned};
-ghost use Rattle.planner.specs.Planning.{wordsOf, planReply, columnsAfter, said as saidPlanned};
+ghost use Rattle.planner.specs.Planning.{wordsOf, planReply, columnsAfter};
 ghost use Rattle.plan_file.specs.Writing.{saidWritten};
 ghost use Rattle.judge.specs.Verdict.{said};
 ghost use Rattle.guarantee.specs.Demand.{Alike};
@@ -18,20 +18,6 @@ use response::Signed;
 pub struct Pair {
     pub first: Judged,
     pub second: Judged,
-}
-
-// The number of a refusal of planning; 0 of an answer.
-fn planning_number(planned: Planned) -> u64
-    ensures { λ r. ⌜ r ≡ numberOf (saidPlanned planned) ⌝ }
-{
-    match planned {
-        Planned::Plan {
-            m: _,
-            q: _,
-            expected: _,
-        } => 0,
-        Planned::Refused { number } => number,
-    }
 }
 
 // The number of a refusal of the plan writer; 0 of an answer.
@@ -65,7 +51,7 @@ fn make_plan(set: &[u8], columns: &mut [u64], words: &mut [u64], file: &mut [u8]
     let planned = planner::plan(set, columns, words);
     let Planned::Plan { m, q, expected } = planned else {
         return Written::Refused {
-            number: planning_number(planned),
+            number: planner::number_of(planned),
         };
     };
     let count = q as usize;

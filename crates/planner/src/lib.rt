@@ -1,7 +1,7 @@
 // Planning: the words and the expected bits of a set.
 ghost use mathlib.Core.Path.{_≡_};
 ghost use lib.ListN.{length};
-ghost use Rattle.word.specs.Reply.{lent};
+ghost use Rattle.word.specs.Reply.{lent, numberOf};
 ghost use Rattle.planner.specs.Planning.{wordsOf, planReply, columnsAfter, said};
 use elimination::Eliminated;
 use set_file::SetAnswer;
@@ -45,5 +45,19 @@ pub fn plan(set: &[u8], columns: &mut [u64], words: &mut [u64]) -> Planned
         m,
         q,
         expected: word::word_parities(&words[..count], zero),
+    }
+}
+
+// The refusal's number; 0 of a plan.
+pub fn number_of(planned: Planned) -> u64
+    ensures { λ r. ⌜ r ≡ numberOf (said planned) ⌝ }
+{
+    match planned {
+        Planned::Plan {
+            m: _,
+            q: _,
+            expected: _,
+        } => 0,
+        Planned::Refused { number } => number,
     }
 }

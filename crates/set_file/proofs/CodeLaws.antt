@@ -7,20 +7,17 @@ use native.Mathlib.Nat.{mul-le-mul-left, le-trans, mul-add, mul-one, mul-zero}
 use native.Mathlib.Numerals.{add-one}
 use native.Mathlib.Omega.{arith}
 use borrow.Author.Tests.{eqb-true, not-false}
-use lib.Dec.{eqb, ltb}
+use lib.Dec.{eqb}
 use lib.ListN.{length, getD, take, drop, length-drop}
-use lib.Seq.{take-at, take-all}
+use lib.Seq.{take-all}
 use Rattle.word.specs.Some.{anyBelow}
-use Rattle.word.specs.Reply.{front}
-use Rattle.word.proofs.BoolLaws.{or-false-right}
 use Rattle.register.specs.Row.{rowBytes, spareSet}
 use Rattle.register.specs.Circuit.{badSpread}
 use Rattle.register.proofs.Laws.{bad-spread-turn, bad-spread-ended}
 use Rattle.set_file.specs.Layout.{spreadAt, rowsAt, setLength, widthOf, chainsOf, spreadOf, slicesOf, valueAt, markAt, valueRow, markRow}
 use Rattle.set_file.specs.Reading.{spareInRows, valuedUnknown}
 use Rattle.set_file.specs.Writing.{listRow}
-use Rattle.set_file.specs.Code.{noWords, sharesBit}
-use Rattle.set_file.proofs.LayoutLaws.{good-chains}
+use Rattle.set_file.specs.Code.{sharesBit}
 use Rattle.set_file.proofs.RangeLaws.{none-passed, one-passed, one-found, all-passed}
 use Rattle.set_file.proofs.RowLaws.{SpareRow, spare-rows-none}
 use Rattle.set_file.proofs.SliceLaws.{rowsOf, spare-of-rows, slice-inside, valued-of-bytes}
@@ -32,11 +29,6 @@ use Rattle.word.proofs.ByteLaws.{length-words-at}
 -- counts of 2 bytes keep a set's length small
 pub rows-small : (b s : ℕ) → b ≤ 8192 → s ≤ 65536 → b * s ≤ 536870912
 rows-small b s hb hs = le-trans (mul-le-mul-left b hs) (omega arith)
-
--- the spread words stand at the front of the 256
-pub spread-front : (l spread : List ℕ) (n : ℕ) → spread ≡ front (wordsAt l spreadAt n) noWords → take n spread ≡ wordsAt l spreadAt n
-unfolding front
-spread-front l spread n e = ap (take n) e ∙ take-at (wordsAt l spreadAt n) _ n (length-words-at l spreadAt n)
 
 -- ---- number 6: the spread words before c aren't bad, so that those from c on decide
 

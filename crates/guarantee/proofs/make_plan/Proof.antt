@@ -15,8 +15,8 @@ enum-known-planned c = search needs
 enum-told : tie.Need-enum-told
 enum-told c = search needs
 
-planning-number-requires : tie.Need-planning-number-requires
-planning-number-requires c κs = search needs
+number-of-requires : tie.Need-number-of-requires
+number-of-requires c κs = search needs
 
 same-length : tie.Need-same-length
 same-length c = search needs
@@ -26,7 +26,7 @@ same-length-2 c = search needs
 
 returns : tie.Need-returns
 returns c =
-    made-unplanned _ (c .before .before .before .before .before .before .before .before .before .before .before .before .before .before .args .columns .now) (c .before .before .before .before .before .before .before .before .before .before .before .before .before .before .args .words .now) _ _ _ (c .before .before .before .before .before .before .before .plan .ensures) _ _ _ (c .before .enum-told .given .1) (c .planning-number .ensures)
+    made-unplanned _ (c .before .before .before .before .before .before .before .before .before .before .before .before .before .before .args .columns .now) (c .before .before .before .before .before .before .before .before .before .before .before .before .before .before .args .words .now) _ _ _ (c .before .before .before .before .before .before .before .plan .ensures) _ _ _ (c .before .enum-told .given .1) (c .number-of .ensures)
 
 slice-reshare-prefix-write-plan : tie.Need-slice-reshare-prefix-write-plan
 slice-reshare-prefix-write-plan c =
@@ -59,7 +59,7 @@ make-plan-spec =
     plan-requires
     enum-known-planned
     enum-told
-    planning-number-requires
+    number-of-requires
     same-length
     same-length-2
     returns

@@ -1,0 +1,189 @@
+-- How much of its input the plan printer has to read. Document 01: "An input longer than any set counts as a set of the wrong
+-- length." The longest set has 34,830 bytes, and an input that is longer prints what its first 34,831 bytes print:
+--
+--   longest-set       a set that meets none of 1 to 10 has at most 34,830 bytes
+--   long-refused      a longer input prints its first number
+--   long-number       .. which is 8 or an earlier one
+--   long-input        .. and so do its first 34,831 bytes, for any column places and word places
+-- Assumes nothing.
+use mathlib.Core.Path.{_≡_, refl, sym, ap, ap₂, _∙_}
+use mathlib.Core.Bool.{Bool, true, false, cond, not, _||_}
+use mathlib.Core.List.{List, _∷_}
+use Prim.Native.Nat.{ℕ, zero, suc, _+_, _*_, _<_, _≤_}
+use native.Mathlib.Nat.{mul-le-mul-right}
+use native.Mathlib.Omega.{arith}
+use borrow.Author.Tests.{le-ltb, ltb-false, ne-eqb}
+use lib.Dec.{eqb, ltb}
+use lib.ListN.{length, take}
+use lib.Seq.{getD-take, length-take-le}
+use Rattle.word.specs.Word.{badWidth}
+use Rattle.word.specs.Bytes.{numberAt, wordsAt}
+use Rattle.word.specs.Reply.{Reply, replied, firstOf}
+use Rattle.word.proofs.BoolLaws.{or-false-right}
+use Rattle.word.proofs.ByteLaws.{number-at-zero, number-at-suc}
+use Rattle.word.proofs.ReplyLaws.{replied-refusal}
+use Rattle.word.proofs.TestLaws.{first-of-sooner}
+use Rattle.register.specs.Row.{rowBytes}
+use Rattle.register.specs.Circuit.{badTaps, badChains, badSpread}
+use Rattle.set_file.specs.Layout.{spreadAt, slicesAt, rowsAt, setLength, widthOf, tapsOf, chainsOf, spreadOf, slicesOf}
+use Rattle.set_file.specs.Reading.{badSlices, setTests}
+use Rattle.set_file.proofs.Laws.{Accepted, accepted, accepted-chains}
+use Rattle.response.specs.Listing.{listTests}
+use Rattle.planner.specs.Planning.{PlanParts, planTests, partsOf, planReply}
+use Rattle.plan_text.specs.PlanText.{refusedLine, textOf, planText}
+
+-- ---- numbers in the first bytes of a list
+
+number-at-take : (k : ℕ) (s : List ℕ) (n i : ℕ) → i + k ≤ n → numberAt k (take n s) i ≡ numberAt k s i
+number-at-take zero s n i h = number-at-zero (take n s) i ∙ sym (number-at-zero s i)
+number-at-take (suc k) s n i h =
+    number-at-suc k (take n s) i
+    ∙ ap₂ (λ (x y : ℕ). x + 256 * y) (getD-take n s i 0 (omega arith)) (number-at-take k s n (suc i) (omega arith))
+    ∙ sym (number-at-suc k s i)
+
+words-at-take : (k : ℕ) (s : List ℕ) (n i : ℕ) → i + 8 * k ≤ n → wordsAt (take n s) i k ≡ wordsAt s i k
+unfolding wordsAt
+words-at-take zero s n i h = refl
+words-at-take (suc k) s n i h =
+    ap₂ _∷_ (number-at-take 8 s n i (omega arith)) (words-at-take k s n (i + 8) (omega arith))
+
+-- ---- the longest set
+
+set-length-most : (n s : ℕ) → n ≤ 256 → s ≤ 512 → setLength n s ≤ 34830
+set-length-most n s hn hs =
+    let rows : 2 * rowBytes n ≤ 64 = omega arith in omega (arith, mul-le-mul-right s rows)
+
+pub longest-set : (set : List ℕ) → Accepted set → length set ≤ 34830
+longest-set set a =
+    omega (arith, a .long, set-length-most (chainsOf set) (slicesOf set) (accepted-chains set a .1) (a .slices))
+
+-- ---- a longer input
+
+alike : (b c : Bool) (n x y : ℕ) → b ≡ c → (c ≡ false → x ≡ y) → cond b n x ≡ cond c n y
+alike b true n x y e h = ap (λ (d : Bool). cond d n x) e
+alike b false n x y e h = ap (λ (d : Bool). cond d n x) e ∙ h refl
+
+stops : (b : Bool) (n x : ℕ) → b ≡ true → cond b n x ≡ n
+stops b n x e = ap (λ (d : Bool). cond d n x) e
+
+at-most : (b : Bool) (n x : ℕ) → n ≤ 8 → (b ≡ false → x ≤ 8) → cond b n x ≤ 8
+at-most true n x l h = l
+at-most false n x l h = h refl
+
+at-last : (b : Bool) (n x : ℕ) → n ≤ 8 → b ≡ true → cond b n x ≤ 8
+at-last b n x l e = omega (arith, stops b n x e)
+
+module _ (set : List ℕ) (h : 34830 < length set) where
+  abbrev front : List ℕ
+  front = take 34831 set
+
+  front-length : length front ≡ 34831
+  front-length = length-take-le 34831 set h
+
+  -- neither ends before place n
+  neither-ends : (n : ℕ) → n ≤ 34831 → ltb (length front) n ≡ ltb (length set) n
+  neither-ends n l = le-ltb (length front) n (omega (arith, front-length)) ∙ sym (le-ltb (length set) n (omega arith))
+
+  same-width : widthOf front ≡ widthOf set
+  same-width = number-at-take 2 set 34831 0 (omega arith)
+
+  same-taps : tapsOf front ≡ tapsOf set
+  same-taps = number-at-take 8 set 34831 2 (omega arith)
+
+  same-chains : chainsOf front ≡ chainsOf set
+  same-chains = number-at-take 2 set 34831 10 (omega arith)
+
+  -- 5 to 8, for a number of chains that does not meet 4
+  module _ (n : chainsOf set ≤ 256) where
+    same-spread : spreadOf front ≡ spreadOf set
+    same-spread = ap (wordsAt front spreadAt) same-chains ∙ words-at-take (chainsOf set) set 34831 spreadAt (omega arith)
+
+    same-slices : slicesOf front ≡ slicesOf set
+    same-slices =
+        ap (λ (c : ℕ). numberAt 2 front (slicesAt c)) same-chains ∙ number-at-take 2 set 34831 (slicesAt (chainsOf set)) (omega arith)
+
+    same-bad-slices : badSlices front ≡ badSlices set
+    unfolding badSlices
+    same-bad-slices =
+        ap₂ (λ (c s : ℕ). ltb (length front) (rowsAt c) || ltb 512 s) same-chains same-slices
+        ∙ ap (λ (b : Bool). b || ltb 512 (slicesOf set)) (neither-ends (rowsAt (chainsOf set)) (omega arith))
+
+    few-slices : badSlices set ≡ false → slicesOf set ≤ 512
+    unfolding badSlices
+    few-slices e = ltb-false 512 (slicesOf set) (or-false-right (ltb (length set) (rowsAt (chainsOf set))) (ltb 512 (slicesOf set)) e)
+
+    too-long : (l : ℕ) → 34830 < l → slicesOf set ≤ 512 → not (eqb l (setLength (chainsOf set) (slicesOf set))) ≡ true
+    too-long l g s =
+        ap not (ne-eqb l (setLength (chainsOf set) (slicesOf set)) (λ (e : l ≡ setLength (chainsOf set) (slicesOf set)). omega (arith, set-length-most (chainsOf set) (slicesOf set) n s)))
+
+    front-too-long : slicesOf set ≤ 512 → not (eqb (length front) (setLength (chainsOf front) (slicesOf front))) ≡ true
+    front-too-long s =
+        ap₂ (λ (c t : ℕ). not (eqb (length front) (setLength c t))) same-chains same-slices
+        ∙ too-long (length front) (omega (arith, front-length)) s
+
+  few-chains : (ltb (length set) 12 || badChains (chainsOf set)) ≡ false → chainsOf set ≤ 256
+  unfolding badChains
+  few-chains e =
+      ltb-false 256 (chainsOf set)
+      (or-false-right (ltb (chainsOf set) 1) (ltb 256 (chainsOf set))
+      (or-false-right (ltb (length set) 12) (ltb (chainsOf set) 1 || ltb 256 (chainsOf set)) e))
+
+  same-first : firstOf (setTests front) ≡ firstOf (setTests set)
+  unfolding setTests
+  same-first =
+      alike _ _ 1 _ _ (neither-ends 10 (omega arith))
+      (λ e1.
+      alike _ _ 2 _ _ (ap badWidth same-width)
+      (λ e2.
+      alike _ _ 3 _ _ (ap₂ badTaps same-width same-taps)
+      (λ e3.
+      alike _ _ 4 _ _ (ap₂ (λ (b : Bool) (c : ℕ). b || badChains c) (neither-ends 12 (omega arith)) same-chains)
+      (λ e4.
+      let n : chainsOf set ≤ 256 = few-chains e4 in
+      alike _ _ 5 _ _ (ap (λ (c : ℕ). ltb (length front) (slicesAt c)) same-chains ∙ neither-ends (slicesAt (chainsOf set)) (omega arith))
+      (λ e5.
+      alike _ _ 6 _ _ (ap₂ badSpread same-width (same-spread n))
+      (λ e6.
+      alike _ _ 7 _ _ (same-bad-slices n)
+      (λ e7.
+      stops _ 8 _ (front-too-long n (few-slices n e7)) ∙ sym (stops _ 8 _ (too-long n (length set) h (few-slices n e7))))))))))
+
+  -- the number is 8, for the wrong length, or an earlier one
+  pub long-number : firstOf (setTests set) ≤ 8
+  unfolding setTests
+  long-number =
+      at-most (ltb (length set) 10) 1 _ (omega arith)
+      (λ e1.
+      at-most (badWidth (widthOf set)) 2 _ (omega arith)
+      (λ e2.
+      at-most (badTaps (widthOf set) (tapsOf set)) 3 _ (omega arith)
+      (λ e3.
+      at-most (ltb (length set) 12 || badChains (chainsOf set)) 4 _ (omega arith)
+      (λ e4.
+      at-most (ltb (length set) (slicesAt (chainsOf set))) 5 _ (omega arith)
+      (λ e5.
+      at-most (badSpread (widthOf set) (spreadOf set)) 6 _ (omega arith)
+      (λ e6.
+      at-most (badSlices set) 7 _ (omega arith)
+      (λ e7. at-last _ 8 _ (omega arith) (too-long (few-chains e4) (length set) h (few-slices (few-chains e4) e7)))))))))
+
+  some-number : firstOf (setTests set) ≡ 0 → ⊥
+  some-number z = let l : length set ≤ 34830 = longest-set set (accepted set z) in omega arith
+
+-- a set that meets one of 1 to 10 prints it
+refused-set : (set : List ℕ) (k l : ℕ) → (firstOf (setTests set) ≡ 0 → ⊥) → planText set k l ≡ refusedLine (firstOf (setTests set))
+unfolding planText planReply planTests listTests
+refused-set set k l h =
+    let sooner : firstOf (listTests set k) ≡ firstOf (setTests set) = first-of-sooner (setTests set) _ h in
+    let first : firstOf (planTests set k l) ≡ firstOf (setTests set) =
+    first-of-sooner (listTests set k) _ (λ (z : firstOf (listTests set k) ≡ 0). h (sym sooner ∙ z)) ∙ sooner in
+    ap (λ (x : Reply PlanParts). textOf x set)
+    (ap (λ (x : ℕ). replied x (partsOf set)) first ∙ replied-refusal (firstOf (setTests set)) (partsOf set) h)
+
+pub long-refused : (set : List ℕ) (k l : ℕ) → 34830 < length set → planText set k l ≡ refusedLine (firstOf (setTests set))
+long-refused set k l h = refused-set set k l (some-number set h)
+
+pub long-input : (set : List ℕ) (k l : ℕ) → 34830 < length set → planText (take 34831 set) k l ≡ planText set k l
+long-input set k l h =
+    refused-set (take 34831 set) k l (λ (z : firstOf (setTests (take 34831 set)) ≡ 0). some-number set h (sym (same-first set h) ∙ z))
+    ∙ ap refusedLine (same-first set h) ∙ sym (long-refused set k l h)

@@ -1,0 +1,5 @@
+pub mod PutLaws
+pub mod LineLaws
+pub mod PrintLaws
+pub mod InputLaws
+pub mod Worked

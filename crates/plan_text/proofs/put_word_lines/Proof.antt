@@ -1,0 +1,58 @@
+-- `put_word_lines` meets its contract: the lines put, and those still to be put.
+use Prim.Native.Nat.{_-_}
+use lib.ListN.{length}
+use Rattle.plan_text.proofs.PutLaws.{Lining, lining-start, lining-turn, lining-end}
+use borrow.Author.Needs.{needs}
+use Rattle.plan_text.proofs.put_word_lines.Statement.{statement}
+use Rattle.plan_text.proofs.put_word_lines.Tie as tie
+
+abbrev Inv-loop : tie.InvT-loop
+Inv-loop out₀ at words expected place₀ bits₀ i₀ out place bits i = Lining out₀ at words expected out place bits i
+
+abbrev μ-loop : tie.MeasureT-loop
+μ-loop out₀ at words expected place₀ bits₀ i₀ out place bits i = length words - i
+
+loop-holds : tie.Need-loop-holds Inv-loop μ-loop
+loop-holds c = lining-start _ _ _ _
+
+mul-put-word-line : tie.Need-mul-put-word-line Inv-loop μ-loop
+mul-put-word-line c = search needs
+
+shared-slice-read-put-word-line : tie.Need-shared-slice-read-put-word-line Inv-loop μ-loop
+shared-slice-read-put-word-line c = search needs
+
+put-word-line-requires : tie.Need-put-word-line-requires Inv-loop μ-loop
+put-word-line-requires c κs = search needs
+
+add-i : tie.Need-add-i Inv-loop μ-loop
+add-i c = search needs
+
+loop-less : tie.Need-loop-less Inv-loop μ-loop
+loop-less c = search needs
+
+loop-again : tie.Need-loop-again Inv-loop μ-loop
+loop-again c =
+    lining-turn _ _ _ _ _ _ _ _ _ _ (c .before .before .before .before .before .before .loop .inv) (search needs) (search needs)
+    (c .before .before .put-word-line .ensures)
+
+same-length : tie.Need-same-length Inv-loop μ-loop
+same-length c = search needs
+
+returns : tie.Need-returns Inv-loop μ-loop
+returns c = lining-end _ _ _ _ _ _ _ _ (c .before .loop .inv) (search needs)
+
+pub put-word-lines-spec : {M : Type 1} → statement M
+put-word-lines-spec =
+    tie.close
+    (tie.spec
+    Inv-loop
+    μ-loop
+    loop-holds
+    mul-put-word-line
+    shared-slice-read-put-word-line
+    put-word-line-requires
+    add-i
+    loop-less
+    loop-again
+    same-length
+    returns)
