@@ -1,13 +1,17 @@
--- Two signatures have the same parities with the words exactly when their XOR is even with each. Assumes nothing.
+-- Two signatures have the same parities with the words exactly when their XOR is even with each, and one has no odd parity exactly
+-- when it is even with each. Assumes nothing.
 use mathlib.Core.Path.{_≡_, refl, sym, ap, ap₂, _∙_}
 use mathlib.Core.Bool.{true}
 use mathlib.Core.List.{List, [], _∷_}
 use Prim.Native.Nat.{ℕ, _+_, _*_, _%_, _<_}
 use native.Mathlib.Omega.{arith}
-use lib.Bits.{bitXor}
+use borrow.Author.Tests.{eqb-true, eq-eqb}
+use lib.Bits.{bitXor, xor-zero-r}
+use lib.Dec.{eqb}
 use Rattle.word.specs.Word.{parity}
 use Rattle.word.specs.Parities.{parities}
-use Rattle.word.proofs.Laws.{parity-xor, parity-comm, parity-lt}
+use Rattle.word.proofs.Laws.{parity-xor, parity-comm, parity-lt, parities-zero}
+use Rattle.word.proofs.BoolLaws.{iff-eq}
 use Rattle.elimination.specs.Combination.{xFree}
 use Rattle.elimination.proofs.XFree.{x-free-cons, x-free-head, x-free-tail}
 
@@ -47,3 +51,11 @@ even-parities [] a b h = refl
 even-parities (w ∷ ws) a b h =
     ap₂ (λ (x y : ℕ). x + 2 * y) (even-same w a b (x-free-head w ws (bitXor a b) h))
     (even-parities ws a b (x-free-tail w ws (bitXor a b) h))
+
+pub even-exactly : (ws : List ℕ) (c : ℕ) → xFree ws c ≡ eqb (parities ws c) 0
+even-exactly ws c =
+    iff-eq _ _
+    (λ (h : xFree ws c ≡ true).
+    eq-eqb _ _ (even-parities ws c 0 (ap (xFree ws) (xor-zero-r c) ∙ h) ∙ parities-zero ws))
+    (λ (h : eqb (parities ws c) 0 ≡ true).
+    ap (xFree ws) (sym (xor-zero-r c)) ∙ parities-even ws c 0 (eqb-true _ _ h ∙ sym (parities-zero ws)))

@@ -11,3 +11,5 @@ pub mod Theorems
 pub mod CodeLaws
 pub mod LoopLaws
 pub mod CallLaws
+pub mod TableLaws
+pub mod SkipLaws

@@ -4,20 +4,21 @@ use mathlib.Core.Bool.{Bool, true, false, not, _&&_, _||_}
 use mathlib.Core.Logic.{_⊎_, inl, inr, ⊎-elim}
 use mathlib.Core.List.{List, [], _∷_, _++_}
 use Prim.Native.Nat.{ℕ, zero, suc, _+_, _-_, _*_, _%_, _^_, _<_, _≤_}
-use native.Mathlib.Nat.{le-refl, le-add-left, one-mul, zero-add, suc-add, sub-add-cancel}
+use native.Mathlib.Nat.{le-refl, lt-of-lt-of-le, le-add-left, one-mul, zero-add, suc-add, sub-add-cancel}
 use native.Mathlib.Numerals.{add-one}
 use native.Mathlib.Omega.{arith}
 use borrow.Author.Tests.{lt-leb, leb-false, le-leb, leb-true, lt-ltb, le-ltb, not-true, not-false}
 use lib.Bits.{bitAnd, bitOr, or-lt, or-add-and, and-le-l, and-le-r}
 use lib.Dec.{eqb, ltb, leb}
 use lib.ListN.{length, getD, take, drop, set, length-append, length-drop, drop-of-length-le}
-use lib.Pow.{pow-pos, shl-exact}
+use lib.Pow.{pow-pos, pow-mono, shl-exact}
 use lib.Seq.{drop-cons, take-suc-set, take-all, take-length, take-append-le, take-append-seam, drop-length, length-take-le, take-take, take-at}
 use Rattle.word.specs.Word.{beyond, highestBit}
 use Rattle.word.specs.Some.{anyOf, anyBelow}
 use Rattle.word.specs.Reply.{front}
 use Rattle.word.proofs.FrontLaws.{front-nothing, front-next, front-whole, front-length, front-take-length}
-use Rattle.word.proofs.SomeLaws.{any-of-below}
+use Rattle.word.proofs.SomeLaws.{any-of-below, any-of-none}
+use Rattle.word.proofs.WordLaws.{not-beyond}
 use Rattle.elimination.specs.Pass.{follows, withTop, onePass}
 use Rattle.elimination.specs.Step.{step, steps, units}
 use Rattle.elimination.specs.Code.{orBelow}
@@ -47,6 +48,10 @@ or-below-beyond m ws (suc i) =
 pub or-all-beyond : (m : ℕ) (ws : List ℕ) → beyond m (orBelow ws (length ws)) ≡ anyOf (beyond m) ws
 or-all-beyond m ws = or-below-beyond m ws (length ws) ∙ sym (any-of-below (beyond m) 0 ws)
 
+-- no word has a bit at or above 64
+pub none-beyond : (m : ℕ) (ws : List ℕ) → 64 ≤ m → ((i : ℕ) → getD ws i 0 < 2 ^ 64) → false ≡ anyOf (beyond m) ws
+none-beyond m ws h small = sym (any-of-none (beyond m) 0 ws (λ i l. not-beyond m (getD ws i 0) (lt-of-lt-of-le (small i) (pow-mono h))))
+
 pub or-start : (ws : List ℕ) → 0 ≡ orBelow ws 0
 unfolding orBelow
 or-start ws = refl
@@ -66,13 +71,18 @@ pub units-start : (ws : List ℕ) → take 0 ws ≡ units 0
 unfolding units
 units-start ws = refl
 
+pub one-bit : (i : ℕ) → i < 64 → (1 * 2 ^ i) % 18446744073709551616 ≡ 2 ^ i
+one-bit i h = shl-exact {a = 1} 1 i 64 (omega arith) (omega arith) ∙ one-mul (2 ^ i)
+
+-- one more place of a list is written
+pub next-taken : (l us : List ℕ) (i v u : ℕ) → i < length l → take i l ≡ us → v ≡ u → take (i + 1) (set l i v) ≡ us ++ u ∷ []
+next-taken l us i v u h e ev =
+    ap (λ (n : ℕ). take n (set l i v)) (add-one i) ∙ take-suc-set l i v h ∙ ap₂ (λ (x : List ℕ) (y : ℕ). x ++ y ∷ []) e ev
+
 pub units-turn : (ws : List ℕ) (i : ℕ) → length ws ≡ 64 → i < 64 → take i ws ≡ units i → take (i + 1) (set ws i ((1 * 2 ^ i) % 18446744073709551616)) ≡ units (i + 1)
 unfolding units
 units-turn ws i long h e =
-    let bit : (1 * 2 ^ i) % 18446744073709551616 ≡ 2 ^ i = shl-exact {a = 1} 1 i 64 (omega arith) (omega arith) ∙ one-mul (2 ^ i) in
-    let inside : i < length ws = subst (λ (n : ℕ). i < n) (sym long) h in
-    ap (λ (n : ℕ). take n (set ws i ((1 * 2 ^ i) % 18446744073709551616))) (add-one i)
-    ∙ take-suc-set ws i ((1 * 2 ^ i) % 18446744073709551616) inside ∙ ap₂ (λ (x : List ℕ) (y : ℕ). x ++ y ∷ []) e bit
+    next-taken ws (units i) i ((1 * 2 ^ i) % 18446744073709551616) (2 ^ i) (subst (λ (n : ℕ). i < n) (sym long) h) e (one-bit i h)
     ∙ ap units (sym (add-one i))
 
 pub units-end : (ws : List ℕ) (i : ℕ) → length ws ≡ 64 → i ≤ 64 → 64 ≤ i → take i ws ≡ units i → ws ≡ units 64
@@ -149,8 +159,7 @@ pass-end m last seen ws i inv h = sym (inv ∙ ap (onePass m last seen) (drop-of
 pub with-top-bit : (seen w h : ℕ) → h ≡ highestBit w → bitOr seen ((1 * 2 ^ h) % 18446744073709551616) ≡ withTop seen w
 unfolding withTop highestBit
 with-top-bit seen w h e =
-    let small : h < 64 = omega arith in
-    ap (bitOr seen) (shl-exact {a = 1} 1 h 64 (omega arith) (omega arith) ∙ one-mul (2 ^ h) ∙ ap (λ (x : ℕ). 2 ^ x) e)
+    ap (bitOr seen) (one-bit h (omega arith) ∙ ap (λ (x : ℕ). 2 ^ x) e)
 
 pub highest-small : (w h : ℕ) → h ≡ highestBit w → h < 64
 unfolding highestBit
@@ -200,6 +209,11 @@ reduced-turn cs l ws part left next i r h same count e =
           ∙ take-append-seam s (drop (length s) (take left ws)))
           ∙ sym (steps-cons cs i (take left ws) h) ∙ r .done;
     }
+
+-- columns that leave the words as they are can be passed over
+pub reduced-on : (cs l ws : List ℕ) (left i j : ℕ) → Reduced cs l ws left i → steps (drop j cs) (take left ws) ≡ steps (drop i cs) (take left ws)
+    → Reduced cs l ws left j
+reduced-on cs l ws left i j r e = record { left-long = r .left-long; long = r .long; done = e ∙ r .done }
 
 pub reduced-empty : (cs l ws : List ℕ) (left i : ℕ) → Reduced cs l ws left i → left ≡ 0 → (0 ≡ length (steps cs l)) × (take 0 ws ≡ steps cs l)
 reduced-empty cs l ws left i r z =

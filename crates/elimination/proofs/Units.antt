@@ -4,12 +4,13 @@ use mathlib.Core.Bool.{Bool, true, false, _&&_, and-assoc}
 use mathlib.Core.Logic.{_⊎_, inl, inr, ⊎-elim}
 use mathlib.Core.List.{List, [], _∷_, _++_}
 use Prim.Native.Nat.{ℕ, zero, suc, _+_, _*_, _/_, _%_, _^_, _<_, _≤_}
-use native.Mathlib.Nat.{div-self, mul-div-cancel-left, le-dest, lt-of-not-le, div-eq-of-lt-le}
+use native.Mathlib.Nat.{div-self, mul-div-cancel-left, le-dest, lt-of-not-le, div-eq-of-lt-le, not-suc-le-zero, le-of-suc-le-suc, eq-or-lt-of-le}
 use native.Mathlib.Decide.{decLe}
 use native.Mathlib.Omega.{arith}
 use borrow.Author.Tests.{eqb-true, eq-eqb}
 use lib.Dec.{eqb}
-use lib.ListN.{length, length-append}
+use lib.ListN.{length, getD, length-append, List·getD-append}
+use lib.Seq.{getD-at}
 use lib.Pow.{pow-pos, pow-lt, pow-add}
 use lib.Bits.{bitXor, xor-shr, xor-comm}
 use Rattle.word.specs.Word.{parity, digit}
@@ -52,6 +53,16 @@ pub length-units : (m : ℕ) → length (units m) ≡ m
 unfolding units
 length-units zero = refl
 length-units (suc m) = length-append (units m) (2 ^ m ∷ []) ∙ omega (arith, length-units m)
+
+pub units-at : (m i : ℕ) → i < m → getD (units m) i 0 ≡ 2 ^ i
+unfolding units
+units-at zero i h = absurd (not-suc-le-zero h)
+units-at (suc m) i h =
+    ⊎-elim
+    (λ (e : i ≡ m). ap (λ (n : ℕ). getD (units m ++ 2 ^ m ∷ []) n 0) e ∙ getD-at (units m) (2 ^ m) [] 0 m (length-units m) ∙ ap (λ (n : ℕ). 2 ^ n) (sym e))
+    (λ (l : i < m).
+    List·getD-append (units m) (2 ^ m ∷ []) 0 i (subst (λ (n : ℕ). i < n) (sym (length-units m)) l) ∙ units-at m i l)
+    (eq-or-lt-of-le (le-of-suc-le-suc h))
 
 -- a word below 2 ^ (m + 1) that is not below 2 ^ m falls below it when bit m is XORed in
 pub without-top : (m y : ℕ) → y < 2 ^ suc m → 2 ^ m ≤ y → bitXor (2 ^ m) y < 2 ^ m

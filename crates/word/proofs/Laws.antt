@@ -1,5 +1,5 @@
 -- The laws of XOR, AND and parity that the crates above cite: XOR associates and cancels, AND and parity spread over XOR,
--- and the digits of an XOR. Assumes nothing.
+-- the digits of an XOR, and the parities of a list of words. Assumes nothing.
 use mathlib.Core.Path.{_≡_, refl, sym, ap, ap₂, _∙_}
 use mathlib.Core.Logic.{_⊎_, inl, inr}
 use Prim.Native.Nat.{ℕ, zero, suc, _+_, _*_, _/_, _%_, _^_, _<_, min, max}
@@ -281,18 +281,38 @@ parities-lt (w ∷ ws) y = one-more (parity w y) (parities ws y) (length ws) (pa
     one-more : (p x k : ℕ) → p < 2 → x < 2 ^ k → p + 2 * x < 2 ^ suc k
     one-more p x k a b = omega arith
 
+-- a digit below another number: the two are its low digit and its half
+pair-low : (p x : ℕ) → p < 2 → (p + 2 * x) % 2 ≡ p
+pair-low p x l = omega arith
+
+pair-half : (p x : ℕ) → p < 2 → (p + 2 * x) / 2 ≡ x
+pair-half p x l = omega arith
+
 pub parities-digit : (ws : List ℕ) (y i : ℕ) → i < length ws → digit i (parities ws y) ≡ parity (getD ws i 0) y
 unfolding parities
 parities-digit [] y i h = absurd (not-suc-le-zero h)
 parities-digit (w ∷ ws) y zero h =
-    ap (λ (x : ℕ). x % 2) (div-one (parity w y + 2 * parities ws y)) ∙ low (parity w y) (parities ws y) (parity-lt w y)
-  where
-    low : (p x : ℕ) → p < 2 → (p + 2 * x) % 2 ≡ p
-    low p x l = omega arith
+    ap (λ (x : ℕ). x % 2) (div-one (parity w y + 2 * parities ws y)) ∙ pair-low (parity w y) (parities ws y) (parity-lt w y)
 parities-digit (w ∷ ws) y (suc i) h =
     ap (λ (x : ℕ). x % 2) (sym (shr-shr (parity w y + 2 * parities ws y) 1 i ∙ ap (λ (x : ℕ). (parity w y + 2 * parities ws y) / 2 ^ x) (one-add i)))
-    ∙ ap (λ (x : ℕ). x / 2 ^ i % 2) (half (parity w y) (parities ws y) (parity-lt w y))
+    ∙ ap (λ (x : ℕ). x / 2 ^ i % 2) (pair-half (parity w y) (parities ws y) (parity-lt w y))
     ∙ parities-digit ws y i (le-of-suc-le-suc h)
+
+pub parities-zero : (ws : List ℕ) → parities ws 0 ≡ 0
+unfolding parities
+parities-zero [] = refl
+parities-zero (w ∷ ws) = ap₂ (λ (x y : ℕ). x + 2 * y) (parity-comm w 0 ∙ parity-zero w) (parities-zero ws)
+
+pub parities-xor : (ws : List ℕ) (a b : ℕ) → parities ws (bitXor a b) ≡ bitXor (parities ws a) (parities ws b)
+unfolding parities
+parities-xor [] a b = refl
+parities-xor (w ∷ ws) a b =
+    ap₂ (λ (x y : ℕ). x + 2 * y) (parity-xor-right w a b) (parities-xor ws a b)
+    ∙ sym (pair (parity w a) (parity w b) (parities ws a) (parities ws b) (parity-lt w a) (parity-lt w b))
   where
-    half : (p x : ℕ) → p < 2 → (p + 2 * x) / 2 ≡ x
-    half p x l = omega arith
+    pair : (p q x y : ℕ) → p < 2 → q < 2 → bitXor (p + 2 * x) (q + 2 * y) ≡ (p + q) % 2 + 2 * bitXor x y
+    pair p q x y hp hq =
+        xor-step (p + 2 * x) (q + 2 * y)
+        ∙ ap₂ (λ (h d : ℕ). h * 2 + d) (ap₂ bitXor (pair-half p x hp) (pair-half q y hq))
+        (ap₂ differ (pair-low p x hp) (pair-low q y hq) ∙ differ-mod p q hp hq)
+        ∙ omega arith

@@ -18,8 +18,11 @@ pub xor-crosswise : (a b c d : ℕ) → bitXor (bitXor a b) (bitXor c d) ≡ bit
 xor-crosswise a b c d =
     xor-assoc a b (bitXor c d) ∙ ap (bitXor a) (xor-left-comm b c d) ∙ sym (xor-assoc a c (bitXor b d))
 
+pub xor-scaled : (k a b : ℕ) → bitXor a b * 2 ^ k ≡ bitXor (a * 2 ^ k) (b * 2 ^ k)
+xor-scaled k a b = simp add-zero at (sym (xor-block k a b 0 0 (pow-pos k) (pow-pos k)))
+
 pub xor-double : (a b : ℕ) → bitXor a b * 2 ≡ bitXor (a * 2) (b * 2)
-xor-double a b = simp add-zero at (sym (xor-block 1 a b 0 0 (pow-pos 1) (pow-pos 1)))
+xor-double = xor-scaled 1
 
 -- a word of k + 1 bits whose bit k is clear has k bits
 pub below-top : (k s : ℕ) → s < 2 ^ suc k → digit k s ≡ 0 → s < 2 ^ k

@@ -1,7 +1,7 @@
--- `has_column_beyond` meets its contract: an OR has a bit where some word has it.
+-- `has_column_beyond` meets its contract: no word has a bit at or above 64, and an OR has a bit where some word has it.
 use mathlib.Core.Path.{ap, _∙_}
 use Rattle.word.specs.Word.{beyond}
-use Rattle.elimination.proofs.LoopLaws.{or-all-beyond}
+use Rattle.elimination.proofs.LoopLaws.{or-all-beyond, none-beyond}
 use borrow.Author.Needs.{needs}
 use Rattle.elimination.proofs.has_column_beyond.Statement.{statement}
 use Rattle.elimination.proofs.has_column_beyond.Tie as tie
@@ -10,14 +10,18 @@ use Rattle.elimination.proofs.has_column_beyond.Lts as lts
 use Rattle.elimination.proofs.or_all.Reads as or-all-reads
 use Rattle.word.proofs.is_beyond.Reads as is-beyond-reads
 
+returns : tie.Need-returns
+returns c = none-beyond _ _ (c .if1 .taken) (λ i. c .before .shared-slice-known .given i .fits)
+
 or-all-requires : tie.Need-or-all-requires
 or-all-requires c κs = search needs
 
 is-beyond-requires : tie.Need-is-beyond-requires
 is-beyond-requires c κs = search needs
 
-returns : tie.Need-returns
-returns c = c .is-beyond .ensures ∙ ap (beyond (c .before .before .before .args .m)) (c .before .or-all .ensures) ∙ or-all-beyond _ _
+returns-2 : tie.Need-returns-2
+returns-2 c =
+    c .is-beyond .ensures ∙ ap (beyond (c .before .before .before .before .args .m)) (c .before .or-all .ensures) ∙ or-all-beyond _ _
 
 pub has-column-beyond-spec : {M : Type 1} → statement M
-has-column-beyond-spec = tie.close (tie.spec or-all-requires is-beyond-requires returns)
+has-column-beyond-spec = tie.close (tie.spec returns or-all-requires is-beyond-requires returns-2)
