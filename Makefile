@@ -1,4 +1,4 @@
-# make run    prove what the worked lines need, and print them
+# make run    prove what the plan printer needs, and print the plan of samples/sample.set (make run SET=file: of another set)
 # make test   the whole gate: layout, proofs from nothing, must-fail edits, programs, the Rust and C tests
 # make lib    the static library for C and Rust: target/staticlib/libcanceller.a (header: include/canceller.h)
 # make soak SECONDS=60   random calls by the library and the second implementation
@@ -9,9 +9,12 @@
 
 SECONDS ?= 60
 
+SET ?= samples/sample.set
+
 run: tools
-	rt check worked_lines
-	./target/bin/worked_lines
+	@test -r "$(SET)" || { echo "$(SET) can't be read"; exit 1; }
+	@scripts/prove.sh plan_printer
+	@./target/bin/plan_printer < "$(SET)"
 
 test: tools rust-tools
 	scripts/test.sh

@@ -135,6 +135,13 @@ sets-past-end [] l i h = refl
 sets-past-end (v ∷ vs) l i h = rw (set-out l i v h) (sets-past-end vs l (suc i) (omega arith))
 
 -- a word is written as four counts
+-- eight bytes written one by one are a word
+pub sets-eight : (l : List ℕ) (i x : ℕ)
+    → set (set (set (set (set (set (set (set l i (x % 256)) (i + 1) (x / 256 % 256)) (i + 2) (x / 256 / 256 % 256)) (i + 3) (x / 256 / 256 / 256 % 256)) (i + 4) (x / 256 / 256 / 256 / 256 % 256)) (i + 5) (x / 256 / 256 / 256 / 256 / 256 % 256)) (i + 6) (x / 256 / 256 / 256 / 256 / 256 / 256 % 256)) (i + 7) (x / 256 / 256 / 256 / 256 / 256 / 256 / 256 % 256)
+    ≡ sets l i (bytesOf 8 x)
+unfolding bytesOf
+sets-eight l i x = simp towards-suc refl
+
 pub sets-word : (l : List ℕ) (i x : ℕ)
     → sets l i (bytesOf 8 x)
     ≡ sets (sets (sets (sets l i (bytesOf 2 x)) (i + 2) (bytesOf 2 (x / 65536))) (i + 4) (bytesOf 2 (x / 4294967296))) (i + 6) (bytesOf 2 (x / 281474976710656))

@@ -201,6 +201,23 @@ pub fn write_word(out: &mut [u8], i: usize, x: u64)
     if out.len() <= i {
         return;
     }
+    if 8 <= out.len() - i {
+        let x1 = x / 256;
+        let x2 = x1 / 256;
+        let x3 = x2 / 256;
+        let x4 = x3 / 256;
+        let x5 = x4 / 256;
+        let x6 = x5 / 256;
+        out[i] = (x % 256) as u8;
+        out[i + 1] = (x1 % 256) as u8;
+        out[i + 2] = (x2 % 256) as u8;
+        out[i + 3] = (x3 % 256) as u8;
+        out[i + 4] = (x4 % 256) as u8;
+        out[i + 5] = (x5 % 256) as u8;
+        out[i + 6] = (x6 % 256) as u8;
+        out[i + 7] = (x6 / 256 % 256) as u8;
+        return;
+    }
     write_count(out, i, x);
     write_count(out, i + 2, x / 65536);
     write_count(out, i + 4, x / 4294967296);
