@@ -1,19 +1,22 @@
 -- Bytes put one after the other: each piece begins where the one before ended. The start, turn and end of the loop over the
 -- words. Assumes nothing.
-use mathlib.Core.Path.{_≡_, sym, ap, ap₂, _∙_, subst}
+use mathlib.Core.Path.{_≡_, refl, sym, ap, ap₂, _∙_, subst}
 use mathlib.Core.Bool.{Bool, cond}
 use mathlib.Core.List.{List, [], _∷_, _++_, append-assoc}
-use Prim.Native.Nat.{ℕ, _+_, _/_, _%_, _^_, _<_, _≤_}
+use Prim.Native.Nat.{ℕ, suc, _+_, _/_, _%_, _^_, _<_, _≤_}
 use native.Mathlib.Nat.{zero-add}
+use native.Mathlib.Numerals.{add-one}
 use native.Mathlib.Omega.{arith}
 use borrow.Author.Tests.{le-leb}
-use lib.ListN.{length, length-append}
-use lib.Seq.{sets, length-sets}
+use lib.ListN.{length, getD, drop, length-append, drop-of-length-le}
+use lib.Pow.{shr-shr}
+use lib.Seq.{sets, length-sets, drop-cons}
+use Rattle.word.specs.Word.{digit}
 use Rattle.word.specs.Reply.{front}
 use Rattle.word.proofs.FileLaws.{front-sets}
 use Rattle.word.proofs.ByteLaws.{sets-append}
 use Rattle.text.specs.Text.{decimal, placeAfter}
-use Rattle.plan_text.specs.PlanText.{sp, newline, setLine, wordLine, endLine, refusedLine}
+use Rattle.plan_text.specs.PlanText.{sp, newline, setLine, wordLine, wordLines, endLine, refusedLine}
 use Rattle.plan_text.specs.Code.{Put}
 
 pub put-one : {l : List ℕ} {at : ℕ} (vs : List ℕ) {r : ℕ} {l′ : List ℕ} → r ≡ placeAfter l at (length vs) → l′ ≡ sets l at vs → Put l at vs r l′
@@ -74,3 +77,48 @@ refused-line-put n p b₁ p₂ = number-put (decimal n) newline (put-one (114 �
 -- what is put from the start of a list stands at its front
 pub put-front : {l : List ℕ} (vs : List ℕ) {r : ℕ} {l′ : List ℕ} → Put l 0 vs r l′ → length vs ≤ length l → (r ≡ length vs) × (l′ ≡ front vs l)
 put-front {l = l} vs p h = (p .place (omega arith) ∙ zero-add (length vs), p .bytes (omega arith) ∙ front-sets vs l h)
+
+-- ---- the loop over the words
+
+-- before word i: what the lines from it on make of the list is what all lines make of the list at the start
+abbrev pub Lining : List ℕ → ℕ → List ℕ → ℕ → List ℕ → ℕ → ℕ → ℕ → Type 0
+Lining l₀ at ws e l place bits i =
+    (i ≤ length ws)
+    × (length l ≡ length l₀)
+    × (bits ≡ e / 2 ^ i)
+    × ((r : ℕ) (l′ : List ℕ) → Put l place (wordLines i (drop i ws) e) r l′ → Put l₀ at (wordLines 0 ws e) r l′)
+
+pub lining-start : (l : List ℕ) (at : ℕ) (ws : List ℕ) (e : ℕ) → Lining l at ws e l at e 0
+lining-start l at ws e = (omega arith, refl, omega arith, λ r l′ p. p)
+
+next-line : (ws : List ℕ) (e i : ℕ) → i < length ws → wordLines i (drop i ws) e ≡ wordLine i (getD ws i 0) (digit i e) ++ wordLines (suc i) (drop (suc i) ws) e
+unfolding wordLines
+next-line ws e i h = ap (λ (x : List ℕ). wordLines i x e) (drop-cons ws i 0 h)
+
+no-line : (i e : ℕ) → wordLines i [] e ≡ []
+unfolding wordLines
+no-line i e = refl
+
+pub lining-turn : (l₀ : List ℕ) (at : ℕ) (ws : List ℕ) (e : ℕ) (l : List ℕ) (place bits i : ℕ) (l₁ : List ℕ) (next : ℕ) → Lining l₀ at ws e l place bits i → i < length ws
+    → length l₁ ≡ length l → Put l place (wordLine i (getD ws i 0) (bits % 2)) next l₁ → Lining l₀ at ws e l₁ next (bits / 2) (i + 1)
+lining-turn l₀ at ws e l place bits i l₁ next inv h long p =
+    subst (Lining l₀ at ws e l₁ next (bits / 2)) (sym (add-one i)) (
+      omega arith,
+      long ∙ inv .1,
+      ap (_/ 2) (inv .2) ∙ shr-shr e i 1 ∙ ap (λ (n : ℕ). e / 2 ^ n) (add-one i),
+      λ r l′ q.
+          inv .3 r l′
+          (subst (λ (x : List ℕ). Put l place x r l′)
+          (ap (λ (b : ℕ). wordLine i (getD ws i 0) (b % 2) ++ wordLines (suc i) (drop (suc i) ws) e) (inv .2) ∙ sym (next-line ws e i h))
+          (put-then p q)),
+    )
+
+put-nothing : (l : List ℕ) (at : ℕ) → Put l at [] at l
+put-nothing l at = record { place = λ h. omega arith; bytes = λ h. refl }
+
+pub lining-end : (l₀ : List ℕ) (at : ℕ) (ws : List ℕ) (e : ℕ) (l : List ℕ) (place bits i : ℕ) → Lining l₀ at ws e l place bits i → length ws ≤ i
+    → Put l₀ at (wordLines 0 ws e) place l
+lining-end l₀ at ws e l place bits i inv h =
+    inv .3 place l
+    (subst (λ (x : List ℕ). Put l place x place l)
+    (sym (ap (λ (x : List ℕ). wordLines i x e) (drop-of-length-le ws h) ∙ no-line i e)) (put-nothing l place))

@@ -15,6 +15,9 @@ abbrev μ-loop : tie.MeasureT-loop
 count-requires : tie.Need-count-requires Inv-loop μ-loop
 count-requires c κs = search needs
 
+cast-q : tie.Need-cast-q Inv-loop μ-loop
+cast-q c = search needs
+
 returns : tie.Need-returns Inv-loop μ-loop
 returns c = λ h. let z : ⊥ = omega (arith, c .before .count .ensures .0) in absurd z
 
@@ -52,6 +55,7 @@ cancelled-bits-spec =
     Inv-loop
     μ-loop
     count-requires
+    cast-q
     returns
     loop-holds
     sub-i
