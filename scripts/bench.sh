@@ -24,7 +24,7 @@ if [ "${1:-}" = instructions ]; then
     }
     base=$(count nothing)
     printf '%-14s %12s %12s %8s\n' call ours 'in Rust' ratio
-    for call in read_set sign list-63 list-4096 plan-63 eliminate eliminate-63 judge; do
+    for call in read_set write_set clock sign list-63 list-4096 plan-63 eliminate eliminate-63 read_plan write_plan judge; do
         ours=$((($(count "$call") - base) / 100))
         rust=$((($(count "$call-rust") - base) / 100))
         printf '%-14s %12d %12d %8s\n' "$call" "$ours" "$rust" "$(awk "BEGIN { printf \"%.2f\", $ours / $rust }")"

@@ -180,3 +180,14 @@ module _ (n : ℕ) (v k : List ℕ) (lv : length v ≡ rowBytes n) (lk : length 
     pub valued-bytes : anyBelow n (BothSet v k) ≡ sharesBit v k
     valued-bytes =
         same-failures (anyBelow n (BothSet v k)) (sharesBit v k) cells-clear (λ h. any-below-none n (BothSet v k) (bytes-clear h))
+
+-- ---- rows of whole bytes
+
+whole-row : (n : ℕ) (row : List ℕ) → n % 8 ≡ 0 → spareSet n row ≡ false
+unfolding spareSet anyBelow
+whole-row n row h =
+    let none : 8 * rowBytes n - n ≡ 0 = omega (arith, h) in
+    ap (λ (k : ℕ). anyBelow k (λ i. eqb (cell row (n + i)) 1)) none
+
+pub whole-rows : (n : ℕ) (rows : List ℕ) (count : ℕ) → n % 8 ≡ 0 → anyBelow count (SpareRow n rows) ≡ false
+whole-rows n rows count h = any-below-none count (SpareRow n rows) (λ t l. whole-row n (listRow n rows t) h)

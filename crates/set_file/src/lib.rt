@@ -188,9 +188,8 @@ fn has_wrong_length(set: &[u8]) -> bool
     set.len() != set_length(chain_count(set), slice_count(set))
 }
 
-// Whether one of the first `count` rows of a list of rows of n chains has a spare bit set; a row past the end of the list is
-// all 0. It meets no number.
-pub fn has_spare_row(n: usize, rows: &[u8], count: usize) -> bool
+// The same as `has_spare_row`, by one byte of each row.
+fn finds_spare_row(n: usize, rows: &[u8], count: usize) -> bool
     ensures { λ r. ⌜ r ≡ anyBelow count (λ t. spareSet n (listRow n (now (rows .entry)) t)) ⌝ }
 {
     let bytes = register::row_bytes(n);
@@ -208,6 +207,17 @@ pub fn has_spare_row(n: usize, rows: &[u8], count: usize) -> bool
         t += 1;
     }
     false
+}
+
+// Whether one of the first `count` rows of a list of rows of n chains has a spare bit set; a row past the end of the list is
+// all 0. Rows of whole bytes have none. It meets no number.
+pub fn has_spare_row(n: usize, rows: &[u8], count: usize) -> bool
+    ensures { λ r. ⌜ r ≡ anyBelow count (λ t. spareSet n (listRow n (now (rows .entry)) t)) ⌝ }
+{
+    if n % 8 == 0 {
+        return false;
+    }
+    finds_spare_row(n, rows, count)
 }
 
 // Number 9: whether a row of the set has a spare bit set.

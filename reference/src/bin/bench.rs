@@ -170,6 +170,38 @@ fn list_of(set: &[u8], l: &mut Lists) -> CPair {
     }
 }
 
+fn write_set(c: &Content, out: &mut [u8]) -> CPair {
+    unsafe {
+        canceller_write_set(
+            c.m,
+            c.taps,
+            c.spread.as_ptr(),
+            c.spread.len(),
+            c.values.as_ptr(),
+            c.values.len(),
+            c.marks.as_ptr(),
+            c.marks.len(),
+            c.s,
+            out.as_mut_ptr(),
+            out.len(),
+        )
+    }
+}
+
+fn clock(c: &Content, state: u64, row: &[u8]) -> CPair {
+    unsafe {
+        canceller_clock(
+            c.m,
+            c.taps,
+            state,
+            c.spread.as_ptr(),
+            c.spread.len(),
+            row.as_ptr(),
+            row.len(),
+        )
+    }
+}
+
 fn print_row(call: &str, size: &str, ours: f64, rust: f64, straight: Option<f64>, libraries: &str) {
     let straight = straight.map_or("–".to_string(), |t| ratio(t, ours));
     println!(
@@ -252,24 +284,9 @@ fn calls_on_sets(r: &mut Random) {
         "",
     );
 
-    let write = |out: &mut [u8]| unsafe {
-        canceller_write_set(
-            c.m,
-            c.taps,
-            c.spread.as_ptr(),
-            256,
-            c.values.as_ptr(),
-            c.values.len(),
-            c.marks.as_ptr(),
-            c.marks.len(),
-            c.s,
-            out.as_mut_ptr(),
-            out.len(),
-        )
-    };
-    assert_eq!(write(&mut l.out).value, 34_830);
+    assert_eq!(write_set(&c, &mut l.out).value, 34_830);
     assert_eq!(l.out[..34_830], set);
-    let ours = best(|| used(write(&mut l.out)));
+    let ours = best(|| used(write_set(&c, &mut l.out)));
     let rust = best(|| {
         used(same::write_set(
             c.m, c.taps, &c.spread, &c.values, &c.marks, c.s, &mut l.out,
@@ -278,14 +295,11 @@ fn calls_on_sets(r: &mut Random) {
     print_row("set writer", "34,830 bytes", ours, rust, None, "");
 
     let row = &record[..32];
-    let clock = |state: u64| unsafe {
-        canceller_clock(c.m, c.taps, state, c.spread.as_ptr(), 256, row.as_ptr(), 32)
-    };
     assert_eq!(
         same::clock(c.m, c.taps, 5, &c.spread, row),
-        Ok(clock(5).value)
+        Ok(clock(&c, 5, row).value)
     );
-    let ours = best(|| used((0..100).fold(5, |s, _| clock(s).value))) / 100.0;
+    let ours = best(|| used((0..100).fold(5, |s, _| clock(&c, s, row).value))) / 100.0;
     let rust = best(|| {
         used((0..100).fold(5, |s, _| {
             same::clock(c.m, c.taps, s, &c.spread, row).unwrap()
@@ -560,7 +574,8 @@ fn picture(lines: &[Line]) -> String {
 fn counted(call: &str) {
     let mut r = Random::new(7);
     let mut l = lists();
-    let set = set_with(&mut r, 512, 63).file();
+    let c = set_with(&mut r, 512, 63);
+    let set = c.file();
     let many = set_with(&mut r, 512, 4_096).file();
     let record = record(&mut r, 256, 512);
     let columns = columns_of_rank(&mut r, 40, 131_072);
@@ -597,6 +612,26 @@ fn counted(call: &str) {
             "eliminate-63-rust" => used(same::eliminate(64, &few, &mut l.words)),
             "judge" => used(unsafe { canceller_judge(plan.as_ptr(), plan.len(), black_box(5)) }),
             "judge-rust" => used(same::judge(&plan, black_box(5))),
+            "write_set" => used(write_set(&c, &mut l.out)),
+            "write_set-rust" => used(same::write_set(
+                c.m, c.taps, &c.spread, &c.values, &c.marks, c.s, &mut l.out,
+            )),
+            "clock" => used(clock(&c, black_box(5), &record[..32])),
+            "clock-rust" => used(same::clock(
+                c.m,
+                c.taps,
+                black_box(5),
+                &c.spread,
+                &record[..32],
+            )),
+            "read_plan" => used(unsafe {
+                canceller_read_plan(plan.as_ptr(), plan.len(), l.words.as_mut_ptr(), 64)
+            }),
+            "read_plan-rust" => used(same::read_plan(&plan, &mut l.words)),
+            "write_plan" => used(unsafe {
+                canceller_write_plan(64, words.as_ptr(), words.len(), 0, l.out.as_mut_ptr(), 600)
+            }),
+            "write_plan-rust" => used(same::write_plan(64, &words, 0, &mut l.out)),
             _ => {}
         }
     }
