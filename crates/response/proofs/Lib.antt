@@ -3,6 +3,7 @@ pub mod ColumnLaws
 pub mod FillingLaws
 pub mod BackLaws
 pub mod PlaceLaws
+pub mod DigitLaws
 pub mod ListLaws
 pub mod AdvanceLaws
 pub mod CountLaws

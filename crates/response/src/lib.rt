@@ -204,15 +204,14 @@ fn advance_words(m: u64, taps: u64, words: &mut [u64])
     }
 }
 
-// The number of cells among the first 256 of a row that are 1.
+// The number of cells among the first 256 of a row that are 1, by words of 64 cells.
 fn count_row(row: &[u8]) -> u64
     ensures { λ r. ⌜ r ≡ total 256 (cell (now (row .entry))) ⌝ }
 {
-    let count = word::moved(0, row.len(), 32);
     let mut found = 0u64;
     let mut i = 0;
-    while i < count {
-        found += u8::count_ones(row[i]) as u64;
+    while i < 4 {
+        found += u64::count_ones(word::read_word(row, 8 * i)) as u64;
         i += 1;
     }
     found
