@@ -1,6 +1,6 @@
 // Responses: a record's signature, the signature for all unknowns 0, and the columns of the unknown cells.
 ghost use mathlib.Core.Path.{_≡_};
-ghost use mathlib.Core.List.{map};
+ghost use mathlib.Core.List.{[], _∷_, map};
 ghost use Prim.Native.Nat.{ℕ, min, _-_, _≤_, _<_};
 ghost use lib.Bits.{bitXor};
 ghost use lib.ListN.{length, take, drop, getD, replicate};
@@ -9,10 +9,10 @@ ghost use Rattle.register.specs.Circuit.{advanced};
 ghost use Rattle.set_file.specs.Layout.{markAt};
 ghost use Rattle.word.specs.Reply.{lent};
 ghost use Rattle.response.specs.Signature.{signature};
-ghost use Rattle.response.specs.Columns.{listed, columnsBelow, columnsOf, total};
+ghost use Rattle.response.specs.Columns.{columnsBelow, columnsOf, total};
 ghost use Rattle.response.specs.Signing.{signReply, saidSigned};
 ghost use Rattle.response.specs.Listing.{listReply, saidListed};
-ghost use Rattle.response.specs.Code.{circuit, valueCells, markCells, marksBelow, rowsFrom, halfByte, topPlace, entryFrom, tableEnd, looked, chosenWords, back, stepDown};
+ghost use Rattle.response.specs.Code.{circuit, valueCells, markCells, marksBelow, rowsFrom, halfByte, topPlace, entryFrom, tableEnd, looked, bits, chosenWords, back};
 
 // What signing a record answers: its signature, or the first number that applies.
 pub enum Signed {
@@ -141,15 +141,12 @@ fn looked_up(table: &[u64; 1024], row: &[u8]) -> u64
     drive
 }
 
-// Writes the word over the list's last place where the digit is 1, and answers with how many places stand before what it wrote.
-fn put_last(columns: &mut [u64], digit: u64, word: u64) -> usize
-    ensures { λ r. ⌜ r ≡ length (now (columns .entry)) - length (listed digit word) ⌝ }
-    ensures { λ _. ⌜ now (columns .exit) ≡ back (listed digit word) (now (columns .entry)) ⌝ }
+// Writes the word over the list's last place, and answers with how many places stand before it.
+fn put_last(columns: &mut [u64], word: u64) -> usize
+    ensures { λ r. ⌜ r ≡ length (now (columns .entry)) - 1 ⌝ }
+    ensures { λ _. ⌜ now (columns .exit) ≡ back (word ∷ []) (now (columns .entry)) ⌝ }
 {
     let room = columns.len();
-    if digit == 0 {
-        return room;
-    }
     if room == 0 {
         return 0;
     }
@@ -157,38 +154,37 @@ fn put_last(columns: &mut [u64], digit: u64, word: u64) -> usize
     room - 1
 }
 
-// Writes the word of chain c over the list's last place where its cell in the row is 1, and answers with how many places stand
-// before what it wrote.
-fn put_cell(columns: &mut [u64], words: &[u64], row: &[u8], c: usize) -> usize
-    ensures { λ r. ⌜ r ≡ length (now (columns .entry)) - length (listed (cell (now (row .entry)) c) (getD (now (words .entry)) c 0)) ⌝ }
-    ensures { λ _. ⌜ now (columns .exit) ≡ back (listed (cell (now (row .entry)) c) (getD (now (words .entry)) c 0)) (now (columns .entry)) ⌝ }
+// Writes the words of the chains whose bit in `marks` is 1 over the list's end, from the last chain on, and answers with how many
+// places stand before them.
+fn list_word(columns: &mut [u64], words: &[u64], marks: u64) -> usize
+    ensures { λ r. ⌜ r ≡ length (now (columns .entry)) - length (chosenWords (now (words .entry)) (bits marks) 64) ⌝ }
+    ensures { λ _. ⌜ now (columns .exit) ≡ back (chosenWords (now (words .entry)) (bits marks) 64) (now (columns .entry)) ⌝ }
 {
-    put_last(columns, register::cell_at(row, c), word_at(words, c))
+    let mut place = columns.len();
+    let mut left = marks;
+    while left != 0 {
+        let top = word::highest_bit(left);
+        place = put_last(&mut columns[..place], word_at(words, top as usize));
+        left -= 1u64 << top;
+    }
+    place
 }
 
-// How many chains, chain c the last of them, are dealt with at once: a byte of the row without a mark is passed over whole.
-fn step_down(row: &[u8], c: usize) -> usize
-    ensures { λ r. ⌜ r ≡ stepDown (now (row .entry)) c ⌝ }
-{
-    if c % 8 != 7 {
-        return 1;
-    }
-    if word::byte_at(row, c / 8) != 0 {
-        return 1;
-    }
-    8
-}
-
-// Writes the words of the chains whose cell in the row is 1 over the list's end, and answers with how many places stand before them.
+// Writes the words of the chains whose cell in the row is 1 over the list's end, and answers with how many places stand before
+// them. It goes by words of 64 cells; a row may have bits past the last chain.
 fn list_row(columns: &mut [u64], words: &[u64], row: &[u8]) -> usize
     ensures { λ r. ⌜ r ≡ length (now (columns .entry)) - length (chosenWords (now (words .entry)) (cell (now (row .entry))) (length (now (words .entry)))) ⌝ }
     ensures { λ _. ⌜ now (columns .exit) ≡ back (chosenWords (now (words .entry)) (cell (now (row .entry))) (length (now (words .entry)))) (now (columns .entry)) ⌝ }
 {
+    let chains = words.len();
     let mut place = columns.len();
-    let mut c = words.len();
-    while 0 < c {
-        c -= step_down(row, c - 1);
-        place = put_cell(&mut columns[..place], words, row, c);
+    let mut i = chains / 64 + (chains % 64 + 63) / 64;
+    while 0 < i {
+        i -= 1;
+        let first = 64 * i;
+        let mask = word::low_mask((chains - first) as u64);
+        let marks = word::read_word(row, 8 * i) & mask;
+        place = list_word(&mut columns[..place], &words[first..], marks);
     }
     place
 }
