@@ -9,6 +9,8 @@ pub mod AdvanceLaws
 pub mod CountLaws
 pub mod TableLaws
 pub mod RunLaws
+pub mod PowerLaws
 pub mod FillLaws
+pub mod SparseLaws
 pub mod SetLaws
 pub mod CallLaws

@@ -14,6 +14,7 @@
 --   looked table row i   the XOR of the entries of the table for the two half bytes of each of the row's first i bytes
 --   bits w               the cells of 64 chains: that of chain c is bit c of the word w
 --   chosenWords ws x c   the words of ws of the chains below c whose cell in x is 1
+--   fromPowers ps w      the XOR of the words of ps whose bit in the word w is 1
 --   back vs l            the list l with vs written over its end; the end of vs alone, where l is shorter
 use mathlib.Core.Bool.{cond}
 use mathlib.Core.List.{List, _++_}
@@ -68,6 +69,9 @@ bits w c = digit c w
 
 abbrev pub chosenWords : List ℕ → Cells → ℕ → List ℕ
 chosenWords ws x c = joined (λ d. listed (x d) (getD ws d 0)) c
+
+unfoldable pub fromPowers : List ℕ → ℕ → ℕ
+fromPowers ps w = driven ps (bits w) (length ps)
 
 unfoldable pub back : List ℕ → List ℕ → List ℕ
 back vs l = take (length l - length vs) l ++ drop (length vs - length l) vs
