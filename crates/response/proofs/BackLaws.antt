@@ -2,8 +2,8 @@
 use mathlib.Core.Path.{_≡_, refl, sym, ap, ap₂, _∙_}
 use mathlib.Core.Logic.{dite}
 use mathlib.Core.List.{List, [], _++_, append-assoc, append-nil}
-use Prim.Native.Nat.{ℕ, zero, suc, _+_, _-_, _≤_, _<_}
-use native.Mathlib.Nat.{add-zero}
+use Prim.Native.Nat.{ℕ, zero, suc, _+_, _-_, _≤_}
+use native.Mathlib.Nat.{add-zero, add-suc}
 use native.Mathlib.Decide.{decLe}
 use native.Mathlib.Omega.{arith}
 use lib.ListN.{length, take, drop, length-append, length-take, length-drop}
@@ -99,12 +99,29 @@ pub rest-suc : (f : ℕ → List ℕ) (c j : ℕ) → rest f c (suc j) ≡ f c +
 unfolding rest
 rest-suc f c j = refl
 
--- lists that are empty are passed over
-pub rest-skip : (f : ℕ → List ℕ) (c i j : ℕ) → ((d : ℕ) → c ≤ d → d < c + i → f d ≡ []) → rest f c (i + j) ≡ rest f (c + i) j
-rest-skip f c zero j h =
-    let a : 0 + j ≡ j = omega arith in let b : c ≡ c + 0 = omega arith in ap₂ (rest f) b a
-rest-skip f c (suc i) j h =
+pub rest-add : (f : ℕ → List ℕ) (c i j : ℕ) → rest f c (i + j) ≡ rest f c i ++ rest f (c + i) j
+rest-add f c zero j =
+    let a : 0 + j ≡ j = omega arith in
+    let b : c ≡ c + 0 = omega arith in
+    ap₂ (rest f) b a ∙ ap (λ (l : List ℕ). l ++ rest f (c + 0) j) (sym (rest-none f c))
+rest-add f c (suc i) j =
     let a : suc i + j ≡ suc (i + j) = omega arith in
     let b : suc c + i ≡ c + suc i = omega arith in
-    ap (rest f c) a ∙ rest-suc f c (i + j) ∙ ap (λ (l : List ℕ). l ++ rest f (suc c) (i + j)) (h c (omega arith) (omega arith))
-    ∙ rest-skip f (suc c) i j (λ d l m. h d (omega arith) (omega arith)) ∙ ap (λ (d : ℕ). rest f d j) b
+    ap (rest f c) a ∙ rest-suc f c (i + j) ∙ ap (λ (l : List ℕ). f c ++ l) (rest-add f (suc c) i j)
+    ∙ sym (append-assoc (f c) (rest f (suc c) i) (rest f (suc c + i) j))
+    ∙ ap₂ (λ (l : List ℕ) (d : ℕ). l ++ rest f d j) (sym (rest-suc f c i)) b
+
+pub rest-joined : (f : ℕ → List ℕ) (c j : ℕ) → rest f c j ≡ joined (λ d. f (c + d)) j
+unfolding joined
+rest-joined f c zero = rest-none f c
+rest-joined f c (suc j) =
+    let a : suc j ≡ j + 1 = omega arith in
+    ap (rest f c) a ∙ rest-add f c j 1
+    ∙ ap₂ (λ (l r : List ℕ). l ++ r) (rest-joined f c j) (rest-suc f (c + j) 0 ∙ ap (λ (l : List ℕ). f (c + j) ++ l) (rest-none f (suc (c + j))) ∙ append-nil (f (c + j)))
+
+-- lists that are empty add nothing
+pub joined-stops : (f : ℕ → List ℕ) (c j : ℕ) → ((d : ℕ) → c ≤ d → f d ≡ []) → joined f (c + j) ≡ joined f c
+unfolding joined
+joined-stops f c zero h = ap (joined f) (add-zero c)
+joined-stops f c (suc j) h =
+    ap (joined f) (add-suc c j) ∙ ap₂ (λ (l r : List ℕ). l ++ r) (joined-stops f c j h) (h (c + j) (omega arith)) ∙ append-nil (joined f c)

@@ -1,22 +1,23 @@
--- The cells of a row counted by bytes, and sums of digits. Assumes nothing.
+-- The cells of a row counted by words of 64, and sums of digits. Assumes nothing.
 use mathlib.Core.Path.{_≡_, refl, sym, ap, ap₂, _∙_}
-use mathlib.Core.Logic.{dite}
 use mathlib.Core.List.{List}
-use Prim.Native.Nat.{ℕ, zero, suc, _+_, _-_, _*_, _/_, _%_, _^_, _≤_, _<_, min}
+use Prim.Native.Nat.{ℕ, zero, suc, _+_, _-_, _*_, _/_, _%_, _^_, _≤_, _<_}
 use native.Mathlib.Nat.{add-zero, add-suc, div-one, add-assoc, suc-mul, pow-suc, mul-assoc, mul-le-mul-right}
 use native.Mathlib.Numerals.{one-add, add-one}
-use native.Mathlib.Decide.{decLe}
 use native.Mathlib.Omega.{arith}
 use lib.Count.{ones, ones-step, ones-le}
 use lib.ListN.{length, take, drop, getD, List·getD-eq-default}
 use lib.Pow.{shr-shr}
 use Rattle.word.specs.Word.{digit}
 use Rattle.register.specs.Row.{cell, rowBytes}
+use Rattle.word.specs.Bytes.{wordAt}
+use Rattle.word.proofs.ByteLaws.{number-at-lt}
 use Rattle.register.proofs.Laws.{cell-lt}
 use Rattle.response.specs.Columns.{total}
 use Rattle.response.specs.Code.{markCells, marksBelow}
 use Rattle.set_file.specs.Layout.{markAt}
 use Rattle.response.proofs.ListLaws.{cell-clear}
+use Rattle.response.proofs.DigitLaws.{word-cell}
 
 -- ---- sums
 
@@ -67,6 +68,9 @@ total-digits (suc k) b h =
     ∙ total-digits k (b / 2) (omega (arith, pow-suc 2 k)))
     ∙ sym (ones-step b)
 
+pub ones-word-le : (w : ℕ) (l : List ℕ) (i : ℕ) → ((j : ℕ) → getD l j 0 < 256) → w ≡ wordAt l (8 * i) → ones w ≤ 64
+ones-word-le w l i bytes e = ones-le 64 w (rw e (number-at-lt 8 l (8 * i) bytes))
+
 -- ---- a row
 
 module _ (row : List ℕ) where
@@ -76,29 +80,26 @@ module _ (row : List ℕ) where
       let bit : (8 * i + k) % 8 ≡ k = omega arith in
       ap₂ (λ (a b : ℕ). digit b (getD row a 0)) byte bit
 
-  pub count-start : 0 ≡ total (8 * 0) (cell row)
+  pub count-start : 0 ≡ total (64 * 0) (cell row)
   count-start = sym (total-none (cell row))
 
-  pub count-turn : (i : ℕ) → getD row i 0 < 256 → total (8 * (i + 1)) (cell row) ≡ total (8 * i) (cell row) + ones (getD row i 0)
-  count-turn i h =
-      let next : 8 * (i + 1) ≡ 8 * i + 8 = omega arith in
-      ap (λ (k : ℕ). total k (cell row)) next ∙ total-add (8 * i) 8 (cell row)
-      ∙ ap (λ (x : ℕ). total (8 * i) (cell row) + x)
-      (total-ext 8 (λ k. cell row (8 * i + k)) (λ k. digit k (getD row i 0)) (byte-cell i) ∙ total-digits 8 (getD row i 0) h)
+  count-turn : ((j : ℕ) → getD row j 0 < 256) → (i : ℕ) → total (64 * (i + 1)) (cell row) ≡ total (64 * i) (cell row) + ones (wordAt row (8 * i))
+  count-turn bytes i =
+      let next : 64 * (i + 1) ≡ 64 * i + 64 = omega arith in
+      ap (λ (k : ℕ). total k (cell row)) next ∙ total-add (64 * i) 64 (cell row)
+      ∙ ap (λ (x : ℕ). total (64 * i) (cell row) + x)
+      (total-ext 64 (λ k. cell row (64 * i + k)) (λ k. digit k (wordAt row (8 * i))) (λ k l. sym (word-cell row bytes i k l))
+      ∙ total-digits 64 (wordAt row (8 * i)) (number-at-lt 8 row (8 * i) bytes))
 
-  pub count-le : (i : ℕ) → total (8 * i) (cell row) ≤ 8 * i
-  count-le i = omega (arith, total-le (8 * i) 1 (cell row) (λ c. omega (arith, cell-lt row c)))
+  pub count-turns : ((j : ℕ) → getD row j 0 < 256) → (i found w : ℕ) → found ≡ total (64 * i) (cell row) → w ≡ wordAt row (8 * i)
+      → found + ones w ≡ total (64 * (i + 1)) (cell row)
+  count-turns bytes i found w ef ew = ap₂ (λ (x y : ℕ). x + ones y) ef ew ∙ sym (count-turn bytes i)
+
+  pub count-le : (i : ℕ) → total (64 * i) (cell row) ≤ 64 * i
+  count-le i = omega (arith, total-le (64 * i) 1 (cell row) (λ c. omega (arith, cell-lt row c)))
 
   pub cell-past : (c : ℕ) → 8 * length row ≤ c → cell row c ≡ 0
   cell-past c h = let past : length row ≤ c / 8 = omega arith in cell-clear row c (List·getD-eq-default row 0 past)
-
-  pub count-end : (k : ℕ) → k ≡ min (length row) 32 → total (8 * k) (cell row) ≡ total 256 (cell row)
-  count-end k e =
-      dite (decLe 32 (length row))
-      (λ (h : 32 ≤ length row). let full : 8 * k ≡ 256 = omega arith in ap (λ (x : ℕ). total x (cell row)) full)
-      (λ (h : 32 ≤ length row → ⊥).
-      let whole : 8 * k + (256 - 8 * k) ≡ 256 = omega arith in
-      sym (total-stops (8 * k) (256 - 8 * k) (cell row) (λ c l. cell-past c (omega arith))) ∙ ap (λ (x : ℕ). total x (cell row)) whole)
 
 -- ---- the slices
 

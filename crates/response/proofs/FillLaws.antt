@@ -9,38 +9,33 @@ use Rattle.word.specs.Joined.{joined}
 use Rattle.word.proofs.JoinLaws.{joined-ext}
 use Rattle.register.specs.Row.{cell}
 use Rattle.register.specs.Circuit.{Circuit, chains, advanced}
-use Rattle.register.proofs.Laws.{advanced-zero}
 use Rattle.response.specs.Signature.{Response, column}
 use Rattle.response.specs.Later.{later}
 use Rattle.response.specs.Columns.{listed, sliceColumns, columnsBelow}
 use Rattle.response.specs.Code.{circuit, markCells, chosenWords, back}
 use Rattle.response.proofs.ColumnLaws.{column-closed}
+use Rattle.response.proofs.PowerLaws.{later-zero}
 use Rattle.word.proofs.PartLaws.{take-limit}
 use Rattle.response.proofs.BackLaws.{rest, rest-none, rest-suc, rest-whole, back-none, back-length, back-more, back-more-room}
-
-later-zero : (k : Circuit) (j : ℕ) → later k j 0 ≡ 0
-unfolding later
-later-zero k zero = refl
-later-zero k (suc j) = ap (advanced (k .width) (k .taps)) (later-zero k j) ∙ advanced-zero (k .width) (k .taps)
 
 -- every word after j clocks
 pub laterWords : Circuit → ℕ → List ℕ → List ℕ
 laterWords k j ws = map (later k j) ws
 
-later-words-none : (k : Circuit) (ws : List ℕ) → laterWords k 0 ws ≡ ws
+pub later-words-none : (k : Circuit) (ws : List ℕ) → laterWords k 0 ws ≡ ws
 unfolding laterWords later
 later-words-none k [] = refl
 later-words-none k (w ∷ ws) = ap (λ (l : List ℕ). w ∷ l) (later-words-none k ws)
 
-later-words-suc : (k : Circuit) (j : ℕ) (ws : List ℕ) → map (advanced (k .width) (k .taps)) (laterWords k j ws) ≡ laterWords k (suc j) ws
+pub later-words-suc : (k : Circuit) (j : ℕ) (ws : List ℕ) → map (advanced (k .width) (k .taps)) (laterWords k j ws) ≡ laterWords k (suc j) ws
 unfolding laterWords later
 later-words-suc k j ws = map-map (advanced (k .width) (k .taps)) (later k j) ws
 
-later-words-length : (k : Circuit) (j : ℕ) (ws : List ℕ) → length (laterWords k j ws) ≡ length ws
+pub later-words-length : (k : Circuit) (j : ℕ) (ws : List ℕ) → length (laterWords k j ws) ≡ length ws
 unfolding laterWords
 later-words-length k j ws = length-map ws (later k j)
 
-later-words-get : (k : Circuit) (j : ℕ) (ws : List ℕ) (c : ℕ) → getD (laterWords k j ws) c 0 ≡ later k j (getD ws c 0)
+pub later-words-get : (k : Circuit) (j : ℕ) (ws : List ℕ) (c : ℕ) → getD (laterWords k j ws) c 0 ≡ later k j (getD ws c 0)
 unfolding laterWords
 later-words-get k j ws c = ap (getD (map (later k j) ws) c) (sym (later-zero k j)) ∙ List·getD-map (later k j) ws c 0
 
@@ -90,6 +85,10 @@ module _ (k : Circuit) (s : ℕ) (u : Response) where
   pub Filled : List ℕ → List ℕ → ℕ → ℕ → List ℕ → Type 0
   Filled l₀ l place t ws =
       (t ≤ s) × (place ≡ length l₀ - length (slicesFrom t)) × (l ≡ back (slicesFrom t) l₀) × (ws ≡ laterWords k (s - t) (k .spread))
+
+  pub filled-inside : (l₀ l ws : List ℕ) (place t : ℕ) → Filled l₀ l place t ws → t ≤ s
+  unfolding Filled
+  filled-inside l₀ l ws place t f = f .0
 
   pub filled-room : (l₀ l ws : List ℕ) (place t : ℕ) → Filled l₀ l place t ws
       → (length l ≡ length l₀) × (place ≤ length l) × (length ws ≡ length (k .spread))

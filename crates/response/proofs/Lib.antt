@@ -3,11 +3,14 @@ pub mod ColumnLaws
 pub mod FillingLaws
 pub mod BackLaws
 pub mod PlaceLaws
+pub mod DigitLaws
 pub mod ListLaws
 pub mod AdvanceLaws
 pub mod CountLaws
 pub mod TableLaws
 pub mod RunLaws
+pub mod PowerLaws
 pub mod FillLaws
+pub mod SparseLaws
 pub mod SetLaws
 pub mod CallLaws

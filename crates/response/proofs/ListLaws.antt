@@ -1,47 +1,174 @@
--- The columns of one slice, written from the end: the start, the turn and the end of the loop over the chains. Assumes nothing.
-use mathlib.Core.Path.{_≡_, refl, sym, ap, _∙_}
-use mathlib.Core.Bool.{Bool, true, false, cond, _&&_}
-use mathlib.Core.List.{List, [], _++_}
-use Prim.Native.Nat.{ℕ, zero, suc, _+_, _-_, _/_, _%_, _≤_, _<_}
+-- The words of the marked chains of one row, written from the end: the start, the turn and the end of the loop over the bits of a
+-- word of 64 marks, and of the loop over the row's words. Assumes nothing.
+use mathlib.Core.Path.{_≡_, refl, sym, ap, ap₂, subst, _∙_}
+use mathlib.Core.Logic.{dite}
+use mathlib.Core.List.{List, [], _∷_, _++_, append-assoc, append-nil}
+use Prim.Native.Nat.{ℕ, zero, suc, _+_, _-_, _*_, _/_, _%_, _^_, _≤_, _<_, min}
+use native.Mathlib.Nat.{mod-lt, one-mul, div-eq-of-lt-le, pow-suc, lt-of-lt-of-le, pos-of-ne-zero, mod-eq-of-lt}
+use native.Mathlib.Decide.{decLe}
 use native.Mathlib.Omega.{arith}
-use borrow.Author.Tests.{eqb-true}
-use lib.Dec.{eqb}
-use lib.ListN.{length, take, drop, getD}
-use lib.Pow.{shr-le}
-use Rattle.word.proofs.BoolLaws.{and-left, and-right}
+use lib.Bits.{bitAnd, and-mask}
+use lib.Count.{leadingZeros, leading-top}
+use lib.ListN.{length, take, drop, getD, length-append, length-drop, take-append-drop}
+use lib.Pow.{pow-pos, shr-le, shl-exact, low}
+use lib.Seq.{take-all, take-length, drop-length, length-take-le, length-front, take-append-le, drop-append-le, getD-drop}
+use Rattle.word.specs.Word.{digit, lowMask, highestBit}
+use Rattle.word.specs.Bytes.{wordAt}
+use Rattle.word.specs.Joined.{joined}
+use Rattle.word.proofs.JoinLaws.{joined-ext}
 use Rattle.register.specs.Row.{cell}
 use Rattle.response.specs.Columns.{listed}
-use Rattle.response.specs.Code.{chosenWords, back, stepDown}
-use Rattle.response.proofs.BackLaws.{rest, rest-none, rest-suc, rest-skip, rest-whole, back-none, back-length, back-more, back-more-room}
+use Rattle.response.specs.Code.{bits, chosenWords, back}
+use Rattle.response.proofs.BackLaws.{rest, rest-none, rest-whole, rest-add, rest-joined, joined-stops, back-none, back-length, back-more, back-more-room}
+use Rattle.response.proofs.DigitLaws.{digit-mod, digit-past, word-cell}
 
 pub cell-clear : (row : List ℕ) (c : ℕ) → getD row (c / 8) 0 ≡ 0 → cell row c ≡ 0
 cell-clear row c e = omega (arith, shr-le (getD row (c / 8) 0) (c % 8))
 
--- what a byte that is passed over has
-Passed : List ℕ → ℕ → ℕ → Type 0
-Passed row c i = (1 ≤ i) × (i ≤ suc c) × ((d : ℕ) → suc c < d + i → d ≤ c → cell row d ≡ 0)
+-- ---- the marks of 64 chains
 
-passed : (row : List ℕ) (c : ℕ) → Passed row c (stepDown row c)
-unfolding stepDown Passed
-passed row c = go (eqb (c % 8) 7 && eqb (getD row (c / 8) 0) 0) refl
+-- the highest bit of a word and the power of two at it
+pub record Topped (w k : ℕ) : Type 0 where
+  pub place : k < 64
+  pub least : 2 ^ k ≤ w
+  pub most : w < 2 ^ suc k
+
+pub highest-tops : (w k : ℕ) → (w ≡ 0 → ⊥) → w < 2 ^ 64 → k ≡ highestBit w → Topped w k
+unfolding highestBit
+highest-tops w k n h e =
+    let t = leading-top 64 w (pos-of-ne-zero n) h in
+    let same : k ≡ t .0 = here (leadingZeros 64 w) (t .0) (t .1) e in
+    record {
+      place = small (leadingZeros 64 w) (t .0) (t .1) same;
+      least = subst (λ (x : ℕ). 2 ^ x ≤ w) (sym same) (t .2);
+      most = subst (λ (x : ℕ). w < 2 ^ suc x) (sym same) (t .3);
+    }
   where
-    go : (b : Bool) → (eqb (c % 8) 7 && eqb (getD row (c / 8) 0) 0) ≡ b
-        → (1 ≤ cond b 8 1) × (cond b 8 1 ≤ suc c) × ((d : ℕ) → suc c < d + cond b 8 1 → d ≤ c → cell row d ≡ 0)
-    go false e = (omega arith, omega arith, (λ d l m. let z : ⊥ = omega arith in absurd z))
-    go true e =
-        let seven : c % 8 ≡ 7 = eqb-true (c % 8) 7 (and-left (eqb (c % 8) 7) (eqb (getD row (c / 8) 0) 0) e) in
-        let clear : getD row (c / 8) 0 ≡ 0 = eqb-true (getD row (c / 8) 0) 0 (and-right (eqb (c % 8) 7) (eqb (getD row (c / 8) 0) 0) e) in (
-          omega arith,
-          omega arith,
-          (λ d l m. let same : d / 8 ≡ c / 8 = omega arith in cell-clear row d (ap (λ (i : ℕ). getD row i 0) same ∙ clear)),
-        )
+    here : (z j : ℕ) → z + suc j ≡ 64 → k ≡ 63 - z → k ≡ j
+    here z j s f = omega arith
 
-step-bounds : (row : List ℕ) (c : ℕ) → (1 ≤ stepDown row c) × (stepDown row c ≤ suc c)
-unfolding Passed
-step-bounds row c = (passed row c .0, passed row c .1)
+    small : (z j : ℕ) → z + suc j ≡ 64 → k ≡ j → k < 64
+    small z j s f = omega arith
 
-pub step-fits : (row : List ℕ) (c i : ℕ) → i ≡ stepDown row (c - 1) → 0 < c → (1 ≤ i) × (i ≤ c)
-step-fits row c i e h = (omega (arith, step-bounds row (c - 1) .0), omega (arith, step-bounds row (c - 1) .1))
+pub top-power : (w k : ℕ) → Topped w k → (1 * 2 ^ k) % 18446744073709551616 ≡ 2 ^ k
+top-power w k t = let p : k < 64 = t .place in shl-exact {a = 1} 1 k 64 (omega arith) (omega arith) ∙ one-mul (2 ^ k)
+
+module _ (ws : List ℕ) where
+  abbrev marked : ℕ → ℕ → List ℕ
+  marked w d = listed (digit d w) (getD ws d 0)
+
+  -- the words of the chains whose bit is 1
+  pub wordsOf : ℕ → List ℕ
+  wordsOf w = chosenWords ws (bits w) 64
+
+  pub words-of : (w : ℕ) → wordsOf w ≡ chosenWords ws (bits w) 64
+  unfolding wordsOf
+  words-of w = refl
+
+  -- bits from place k on, all 0, choose nothing
+  words-below : (w k : ℕ) → k ≤ 64 → w < 2 ^ k → wordsOf w ≡ joined (marked w) k
+  unfolding wordsOf
+  words-below w k h l =
+      let whole : 64 ≡ k + (64 - k) = omega arith in
+      ap (joined (marked w)) whole
+      ∙ joined-stops (marked w) k (64 - k) (λ d m. ap (λ (x : ℕ). listed x (getD ws d 0)) (digit-past k w d l m))
+
+  words-of-none : wordsOf 0 ≡ []
+  unfolding joined
+  words-of-none = words-below 0 0 (omega arith) (omega arith)
+
+  marked-last : (w k : ℕ) → joined (marked w) (suc k) ≡ joined (marked w) k ++ marked w k
+  unfolding joined
+  marked-last w k = refl
+
+  -- the highest bit chooses the last word
+  words-of-top : (w k : ℕ) → Topped w k → wordsOf w ≡ wordsOf (w - 2 ^ k) ++ getD ws k 0 ∷ []
+  words-of-top w k t =
+      let p : k < 64 = t .place in
+      let least : 2 ^ k ≤ w = t .least in
+      let most : w < 2 ^ suc k = t .most in
+      let below : w - 2 ^ k < 2 ^ k = omega (arith, pow-suc 2 k) in
+      let parts : w ≡ 1 * 2 ^ k + (w - 2 ^ k) = omega arith in
+      let less : w % 2 ^ k ≡ w - 2 ^ k = ap (λ (x : ℕ). x % 2 ^ k) parts ∙ low 1 k below in
+      let one : w / 2 ^ k ≡ 1 = div-eq-of-lt-le (2 ^ k) (omega arith) (omega (arith, pow-suc 2 k)) in
+      words-below w (suc k) p most ∙ marked-last w k
+      ∙ ap₂ (λ (x : List ℕ) (d : ℕ). x ++ listed (d % 2) (getD ws k 0))
+      (sym
+      (words-below (w - 2 ^ k) k (omega arith) below
+      ∙ joined-ext (marked (w - 2 ^ k)) (marked w) k
+      (λ d l. ap (λ (x : ℕ). listed x (getD ws d 0)) (ap (digit d) (sym less) ∙ digit-mod k w d l))))
+      one
+
+  -- what the loop knows: written over the end of the first `place` places, the words of the bits that are left make the list
+  pub Taking : ℕ → List ℕ → List ℕ → ℕ → ℕ → Type 0
+  Taking marks l₀ l place left =
+      (place ≤ length l)
+      × (length l ≡ length l₀)
+      × (place - length (wordsOf left) ≡ length l₀ - length (wordsOf marks))
+      × (back (wordsOf left) (take place l) ++ drop place l ≡ back (wordsOf marks) l₀)
+
+  pub taking-room : (marks : ℕ) (l₀ l : List ℕ) (place left : ℕ) → Taking marks l₀ l place left → (length l ≡ length l₀) × (place ≤ length l)
+  unfolding Taking
+  taking-room marks l₀ l place left k = (k .1, k .0)
+
+  pub taking-starts : (marks : ℕ) (l : List ℕ) → Taking marks l l (length l) marks
+  unfolding Taking
+  taking-starts marks l = (
+    omega arith,
+    refl,
+    refl,
+    ap₂ (λ (x y : List ℕ). back (wordsOf marks) x ++ y) (take-length l) (drop-length l) ∙ append-nil (back (wordsOf marks) l),
+  )
+
+  pub taking-turns : (marks : ℕ) (l₀ l l′ : List ℕ) (place place′ left left′ top w : ℕ) → Taking marks l₀ l place left → Topped left top
+      → w ≡ getD ws top 0 → left′ ≡ left - 2 ^ top → place′ ≡ length (take place l) - 1 → l′ ≡ back (w ∷ []) (take place l) ++ drop place l
+      → Taking marks l₀ l′ place′ left′
+  unfolding Taking
+  taking-turns marks l₀ l l′ place place′ left left′ top w k t ew ef ep el = (
+    omega (arith, long, here),
+    long ∙ k .1,
+    room,
+    ap (λ (x : List ℕ). back (wordsOf left′) (take place′ x) ++ drop place′ x) el
+        ∙ ap₂ (λ (x y : List ℕ). back (wordsOf left′) x ++ y) (take-append-le place′ part (drop place l) fits) (drop-append-le place′ part (drop place l) fits)
+        ∙ sym (append-assoc (back (wordsOf left′) (take place′ part)) (drop place′ part) (drop place l))
+        ∙ ap (λ (x : List ℕ). x ++ drop place l) (back-more (wordsOf left′) (w ∷ []) (take place l) place′ ep)
+        ∙ ap (λ (x : List ℕ). back x (take place l) ++ drop place l) (sym words)
+        ∙ k .3,
+  )
+    where
+      part : List ℕ
+      part = back (w ∷ []) (take place l)
+
+      here : length (take place l) ≡ place
+      here = length-take-le place l (k .0)
+
+      part-long : length part ≡ place
+      part-long = back-length (w ∷ []) (take place l) ∙ here
+
+      fits : place′ ≤ length part
+      fits = omega (arith, ep, part-long, here)
+
+      long : length l′ ≡ length l
+      long = ap length el ∙ length-front l part place (part-long ∙ sym here)
+
+      words : wordsOf left ≡ wordsOf left′ ++ w ∷ []
+      words = words-of-top left top t ∙ ap₂ (λ (x y : ℕ). wordsOf x ++ y ∷ []) (sym ef) (sym ew)
+
+      room : place′ - length (wordsOf left′) ≡ length l₀ - length (wordsOf marks)
+      room = omega (arith, ep, here, k .2, ap length words ∙ length-append (wordsOf left′) (w ∷ []))
+
+  pub taking-ends : (marks : ℕ) (l₀ l : List ℕ) (place left : ℕ) → Taking marks l₀ l place left → left ≡ 0
+      → (place ≡ length l₀ - length (chosenWords ws (bits marks) 64)) × (l ≡ back (chosenWords ws (bits marks) 64) l₀)
+  unfolding Taking
+  taking-ends marks l₀ l place left k e =
+      let none : wordsOf left ≡ [] = ap wordsOf e ∙ words-of-none in (
+        omega (arith, k .2, ap length none) ∙ ap (λ (x : List ℕ). length l₀ - length x) (words-of marks),
+        sym (take-append-drop place l) ∙ ap (λ (x : List ℕ). x ++ drop place l) (sym (back-none (take place l)))
+            ∙ ap (λ (x : List ℕ). back x (take place l) ++ drop place l) (sym none) ∙ k .3
+            ∙ ap (λ (x : List ℕ). back x l₀) (words-of marks),
+      )
+
+-- ---- a row, by words of 64 chains
 
 module _ (ws row : List ℕ) where
   abbrev word : ℕ → List ℕ
@@ -51,60 +178,94 @@ module _ (ws row : List ℕ) where
   pub wordsFrom : ℕ → List ℕ
   wordsFrom c = rest word c (length ws - c)
 
-  pub words-from-end : wordsFrom (length ws) ≡ []
+  words-from-end : (c : ℕ) → length ws ≤ c → wordsFrom c ≡ []
   unfolding wordsFrom
-  words-from-end = let none : length ws - length ws ≡ 0 = omega arith in ap (rest word (length ws)) none ∙ rest-none word (length ws)
+  words-from-end c h = let none : length ws - c ≡ 0 = omega arith in ap (rest word c) none ∙ rest-none word c
 
-  pub words-from-start : wordsFrom 0 ≡ chosenWords ws (cell row) (length ws)
+  words-from-start : wordsFrom 0 ≡ chosenWords ws (cell row) (length ws)
   unfolding wordsFrom
   words-from-start = let all : length ws - 0 ≡ length ws = omega arith in ap (rest word 0) all ∙ rest-whole word (length ws)
 
-  words-from-down : (c i : ℕ) → suc c ≤ length ws → Passed row c i → wordsFrom (suc c - i) ≡ word (suc c - i) ++ wordsFrom (suc c)
-  unfolding wordsFrom Passed
-  words-from-down c i h p =
-      let a : length ws - (suc c - i) ≡ suc (i - 1 + (length ws - suc c)) = omega (arith, p .0, p .1) in
-      let b : suc (suc c - i) + (i - 1) ≡ suc c = omega (arith, p .0, p .1) in
-      ap (rest word (suc c - i)) a ∙ rest-suc word (suc c - i) (i - 1 + (length ws - suc c))
-      ∙ ap (λ (l : List ℕ). word (suc c - i) ++ l)
-      (rest-skip word (suc (suc c - i)) (i - 1) (length ws - suc c)
-      (λ d l m. ap (λ (e : ℕ). listed e (getD ws d 0)) (p .2 d (omega (arith, p .0, p .1)) (omega (arith, p .0, p .1))))
-      ∙ ap (λ (d : ℕ). rest word d (length ws - suc c)) b)
+  -- the words from c on, the first j of them apart
+  words-from-parts : (c j : ℕ) → c + j ≤ length ws → wordsFrom c ≡ joined (λ d. word (c + d)) j ++ wordsFrom (c + j)
+  unfolding wordsFrom
+  words-from-parts c j h =
+      let whole : length ws - c ≡ j + (length ws - (c + j)) = omega arith in
+      ap (rest word c) whole ∙ rest-add word c j (length ws - (c + j))
+      ∙ ap (λ (x : List ℕ). x ++ rest word (c + j) (length ws - (c + j))) (rest-joined word c j)
+
+  module _ (bytes : (i : ℕ) → getD row i 0 < 256) (i mask marks : ℕ) (h : 64 * i < length ws) (em : mask ≡ lowMask (length ws - 64 * i)) (ek : marks ≡ bitAnd (wordAt row (8 * i)) mask) where
+    -- the chains that the word's bits stand for
+    many : ℕ
+    many = min (length ws - 64 * i) 64
+
+    masked : marks ≡ wordAt row (8 * i) % 2 ^ many
+    unfolding lowMask many
+    masked = ek ∙ ap (bitAnd (wordAt row (8 * i))) em ∙ and-mask (wordAt row (8 * i)) (min (length ws - 64 * i) 64)
+
+    marked-word : (d : ℕ) → d < many → marked (drop (64 * i) ws) marks d ≡ word (64 * i + d)
+    unfolding many
+    marked-word d l =
+        ap₂ listed (ap (digit d) masked ∙ digit-mod many (wordAt row (8 * i)) d l ∙ word-cell row bytes i d (omega arith)) (getD-drop (64 * i) ws d 0)
+
+    word-first : chosenWords (drop (64 * i) ws) (bits marks) 64 ≡ joined (λ d. word (64 * i + d)) many
+    unfolding many
+    word-first =
+        sym (words-of (drop (64 * i) ws) marks)
+        ∙ words-below (drop (64 * i) ws) marks many (omega arith) (rw masked (mod-lt (wordAt row (8 * i)) (pow-pos many)))
+        ∙ joined-ext (marked (drop (64 * i) ws) marks) (λ d. word (64 * i + d)) many marked-word
+
+    word-rest : wordsFrom (64 * i + many) ≡ wordsFrom (64 * i + 64)
+    unfolding many
+    word-rest =
+        dite (decLe 64 (length ws - 64 * i))
+        (λ (l : 64 ≤ length ws - 64 * i). let full : 64 * i + min (length ws - 64 * i) 64 ≡ 64 * i + 64 = omega arith in ap wordsFrom full)
+        (λ (l : 64 ≤ length ws - 64 * i → ⊥). words-from-end (64 * i + min (length ws - 64 * i) 64) (omega arith) ∙ sym (words-from-end (64 * i + 64) (omega arith)))
+
+    words-from-word : wordsFrom (64 * i) ≡ chosenWords (drop (64 * i) ws) (bits marks) 64 ++ wordsFrom (64 * i + 64)
+    unfolding many
+    words-from-word = words-from-parts (64 * i) many (omega arith) ∙ ap₂ (λ (x y : List ℕ). x ++ y) (sym word-first) word-rest
 
   -- what the loop knows: the words of the chains from c on stand at the list's end, and `place` places before them
   pub Listing : List ℕ → List ℕ → ℕ → ℕ → Type 0
-  Listing l₀ l place c = (c ≤ length ws) × (place ≡ length l₀ - length (wordsFrom c)) × (l ≡ back (wordsFrom c) l₀)
+  Listing l₀ l place c = (place ≡ length l₀ - length (wordsFrom c)) × (l ≡ back (wordsFrom c) l₀)
 
   pub listing-room : (l₀ l : List ℕ) (place c : ℕ) → Listing l₀ l place c → (length l ≡ length l₀) × (place ≤ length l)
   unfolding Listing
   listing-room l₀ l place c k =
-      let same : length l ≡ length l₀ = ap length (k .2) ∙ back-length (wordsFrom c) l₀ in (same, omega arith)
+      let same : length l ≡ length l₀ = ap length (k .1) ∙ back-length (wordsFrom c) l₀ in (same, omega arith)
 
-  pub listing-starts : (l : List ℕ) → Listing l l (length l) (length ws)
+  pub listing-starts : (l : List ℕ) (c : ℕ) → length ws ≤ c → Listing l l (length l) c
   unfolding Listing
-  listing-starts l = (omega arith, rw words-from-end (omega arith), rw words-from-end (sym (back-none l)))
+  listing-starts l c h = (rw (words-from-end c h) (omega arith), rw (words-from-end c h) (sym (back-none l)))
 
-  pub listing-turns : (l₀ l l′ : List ℕ) (place place′ c c′ : ℕ) → Listing l₀ l place c → 0 < c → c′ ≡ c - stepDown row (c - 1)
-      → place′ ≡ length (take place l) - length (word c′) → l′ ≡ back (word c′) (take place l) ++ drop place l
-      → Listing l₀ l′ place′ c′
+  pub listing-turns : ((i : ℕ) → getD row i 0 < 256) → (l₀ l l′ vs : List ℕ) (place place′ i mask marks : ℕ) → Listing l₀ l place (64 * i) → 0 < i
+      → 64 * (i - 1) < length ws → mask ≡ lowMask (length ws - 64 * (i - 1)) → marks ≡ bitAnd (wordAt row (8 * (i - 1))) mask
+      → vs ≡ take (length ws - 64 * (i - 1)) (drop (64 * (i - 1)) ws)
+      → place′ ≡ length (take place l) - length (chosenWords vs (bits marks) 64)
+      → l′ ≡ back (chosenWords vs (bits marks) 64) (take place l) ++ drop place l
+      → Listing l₀ l′ place′ (64 * (i - 1))
   unfolding Listing
-  listing-turns l₀ l l′ place place′ zero c′ k h ec ep el = let z : ⊥ = omega arith in absurd z
-  listing-turns l₀ l l′ place place′ (suc c) c′ k h ec ep el = (
-    omega arith,
-    ep ∙ ap (λ (x : List ℕ). length (take place x) - length (word c′)) (k .2)
-        ∙ back-more-room (word c′) (wordsFrom (suc c)) l₀ place (k .1) ∙ ap (λ (x : List ℕ). length l₀ - length x) (sym words),
-    el ∙ ap (λ (x : List ℕ). back (word c′) (take place x) ++ drop place x) (k .2)
-        ∙ back-more (word c′) (wordsFrom (suc c)) l₀ place (k .1) ∙ ap (λ (x : List ℕ). back x l₀) (sym words),
+  listing-turns bytes l₀ l l′ vs place place′ i mask marks k h m em ek ev ep el = (
+    ep ∙ ap (λ (x : List ℕ). length (take place x) - length mine) (k .1)
+        ∙ back-more-room mine (wordsFrom (64 * i)) l₀ place (k .0) ∙ ap (λ (x : List ℕ). length l₀ - length x) (sym words),
+    el ∙ ap (λ (x : List ℕ). back mine (take place x) ++ drop place x) (k .1)
+        ∙ back-more mine (wordsFrom (64 * i)) l₀ place (k .0) ∙ ap (λ (x : List ℕ). back x l₀) (sym words),
   )
     where
-      low : c′ ≡ suc c - stepDown row c
-      low = ec ∙ let same : suc c - 1 ≡ c = omega arith in ap (λ (x : ℕ). suc c - stepDown row x) same
+      mine : List ℕ
+      mine = chosenWords vs (bits marks) 64
 
-      words : wordsFrom c′ ≡ word c′ ++ wordsFrom (suc c)
+      lent : drop (64 * (i - 1)) ws ≡ vs
+      lent = sym (ev ∙ take-all (length ws - 64 * (i - 1)) (drop (64 * (i - 1)) ws) (omega (arith, length-drop (64 * (i - 1)) ws)))
+
+      words : wordsFrom (64 * (i - 1)) ≡ mine ++ wordsFrom (64 * i)
       words =
-          ap wordsFrom low ∙ words-from-down c (stepDown row c) (k .0) (passed row c)
-          ∙ ap (λ (x : ℕ). word x ++ wordsFrom (suc c)) (sym low)
+          let next : 64 * (i - 1) + 64 ≡ 64 * i = omega arith in
+          words-from-word bytes (i - 1) mask marks m em ek
+          ∙ ap₂ (λ (x : List ℕ) (y : ℕ). chosenWords x (bits marks) 64 ++ wordsFrom y) lent next
 
   pub listing-ends : (l₀ l : List ℕ) (place c : ℕ) → Listing l₀ l place c → c ≡ 0
       → (place ≡ length l₀ - length (chosenWords ws (cell row) (length ws))) × (l ≡ back (chosenWords ws (cell row) (length ws)) l₀)
   unfolding Listing
-  listing-ends l₀ l place c k e = let whole : wordsFrom c ≡ chosenWords ws (cell row) (length ws) = ap wordsFrom e ∙ words-from-start in rw (← whole) (k .1, k .2)
+  listing-ends l₀ l place c k e = let whole : wordsFrom c ≡ chosenWords ws (cell row) (length ws) = ap wordsFrom e ∙ words-from-start in rw (← whole) k

@@ -1,17 +1,15 @@
 -- Rows that stand in a list as far as it goes, and what each small function writes or answers. Assumes nothing.
 use mathlib.Core.Path.{_≡_, refl, sym, ap, ap₂, _∙_}
 use mathlib.Core.List.{List, [], _∷_, _++_}
-use Prim.Native.Nat.{ℕ, zero, suc, _+_, _-_, _*_, _/_, _%_, min}
+use Prim.Native.Nat.{ℕ, suc, _+_, _-_, _*_, min}
 use native.Mathlib.Nat.{mul-suc, mul-zero}
 use native.Mathlib.Numerals.{add-one}
 use native.Mathlib.Omega.{arith}
-use borrow.Author.Tests.{eq-eqb, ne-eqb}
-use lib.ListN.{length, take, drop, getD, set, drop-of-length-le}
+use lib.ListN.{length, take, drop, set, drop-of-length-le}
 use lib.Seq.{drop-drop, set-split}
 use Rattle.word.proofs.PartLaws.{drop-same}
-use Rattle.response.specs.Columns.{listed}
-use Rattle.response.specs.Code.{back, stepDown}
-use Rattle.response.proofs.BackLaws.{back-none, back-fits, back-empty}
+use Rattle.response.specs.Code.{back}
+use Rattle.response.proofs.BackLaws.{back-fits, back-empty}
 
 -- ---- rows one after the other
 
@@ -33,48 +31,16 @@ module _ (l : List ℕ) (i d : ℕ) where
 
 -- ---- the list's last place
 
-module _ (l : List ℕ) (d w : ℕ) where
-  pub put-none : d ≡ 0 → (length l ≡ length l - length (listed d w)) × (l ≡ back (listed d w) l)
-  put-none e = rw e (omega arith, sym (back-none l))
-
-  pub put-full : (d ≡ 0 → ⊥) → length l ≡ 0 → (0 ≡ length l - length (listed d w)) × (l ≡ back (listed d w) l)
-  put-full h e = (omega arith, empty l e)
+module _ (l : List ℕ) (w : ℕ) where
+  pub put-full : length l ≡ 0 → (0 ≡ length l - 1) × (l ≡ back (w ∷ []) l)
+  put-full e = (omega arith, empty l e)
     where
-      empty : (l : List ℕ) → length l ≡ 0 → l ≡ back (listed d w) l
-      empty [] f = sym (back-empty (listed d w))
+      empty : (l : List ℕ) → length l ≡ 0 → l ≡ back (w ∷ []) l
+      empty [] f = sym (back-empty (w ∷ []))
       empty (x ∷ l) f = let z : ⊥ = omega arith in absurd z
 
-  pub put-one : (d ≡ 0 → ⊥) → (length l ≡ 0 → ⊥)
-      → (length l - 1 ≡ length l - length (listed d w)) × (set l (length l - 1) w ≡ back (listed d w) l)
-  put-one h e = go d h
-    where
-      write : set l (length l - 1) w ≡ back (w ∷ []) l
-      write =
-          set-split l (length l - 1) w (omega arith)
-          ∙ ap (λ (r : List ℕ). take (length l - 1) l ++ w ∷ r) (drop-of-length-le l {i = suc (length l - 1)} (omega arith))
-          ∙ sym (back-fits (w ∷ []) l (omega arith))
-
-      go : (d : ℕ) → (d ≡ 0 → ⊥) → (length l - 1 ≡ length l - length (listed d w)) × (set l (length l - 1) w ≡ back (listed d w) l)
-      go zero f = absurd (f refl)
-      go (suc d) f = (omega arith, write)
-
--- .. by what is written there
-pub put-same : (l l′ : List ℕ) (r d w d′ w′ : ℕ) → d ≡ d′ → w ≡ w′ → r ≡ length l - length (listed d w) → l′ ≡ back (listed d w) l
-    → (r ≡ length l - length (listed d′ w′)) × (l′ ≡ back (listed d′ w′) l)
-put-same l l′ r d w d′ w′ ed ew er el =
-    (er ∙ ap₂ (λ (x y : ℕ). length l - length (listed x y)) ed ew, el ∙ ap₂ (λ (x y : ℕ). back (listed x y) l) ed ew)
-
--- ---- how many chains at once
-
-module _ (row : List ℕ) (c : ℕ) where
-  pub step-one : (c % 8 ≡ 7 → ⊥) → 1 ≡ stepDown row c
-  unfolding stepDown
-  step-one h = rw (ne-eqb (c % 8) 7 h)
-
-  pub step-marked : (b : ℕ) → c % 8 ≡ 7 → b ≡ getD row (c / 8) 0 → (b ≡ 0 → ⊥) → 1 ≡ stepDown row c
-  unfolding stepDown
-  step-marked b h e n = rw (eq-eqb (c % 8) 7 h, ne-eqb (getD row (c / 8) 0) 0 (λ (z : getD row (c / 8) 0 ≡ 0). n (e ∙ z)))
-
-  pub step-eight : (b : ℕ) → c % 8 ≡ 7 → b ≡ getD row (c / 8) 0 → b ≡ 0 → 8 ≡ stepDown row c
-  unfolding stepDown
-  step-eight b h e n = rw (eq-eqb (c % 8) 7 h, eq-eqb (getD row (c / 8) 0) 0 (sym e ∙ n))
+  pub put-one : (length l ≡ 0 → ⊥) → set l (length l - 1) w ≡ back (w ∷ []) l
+  put-one e =
+      set-split l (length l - 1) w (omega arith)
+      ∙ ap (λ (r : List ℕ). take (length l - 1) l ++ w ∷ r) (drop-of-length-le l {i = suc (length l - 1)} (omega arith))
+      ∙ sym (back-fits (w ∷ []) l (omega arith))

@@ -12,11 +12,11 @@
 --   entryFrom table ws e the entry e of the table of half bytes, from the entry that lacks its highest bit
 --   tableEnd n           the number of entries that can differ from 0, for n chains
 --   looked table row i   the XOR of the entries of the table for the two half bytes of each of the row's first i bytes
+--   bits w               the cells of 64 chains: that of chain c is bit c of the word w
 --   chosenWords ws x c   the words of ws of the chains below c whose cell in x is 1
+--   fromPowers ps w      the XOR of the words of ps whose bit in the word w is 1
 --   back vs l            the list l with vs written over its end; the end of vs alone, where l is shorter
---   stepDown row c       how many chains, chain c the last of them, are dealt with at once: 8 where they are one byte of the row
---                        and none is marked, and 1 otherwise
-use mathlib.Core.Bool.{cond, _&&_}
+use mathlib.Core.Bool.{cond}
 use mathlib.Core.List.{List, _++_}
 use Prim.Native.Nat.{ℕ, zero, suc, _+_, _-_, _*_, _/_, _%_, _^_, min}
 use lib.Bits.{bitXor}
@@ -64,11 +64,14 @@ looked table row zero = 0
 looked table row (suc i) =
     bitXor (bitXor (looked table row i) (getD table (32 * i + getD row i 0 % 16) 0)) (getD table (32 * i + 16 + getD row i 0 / 16) 0)
 
+abbrev pub bits : ℕ → Cells
+bits w c = digit c w
+
 abbrev pub chosenWords : List ℕ → Cells → ℕ → List ℕ
 chosenWords ws x c = joined (λ d. listed (x d) (getD ws d 0)) c
 
+unfoldable pub fromPowers : List ℕ → ℕ → ℕ
+fromPowers ps w = driven ps (bits w) (length ps)
+
 unfoldable pub back : List ℕ → List ℕ → List ℕ
 back vs l = take (length l - length vs) l ++ drop (length vs - length l) vs
-
-unfoldable pub stepDown : List ℕ → ℕ → ℕ
-stepDown row c = cond (eqb (c % 8) 7 && eqb (getD row (c / 8) 0) 0) 8 1

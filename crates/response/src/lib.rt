@@ -1,18 +1,20 @@
 // Responses: a record's signature, the signature for all unknowns 0, and the columns of the unknown cells.
 ghost use mathlib.Core.Path.{_≡_};
-ghost use mathlib.Core.List.{map};
+ghost use mathlib.Core.Bool.{false};
+ghost use mathlib.Core.List.{[], _∷_, map};
 ghost use Prim.Native.Nat.{ℕ, min, _-_, _≤_, _<_};
 ghost use lib.Bits.{bitXor};
 ghost use lib.ListN.{length, take, drop, getD, replicate};
 ghost use Rattle.register.specs.Row.{cell, rowBytes};
-ghost use Rattle.register.specs.Circuit.{advanced};
+ghost use Rattle.register.specs.Circuit.{advanced, badSpread};
 ghost use Rattle.set_file.specs.Layout.{markAt};
 ghost use Rattle.word.specs.Reply.{lent};
 ghost use Rattle.response.specs.Signature.{signature};
-ghost use Rattle.response.specs.Columns.{listed, columnsBelow, columnsOf, total};
+ghost use Rattle.response.specs.Later.{later};
+ghost use Rattle.response.specs.Columns.{columnsBelow, columnsOf, total};
 ghost use Rattle.response.specs.Signing.{signReply, saidSigned};
 ghost use Rattle.response.specs.Listing.{listReply, saidListed};
-ghost use Rattle.response.specs.Code.{circuit, valueCells, markCells, marksBelow, rowsFrom, halfByte, topPlace, entryFrom, tableEnd, looked, chosenWords, back, stepDown};
+ghost use Rattle.response.specs.Code.{circuit, valueCells, markCells, marksBelow, rowsFrom, halfByte, topPlace, entryFrom, tableEnd, looked, bits, chosenWords, fromPowers, back};
 
 // What signing a record answers: its signature, or the first number that applies.
 pub enum Signed {
@@ -31,6 +33,14 @@ struct Rows {
     at: usize,
     stride: usize,
     count: usize,
+}
+
+// A width, 64 at most.
+fn width_limit(m: u64) -> u64
+    ensures { λ r. ⌜ r ≡ min m 64 ⌝ }
+{
+    let largest = register::Register::LARGEST_WIDTH;
+    if m < largest { m } else { largest }
 }
 
 // A number of chains, 256 at most.
@@ -141,15 +151,12 @@ fn looked_up(table: &[u64; 1024], row: &[u8]) -> u64
     drive
 }
 
-// Writes the word over the list's last place where the digit is 1, and answers with how many places stand before what it wrote.
-fn put_last(columns: &mut [u64], digit: u64, word: u64) -> usize
-    ensures { λ r. ⌜ r ≡ length (now (columns .entry)) - length (listed digit word) ⌝ }
-    ensures { λ _. ⌜ now (columns .exit) ≡ back (listed digit word) (now (columns .entry)) ⌝ }
+// Writes the word over the list's last place, and answers with how many places stand before it.
+fn put_last(columns: &mut [u64], word: u64) -> usize
+    ensures { λ r. ⌜ r ≡ length (now (columns .entry)) - 1 ⌝ }
+    ensures { λ _. ⌜ now (columns .exit) ≡ back (word ∷ []) (now (columns .entry)) ⌝ }
 {
     let room = columns.len();
-    if digit == 0 {
-        return room;
-    }
     if room == 0 {
         return 0;
     }
@@ -157,38 +164,37 @@ fn put_last(columns: &mut [u64], digit: u64, word: u64) -> usize
     room - 1
 }
 
-// Writes the word of chain c over the list's last place where its cell in the row is 1, and answers with how many places stand
-// before what it wrote.
-fn put_cell(columns: &mut [u64], words: &[u64], row: &[u8], c: usize) -> usize
-    ensures { λ r. ⌜ r ≡ length (now (columns .entry)) - length (listed (cell (now (row .entry)) c) (getD (now (words .entry)) c 0)) ⌝ }
-    ensures { λ _. ⌜ now (columns .exit) ≡ back (listed (cell (now (row .entry)) c) (getD (now (words .entry)) c 0)) (now (columns .entry)) ⌝ }
+// Writes the words of the chains whose bit in `marks` is 1 over the list's end, from the last chain on, and answers with how many
+// places stand before them.
+fn list_word(columns: &mut [u64], words: &[u64], marks: u64) -> usize
+    ensures { λ r. ⌜ r ≡ length (now (columns .entry)) - length (chosenWords (now (words .entry)) (bits marks) 64) ⌝ }
+    ensures { λ _. ⌜ now (columns .exit) ≡ back (chosenWords (now (words .entry)) (bits marks) 64) (now (columns .entry)) ⌝ }
 {
-    put_last(columns, register::cell_at(row, c), word_at(words, c))
+    let mut place = columns.len();
+    let mut left = marks;
+    while left != 0 {
+        let top = word::highest_bit(left);
+        place = put_last(&mut columns[..place], word_at(words, top as usize));
+        left -= 1u64 << top;
+    }
+    place
 }
 
-// How many chains, chain c the last of them, are dealt with at once: a byte of the row without a mark is passed over whole.
-fn step_down(row: &[u8], c: usize) -> usize
-    ensures { λ r. ⌜ r ≡ stepDown (now (row .entry)) c ⌝ }
-{
-    if c % 8 != 7 {
-        return 1;
-    }
-    if word::byte_at(row, c / 8) != 0 {
-        return 1;
-    }
-    8
-}
-
-// Writes the words of the chains whose cell in the row is 1 over the list's end, and answers with how many places stand before them.
+// Writes the words of the chains whose cell in the row is 1 over the list's end, and answers with how many places stand before
+// them. It goes by words of 64 cells; a row may have bits past the last chain.
 fn list_row(columns: &mut [u64], words: &[u64], row: &[u8]) -> usize
     ensures { λ r. ⌜ r ≡ length (now (columns .entry)) - length (chosenWords (now (words .entry)) (cell (now (row .entry))) (length (now (words .entry)))) ⌝ }
     ensures { λ _. ⌜ now (columns .exit) ≡ back (chosenWords (now (words .entry)) (cell (now (row .entry))) (length (now (words .entry)))) (now (columns .entry)) ⌝ }
 {
+    let chains = words.len();
     let mut place = columns.len();
-    let mut c = words.len();
-    while 0 < c {
-        c -= step_down(row, c - 1);
-        place = put_cell(&mut columns[..place], words, row, c);
+    let mut i = chains / 64 + (chains % 64 + 63) / 64;
+    while 0 < i {
+        i -= 1;
+        let first = 64 * i;
+        let mask = word::low_mask((chains - first) as u64);
+        let marks = word::read_word(row, 8 * i) & mask;
+        place = list_word(&mut columns[..place], &words[first..], marks);
     }
     place
 }
@@ -204,15 +210,14 @@ fn advance_words(m: u64, taps: u64, words: &mut [u64])
     }
 }
 
-// The number of cells among the first 256 of a row that are 1.
+// The number of cells among the first 256 of a row that are 1, by words of 64 cells.
 fn count_row(row: &[u8]) -> u64
     ensures { λ r. ⌜ r ≡ total 256 (cell (now (row .entry))) ⌝ }
 {
-    let count = word::moved(0, row.len(), 32);
     let mut found = 0u64;
     let mut i = 0;
-    while i < count {
-        found += u8::count_ones(row[i]) as u64;
+    while i < 4 {
+        found += u64::count_ones(word::read_word(row, 8 * i)) as u64;
         i += 1;
     }
     found
@@ -278,10 +283,9 @@ pub fn count_unknowns(set: &[u8], n: u64, s: u64) -> u64
     found
 }
 
-// Writes the columns of a set that the reader has taken over the end of the list: it answered with these m, tap word, spread
-// words, n and s. It goes from the last slice, whose columns are the spread words, to the first, and advances every word once
-// for each. It meets no number; where the list is shorter than the columns, the first of them are lost.
-pub fn fill_columns(
+// Writes the columns of a set over the end of the list. It goes from the last slice, whose columns are the spread words, to the
+// first, and advances every word once for each.
+fn fill_swept(
     set: &[u8],
     m: u64,
     taps: u64,
@@ -305,6 +309,113 @@ pub fn fill_columns(
         );
         advance_words(m, taps, &mut words[..chains]);
     }
+}
+
+fn no_powers() -> [u64; 576]
+    ensures { λ r. ⌜ r ≡ replicate 576 0 ⌝ }
+{
+    [0u64; 576]
+}
+
+// The powers of the register: the word 1 after 0 to 575 clocks, which is enough for 512 slices and a width of 64.
+fn powers(m: u64, taps: u64) -> [u64; 576]
+    ensures { λ r. ⌜ ((i : ℕ) → i < 576 → getD r i 0 ≡ later (circuit (min m 64) taps []) i 1) ⌝ }
+{
+    let mut table = no_powers();
+    let mut power = 1u64;
+    let mut i = 0;
+    while i < 576 {
+        table[i] = power;
+        power = next_state(m, taps, power, 0);
+        i += 1;
+    }
+    table
+}
+
+// The XOR of the powers whose bit in w is 1.
+fn from_powers(powers: &[u64], w: u64) -> u64
+    ensures { λ r. ⌜ r ≡ fromPowers (now (powers .entry)) w ⌝ }
+{
+    let mut left = w;
+    let mut sum = 0u64;
+    let mut i = 0;
+    while i < powers.len() {
+        sum = sum ^ left % 2 * powers[i];
+        left = left / 2;
+        i += 1;
+    }
+    sum
+}
+
+// Puts for each word the XOR of the powers whose bit in it is 1.
+fn power_words(powers: &[u64], words: &mut [u64])
+    ensures { λ _. ⌜ now (words .exit) ≡ map (fromPowers (now (powers .entry))) (now (words .entry)) ⌝ }
+{
+    let mut c = 0;
+    while c < words.len() {
+        words[c] = from_powers(powers, words[c]);
+        c += 1;
+    }
+}
+
+// Writes the columns of a set over the end of the list. It goes from the last slice to the first, and makes the columns of a slice
+// from the spread words of its unknown cells by the powers of the register.
+fn fill_sparse(
+    set: &[u8],
+    m: u64,
+    taps: u64,
+    spread: [u64; 256],
+    n: u64,
+    s: u64,
+    columns: &mut [u64],
+)
+    requires { ⌜ badSpread (min m 64) (take (min n 256) spread) ≡ false ⌝ }
+    ensures { λ _. ⌜ now (columns .exit) ≡ back (columnsBelow (circuit (min m 64) taps (take n spread)) (min s 512) (markCells (min n 256) (now (set .entry))) (min s 512)) (now (columns .entry)) ⌝ }
+{
+    let width = width_limit(m) as usize;
+    let chains = chain_limit(n);
+    let slices = slice_limit(s);
+    let table = powers(m, taps);
+    let mut place = columns.len();
+    let mut t = slices;
+    while 0 < t {
+        t -= 1;
+        let start = list_row(
+            &mut columns[..place],
+            &spread[..chains],
+            mark_row(set, chains, t),
+        );
+        let from = slices - 1 - t;
+        let to = from + width;
+        power_words(&table[from..to], &mut columns[start..place]);
+        place = start;
+    }
+}
+
+// Writes the columns of a set that the reader has taken over the end of the list: it answered with these m, tap word, spread
+// words, n and s. A few columns are made one by one; for many, all the chains' words are advanced together. It meets no number;
+// where the list is shorter than the columns, the first of them are lost.
+pub fn fill_columns(
+    set: &[u8],
+    m: u64,
+    taps: u64,
+    spread: [u64; 256],
+    n: u64,
+    s: u64,
+    columns: &mut [u64],
+)
+    ensures { λ _. ⌜ now (columns .exit) ≡ back (columnsBelow (circuit (min m 64) taps (take n spread)) (min s 512) (markCells (min n 256) (now (set .entry))) (min s 512)) (now (columns .entry)) ⌝ }
+{
+    let chains = chain_limit(n);
+    if 512 < columns.len() {
+        fill_swept(set, m, taps, spread, n, s, columns);
+        return;
+    }
+    if register::is_bad_spread(width_limit(m), &spread[..chains]) {
+        fill_swept(set, m, taps, spread, n, s, columns);
+        return;
+    }
+    fill_sparse(set, m, taps, spread, n, s, columns);
 }
 
 // The signature of a record: all its cells as recorded, those of unknown cells too. It meets the set's 1 to 10, then 12 and 13.

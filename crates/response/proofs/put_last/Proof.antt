@@ -1,16 +1,12 @@
--- `put_last` meets its contract, by the digit and by whether the list has a place.
-use Rattle.response.proofs.PlaceLaws.{put-none, put-full, put-one}
+-- `put_last` meets its contract, by whether the list has a place.
+use mathlib.Core.Path.{refl}
+use Rattle.response.proofs.PlaceLaws.{put-full, put-one}
 use borrow.Author.Needs.{needs}
 use Rattle.response.proofs.put_last.Statement.{statement}
 use Rattle.response.proofs.put_last.Tie as tie
 
 returns : tie.Need-returns
-returns c = put-none (c .before .args .columns .now) (c .before .args .digit) (c .before .args .word) (c .if1 .taken)
-
-returns-2 : tie.Need-returns-2
-returns-2 c =
-    put-full (c .before .before .args .columns .now) (c .before .before .args .digit) (c .before .before .args .word)
-    (c .before .if1 .left) (c .if2 .taken)
+returns c = put-full (c .before .args .columns .now) (c .before .args .word) (c .if1 .taken)
 
 sub-columns : tie.Need-sub-columns
 sub-columns c = search needs
@@ -27,20 +23,8 @@ sub-result c = search needs
 same-length : tie.Need-same-length
 same-length c = search needs
 
-returns-3 : tie.Need-returns-3
-returns-3 c =
-    put-one (c .before .before .args .columns .now) (c .before .before .args .digit) (c .before .before .args .word)
-    (c .before .if1 .left) (c .if2 .left)
+returns-2 : tie.Need-returns-2
+returns-2 c = (refl, put-one (c .before .args .columns .now) (c .before .args .word) (c .if1 .left))
 
 pub put-last-spec : {M : Type 1} → statement M
-put-last-spec =
-    tie.close
-    (tie.spec
-    returns
-    returns-2
-    sub-columns
-    mul-columns
-    slice-write-columns
-    sub-result
-    same-length
-    returns-3)
+put-last-spec = tie.close (tie.spec returns sub-columns mul-columns slice-write-columns sub-result same-length returns-2)
