@@ -204,6 +204,9 @@ fn list_word(columns: &mut [u64], words: &[u64], marks: u64) -> usize
     ensures { λ r. ⌜ r ≡ length (now (columns .entry)) - length (chosenWords (now (words .entry)) (bits marks) 64) ⌝ }
     ensures { λ _. ⌜ now (columns .exit) ≡ back (chosenWords (now (words .entry)) (bits marks) 64) (now (columns .entry)) ⌝ }
 {
+    if marks == 0 {
+        return columns.len();
+    }
     if columns.len() < u64::count_ones(marks) as usize {
         return list_from_last(columns, words, marks);
     }
