@@ -2,7 +2,7 @@
 use mathlib.Core.Path.{_≡_, refl, sym, ap, ap₂, _∙_}
 use mathlib.Core.Logic.{dite}
 use mathlib.Core.List.{List, [], _++_, append-assoc, append-nil}
-use Prim.Native.Nat.{ℕ, zero, suc, _+_, _-_, _≤_}
+use Prim.Native.Nat.{ℕ, zero, suc, _+_, _-_, _≤_, _<_}
 use native.Mathlib.Nat.{add-zero, add-suc}
 use native.Mathlib.Decide.{decLe}
 use native.Mathlib.Omega.{arith}
@@ -125,3 +125,13 @@ unfolding joined
 joined-stops f c zero h = ap (joined f) (add-zero c)
 joined-stops f c (suc j) h =
     ap (joined f) (add-suc c j) ∙ ap₂ (λ (l r : List ℕ). l ++ r) (joined-stops f c j h) (h (c + j) (omega arith)) ∙ append-nil (joined f c)
+
+pub joined-none : (f : ℕ → List ℕ) (n : ℕ) → ((d : ℕ) → d < n → f d ≡ []) → joined f n ≡ []
+unfolding joined
+joined-none f zero h = refl
+joined-none f (suc n) h = ap₂ (λ (l r : List ℕ). l ++ r) (joined-none f n (λ d l. h d (omega arith))) (h n (omega arith))
+
+pub rest-ext : (f g : ℕ → List ℕ) (c j : ℕ) → ((d : ℕ) → c ≤ d → f d ≡ g d) → rest f c j ≡ rest g c j
+unfolding rest
+rest-ext f g c zero h = refl
+rest-ext f g c (suc j) h = ap₂ (λ (l r : List ℕ). l ++ r) (h c (omega arith)) (rest-ext f g (suc c) j (λ d l. h d (omega arith)))

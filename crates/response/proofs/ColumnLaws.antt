@@ -104,7 +104,7 @@ column-lt k s t c ht hw = signature-lt k (onlyCell t c) s ht hw
 
 -- ---- how many columns
 
-length-listed : (d w : ℕ) → d < 2 → length (listed d w) ≡ d
+pub length-listed : (d w : ℕ) → d < 2 → length (listed d w) ≡ d
 length-listed zero w h = refl
 length-listed (suc zero) w h = refl
 length-listed (suc (suc d)) w h = let z : ⊥ = omega arith in absurd z

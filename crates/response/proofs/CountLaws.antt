@@ -16,8 +16,7 @@ use Rattle.register.proofs.Laws.{cell-lt}
 use Rattle.response.specs.Columns.{total}
 use Rattle.response.specs.Code.{markCells, marksBelow}
 use Rattle.set_file.specs.Layout.{markAt}
-use Rattle.response.proofs.ListLaws.{cell-clear}
-use Rattle.response.proofs.DigitLaws.{word-cell}
+use Rattle.response.proofs.DigitLaws.{word-cell, cell-clear}
 
 -- ---- sums
 

@@ -1,29 +1,30 @@
--- The words of the marked chains of one row, written from the end: the start, the turn and the end of the loop over the bits of a
--- word of 64 marks, and of the loop over the row's words. Assumes nothing.
+-- The words of the marked chains of one row, written over a list's end: the start, the turn and the end of each loop over the bits
+-- of a word of 64 marks, from the last chain on and from the first, and of the loop over the row's words. Assumes nothing.
 use mathlib.Core.Path.{_≡_, refl, sym, ap, ap₂, subst, _∙_}
 use mathlib.Core.Logic.{dite}
 use mathlib.Core.List.{List, [], _∷_, _++_, append-assoc, append-nil}
 use Prim.Native.Nat.{ℕ, zero, suc, _+_, _-_, _*_, _/_, _%_, _^_, _≤_, _<_, min}
-use native.Mathlib.Nat.{mod-lt, one-mul, div-eq-of-lt-le, pow-suc, lt-of-lt-of-le, pos-of-ne-zero, mod-eq-of-lt}
+use native.Mathlib.Nat.{mod-lt, one-mul, div-eq-of-lt-le, pow-suc, pos-of-ne-zero}
+use native.Mathlib.Numerals.{add-one}
 use native.Mathlib.Decide.{decLe}
 use native.Mathlib.Omega.{arith}
 use lib.Bits.{bitAnd, and-mask}
-use lib.Count.{leadingZeros, leading-top}
-use lib.ListN.{length, take, drop, getD, length-append, length-drop, take-append-drop}
-use lib.Pow.{pow-pos, shr-le, shl-exact, low}
-use lib.Seq.{take-all, take-length, drop-length, length-take-le, length-front, take-append-le, drop-append-le, getD-drop}
+use lib.Count.{ones, leadingZeros, leading-top}
+use lib.ListN.{length, take, drop, getD, set, length-set, length-append, length-drop, take-append-drop}
+use lib.Pow.{pow-pos, shl-exact, low}
+use lib.Seq.{take-suc-set, append-snoc, take-all, take-length, drop-length, length-take-le, length-front, take-append-le, drop-append-le, getD-drop}
 use Rattle.word.specs.Word.{digit, lowMask, highestBit}
 use Rattle.word.specs.Bytes.{wordAt}
 use Rattle.word.specs.Joined.{joined}
+use Rattle.word.proofs.Laws.{mod2-lt}
 use Rattle.word.proofs.JoinLaws.{joined-ext}
 use Rattle.register.specs.Row.{cell}
-use Rattle.response.specs.Columns.{listed}
+use Rattle.response.specs.Columns.{listed, total}
 use Rattle.response.specs.Code.{bits, chosenWords, back}
-use Rattle.response.proofs.BackLaws.{rest, rest-none, rest-whole, rest-add, rest-joined, joined-stops, back-none, back-length, back-more, back-more-room}
-use Rattle.response.proofs.DigitLaws.{digit-mod, digit-past, word-cell}
-
-pub cell-clear : (row : List ℕ) (c : ℕ) → getD row (c / 8) 0 ≡ 0 → cell row c ≡ 0
-cell-clear row c e = omega (arith, shr-le (getD row (c / 8) 0) (c % 8))
+use Rattle.response.proofs.BackLaws.{rest, joined-rest, joined-none, rest-ext, rest-none, rest-whole, rest-add, rest-joined, joined-stops, back-fits, back-none, back-length, back-more, back-more-room}
+use Rattle.response.proofs.DigitLaws.{digit-mod, digit-past, word-cell, Lowest, below-lowest, above-lowest, lowest-gone}
+use Rattle.response.proofs.CountLaws.{total-digits}
+use Rattle.response.proofs.ColumnLaws.{length-listed}
 
 -- ---- the marks of 64 chains
 
@@ -52,6 +53,12 @@ highest-tops w k n h e =
 
 pub top-power : (w k : ℕ) → Topped w k → (1 * 2 ^ k) % 18446744073709551616 ≡ 2 ^ k
 top-power w k t = let p : k < 64 = t .place in shl-exact {a = 1} 1 k 64 (omega arith) (omega arith) ∙ one-mul (2 ^ k)
+
+length-chosen : (ws : List ℕ) (x : ℕ → ℕ) (n : ℕ) → ((d : ℕ) → x d < 2) → length (chosenWords ws x n) ≡ total n x
+unfolding joined total
+length-chosen ws x zero h = refl
+length-chosen ws x (suc n) h =
+    length-append (chosenWords ws x n) (listed (x n) (getD ws n 0)) ∙ ap₂ _+_ (length-chosen ws x n h) (length-listed (x n) (getD ws n 0) (h n))
 
 module _ (ws : List ℕ) where
   abbrev marked : ℕ → ℕ → List ℕ
@@ -99,7 +106,79 @@ module _ (ws : List ℕ) where
       (λ d l. ap (λ (x : ℕ). listed x (getD ws d 0)) (ap (digit d) (sym less) ∙ digit-mod k w d l))))
       one
 
-  -- what the loop knows: written over the end of the first `place` places, the words of the bits that are left make the list
+  -- the lowest bit chooses the first word
+  words-of-low : (w k : ℕ) → Lowest w k → wordsOf w ≡ getD ws k 0 ∷ wordsOf (bitAnd w (w - 1))
+  unfolding wordsOf
+  words-of-low w k t =
+      let p : k < 64 = t .place in
+      let whole : suc k + (63 - k) ≡ 64 = omega arith in
+      let before : joined (marked w) k ≡ [] = joined-none (marked w) k (λ d l. ap (λ (x : ℕ). listed x (getD ws d 0)) (below-lowest w k t d l)) in
+      let gone : joined (marked (bitAnd w (w - 1))) (suc k) ≡ [] =
+      joined-none (marked (bitAnd w (w - 1))) (suc k) (λ d l. ap (λ (x : ℕ). listed x (getD ws d 0)) (lowest-gone w k t d l)) in
+      sym (joined-rest (marked w) (suc k) (63 - k) ∙ ap (joined (marked w)) whole)
+      ∙ ap₂ (λ (x y : List ℕ). x ++ y)
+      (marked-last w k ∙ ap₂ (λ (x : List ℕ) (d : ℕ). x ++ listed d (getD ws k 0)) before (t .one))
+      (rest-ext (marked w) (marked (bitAnd w (w - 1))) (suc k) (63 - k)
+      (λ d l. ap (λ (x : ℕ). listed x (getD ws d 0)) (sym (above-lowest w k t d l))))
+      ∙ ap (λ (x : List ℕ). getD ws k 0 ∷ x)
+      (sym (ap (λ (x : List ℕ). x ++ rest (marked (bitAnd w (w - 1))) (suc k) (63 - k)) gone)
+      ∙ joined-rest (marked (bitAnd w (w - 1))) (suc k) (63 - k) ∙ ap (joined (marked (bitAnd w (w - 1)))) whole)
+
+  words-of-length : (w : ℕ) → w < 2 ^ 64 → length (wordsOf w) ≡ ones w
+  unfolding wordsOf
+  words-of-length w h = length-chosen ws (bits w) 64 (λ d. mod2-lt (w / 2 ^ d)) ∙ total-digits 64 w h
+
+  -- what the loop from the first chain on knows: with the words of the bits that are left, the first `place` places make the list
+  pub Putting : ℕ → List ℕ → List ℕ → ℕ → ℕ → Type 0
+  Putting marks l₀ l place left =
+      (length l ≡ length l₀) × (place + length (wordsOf left) ≡ length l₀) × (take place l ++ wordsOf left ≡ back (wordsOf marks) l₀)
+
+  pub putting-starts : (marks : ℕ) (l : List ℕ) (start : ℕ) → marks < 2 ^ 64 → ones marks ≤ length l → start ≡ length l - ones marks
+      → Putting marks l l start marks
+  unfolding Putting
+  putting-starts marks l start h m e =
+      let long : length (wordsOf marks) ≡ ones marks = words-of-length marks h in
+      let begin : start ≡ length l - length (wordsOf marks) = omega arith in (
+        refl,
+        omega arith,
+        ap (λ (i : ℕ). take i l ++ wordsOf marks) begin ∙ sym (back-fits (wordsOf marks) l (omega arith)),
+      )
+
+  pub putting-place : (marks : ℕ) (l : List ℕ) (start : ℕ) → marks < 2 ^ 64 → start ≡ length l - ones marks
+      → start ≡ length l - length (chosenWords ws (bits marks) 64)
+  putting-place marks l start h e = e ∙ ap (λ (x : ℕ). length l - x) (sym (words-of-length marks h) ∙ ap length (words-of marks))
+
+  pub putting-room : (marks : ℕ) (l₀ l : List ℕ) (place left low : ℕ) → Putting marks l₀ l place left → Lowest left low → place < length l
+  unfolding Putting
+  putting-room marks l₀ l place left low p t = omega (arith, p .0, p .1, ap length (words-of-low left low t))
+
+  pub putting-long : (marks : ℕ) (l₀ l : List ℕ) (place left : ℕ) → Putting marks l₀ l place left → length l ≡ length l₀
+  unfolding Putting
+  putting-long marks l₀ l place left p = p .0
+
+  pub putting-turns : (marks : ℕ) (l₀ l : List ℕ) (place left low w : ℕ) → Putting marks l₀ l place left → Lowest left low → w ≡ getD ws low 0
+      → Putting marks l₀ (set l place w) (place + 1) (bitAnd left (left - 1))
+  unfolding Putting
+  putting-turns marks l₀ l place left low w p t ew =
+      let words : wordsOf left ≡ w ∷ wordsOf (bitAnd left (left - 1)) =
+      words-of-low left low t ∙ ap (λ (x : ℕ). x ∷ wordsOf (bitAnd left (left - 1))) (sym ew) in
+      let room : place < length l = omega (arith, p .0, p .1, ap length words) in (
+        length-set l place w ∙ p .0,
+        omega (arith, p .1, ap length words),
+        ap (λ (i : ℕ). take i (set l place w) ++ wordsOf (bitAnd left (left - 1))) (add-one place)
+            ∙ ap (λ (x : List ℕ). x ++ wordsOf (bitAnd left (left - 1))) (take-suc-set l place w room)
+            ∙ append-snoc (take place l) w (wordsOf (bitAnd left (left - 1))) ∙ ap (λ (x : List ℕ). take place l ++ x) (sym words) ∙ p .2,
+      )
+
+  pub putting-ends : (marks : ℕ) (l₀ l : List ℕ) (place left : ℕ) → Putting marks l₀ l place left → left ≡ 0
+      → l ≡ back (chosenWords ws (bits marks) 64) l₀
+  unfolding Putting
+  putting-ends marks l₀ l place left p e =
+      let none : wordsOf left ≡ [] = ap wordsOf e ∙ words-of-none in
+      let all : length l ≤ place = omega (arith, p .0, p .1, ap length none) in
+      sym (ap₂ (λ (x y : List ℕ). x ++ y) (take-all place l all) none ∙ append-nil l) ∙ p .2 ∙ ap (λ (x : List ℕ). back x l₀) (words-of marks)
+
+  -- what the loop from the last chain on knows: written over the end of the first `place` places, the words of the bits that are left make the list
   pub Taking : ℕ → List ℕ → List ℕ → ℕ → ℕ → Type 0
   Taking marks l₀ l place left =
       (place ≤ length l)

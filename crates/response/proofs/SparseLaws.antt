@@ -3,12 +3,11 @@
 use mathlib.Core.Path.{_≡_, refl, sym, ap, ap₂, _∙_}
 use mathlib.Core.Bool.{false}
 use mathlib.Core.List.{List, [], _∷_, _++_, map, map-append, append-assoc}
-use Prim.Native.Nat.{ℕ, zero, suc, _+_, _-_, _^_, _≤_, _<_, min}
+use Prim.Native.Nat.{ℕ, zero, suc, _+_, _-_, _≤_, _<_}
 use native.Mathlib.Omega.{arith}
 use lib.ListN.{length, take, drop, getD, length-map, length-drop, length-take}
-use lib.Seq.{drop-drop, take-at, drop-at, take-append-le, drop-append-le, take-all, length-take-le, take-take}
+use lib.Seq.{drop-drop, take-at, drop-at, take-append-le, drop-append-le, length-take-le}
 use Rattle.word.specs.Joined.{joined}
-use Rattle.word.proofs.PartLaws.{take-limit}
 use Rattle.register.specs.Row.{cell}
 use Rattle.register.specs.Circuit.{Circuit, badSpread}
 use Rattle.register.proofs.Laws.{good-spread}

@@ -4,6 +4,7 @@ ghost use mathlib.Core.Bool.{false};
 ghost use mathlib.Core.List.{[], _∷_, map};
 ghost use Prim.Native.Nat.{ℕ, min, _-_, _≤_, _<_};
 ghost use lib.Bits.{bitXor};
+ghost use lib.Count.{ones};
 ghost use lib.ListN.{length, take, drop, getD, replicate};
 ghost use Rattle.register.specs.Row.{cell, rowBytes};
 ghost use Rattle.register.specs.Circuit.{advanced, badSpread};
@@ -165,8 +166,8 @@ fn put_last(columns: &mut [u64], word: u64) -> usize
 }
 
 // Writes the words of the chains whose bit in `marks` is 1 over the list's end, from the last chain on, and answers with how many
-// places stand before them.
-fn list_word(columns: &mut [u64], words: &[u64], marks: u64) -> usize
+// places stand before them. The list may be too short for them.
+fn list_from_last(columns: &mut [u64], words: &[u64], marks: u64) -> usize
     ensures { λ r. ⌜ r ≡ length (now (columns .entry)) - length (chosenWords (now (words .entry)) (bits marks) 64) ⌝ }
     ensures { λ _. ⌜ now (columns .exit) ≡ back (chosenWords (now (words .entry)) (bits marks) 64) (now (columns .entry)) ⌝ }
 {
@@ -178,6 +179,38 @@ fn list_word(columns: &mut [u64], words: &[u64], marks: u64) -> usize
         left -= 1u64 << top;
     }
     place
+}
+
+// The same for a list that is long enough, from the first chain on: the next bit then doesn't wait for the one before it.
+fn list_from_first(columns: &mut [u64], words: &[u64], marks: u64) -> usize
+    requires { ⌜ ones marks ≤ length (now columns) ⌝ }
+    ensures { λ r. ⌜ r ≡ length (now (columns .entry)) - length (chosenWords (now (words .entry)) (bits marks) 64) ⌝ }
+    ensures { λ _. ⌜ now (columns .exit) ≡ back (chosenWords (now (words .entry)) (bits marks) 64) (now (columns .entry)) ⌝ }
+{
+    let start = columns.len() - u64::count_ones(marks) as usize;
+    let mut place = start;
+    let mut left = marks;
+    while left != 0 {
+        let low = u64::trailing_zeros(left) as usize;
+        columns[place] = word_at(words, low);
+        left = left & (left - 1);
+        place += 1;
+    }
+    start
+}
+
+// Writes the words of the chains whose bit in `marks` is 1 over the list's end, and answers with how many places stand before them.
+fn list_word(columns: &mut [u64], words: &[u64], marks: u64) -> usize
+    ensures { λ r. ⌜ r ≡ length (now (columns .entry)) - length (chosenWords (now (words .entry)) (bits marks) 64) ⌝ }
+    ensures { λ _. ⌜ now (columns .exit) ≡ back (chosenWords (now (words .entry)) (bits marks) 64) (now (columns .entry)) ⌝ }
+{
+    if marks == 0 {
+        return columns.len();
+    }
+    if columns.len() < u64::count_ones(marks) as usize {
+        return list_from_last(columns, words, marks);
+    }
+    list_from_first(columns, words, marks)
 }
 
 // Writes the words of the chains whose cell in the row is 1 over the list's end, and answers with how many places stand before
@@ -380,11 +413,8 @@ fn fill_sparse(
     let mut t = slices;
     while 0 < t {
         t -= 1;
-        let start = list_row(
-            &mut columns[..place],
-            &spread[..chains],
-            mark_row(set, chains, t),
-        );
+        let row = mark_row(set, chains, t);
+        let start = list_row(&mut columns[..place], &spread[..chains], row);
         let from = slices - 1 - t;
         let to = from + width;
         power_words(&table[from..to], &mut columns[start..place]);

@@ -40,6 +40,9 @@ loop-holds c = (search needs, search needs, sparse-starts _ _ _ _ _ refl)
 sub-t : tie.Need-sub-t Inv-loop μ-loop
 sub-t c = search needs
 
+mark-row-requires : tie.Need-mark-row-requires Inv-loop μ-loop
+mark-row-requires c κs = search needs
+
 slice-relend-prefix-list-row : tie.Need-slice-relend-prefix-list-row Inv-loop μ-loop
 slice-relend-prefix-list-row c = search needs
 
@@ -51,9 +54,6 @@ array-share-prefix-spread c = search needs
 
 slice-aggregate-list-row-2 : tie.Need-slice-aggregate-list-row-2 Inv-loop μ-loop
 slice-aggregate-list-row-2 c = sym (length-take-le _ _ (search needs))
-
-mark-row-requires : tie.Need-mark-row-requires Inv-loop μ-loop
-mark-row-requires c κs = search needs
 
 list-row-requires : tie.Need-list-row-requires Inv-loop μ-loop
 list-row-requires c κs = search needs
@@ -111,8 +111,8 @@ loop-again c =
     let args = c .before .before .before .before .before .before .before .before .before .before .before .before .before .before .before .before .before .before .before .before .args in
     let k =
     sparse-steps (min (args .m) 64) (args .taps) (take (c .before .before .before .before .before .before .before .before .before .before .before .before .before .before .before .before .chain-limit .result) (args .t4)) (c .before .before .before .before .before .before .before .before .before .before .before .before .before .before .before .slice-limit .result) (markCells (c .before .before .before .before .before .before .before .before .before .before .before .before .before .before .before .before .chain-limit .result) (args .set .now))
-    (c .before .before .before .before .before .before .before .before .before .before .before .before .before .before .powers .result) (search needs) (c .before .before .before .before .before .before .before .before .before .before .before .before .before .before .powers .ensures) (ap (λ (x : ℕ). badSpread (min (args .m) 64) (take x (args .t4))) (c .before .before .before .before .before .before .before .before .before .before .before .before .before .before .before .before .chain-limit .ensures) ∙ c .before .before .before .before .before .before .before .before .before .before .before .before .before .before .before .before .before .before .before .before .pre) _ _ _ _ _ (c .before .before .before .before .before .before .before .before .before .mark-row .result .now) _ _ _ _ (omega arith) (omega arith) (c .before .before .before .before .before .before .before .before .before .before .before .before .loop-test .taken) (c .before .before .before .before .before .before .before .before .before .before .before .before .before .before .before .before .before .width-limit .ensures) (at .inv .2)
-    (ap cell (c .before .before .before .before .before .before .before .before .before .mark-row .ensures)) (c .before .before .before .before .before .before .before .before .list-row .ensures .0)
+    (c .before .before .before .before .before .before .before .before .before .before .before .before .before .before .powers .result) (search needs) (c .before .before .before .before .before .before .before .before .before .before .before .before .before .before .powers .ensures) (ap (λ (x : ℕ). badSpread (min (args .m) 64) (take x (args .t4))) (c .before .before .before .before .before .before .before .before .before .before .before .before .before .before .before .before .chain-limit .ensures) ∙ c .before .before .before .before .before .before .before .before .before .before .before .before .before .before .before .before .before .before .before .before .pre) _ _ _ _ _ (c .before .before .before .before .before .before .before .before .before .before .before .mark-row .result .now) _ _ _ _ (omega arith) (omega arith) (c .before .before .before .before .before .before .before .before .before .before .before .before .loop-test .taken) (c .before .before .before .before .before .before .before .before .before .before .before .before .before .before .before .before .before .width-limit .ensures) (at .inv .2)
+    (ap cell (c .before .before .before .before .before .before .before .before .before .before .before .mark-row .ensures)) (c .before .before .before .before .before .before .before .before .list-row .ensures .0)
     (ap (λ (x : List ℕ). x ++ drop (at .place) (at .columns)) (c .before .before .before .before .before .before .before .before .list-row .ensures .1))
     (c .before .before .power-words .ensures) refl in
     (search needs, sparse-room _ _ _ _ _ _ _ k .1, k)
@@ -137,11 +137,11 @@ fill-sparse-spec =
     powers-requires
     loop-holds
     sub-t
+    mark-row-requires
     slice-relend-prefix-list-row
     slice-aggregate-list-row
     array-share-prefix-spread
     slice-aggregate-list-row-2
-    mark-row-requires
     list-row-requires
     sub-from
     sub-from-2

@@ -1,5 +1,5 @@
 -- `list_row` meets its contract. The loop's invariant: the words of the chains from 64 times `i` on stand at the list's end.
-use mathlib.Core.Path.{refl, sym, ap, _∙_}
+use mathlib.Core.Path.{refl, sym, ap}
 use mathlib.Core.List.{List, _++_}
 use Prim.Native.Nat.{ℕ, _+_, _-_, _*_, _≤_, _<_}
 use native.Mathlib.Omega.{arith}

@@ -1,5 +1,5 @@
 -- `powers` meets its contract. The loop's invariant: the first `i` words are the powers, and `power` is the next.
-use mathlib.Core.Path.{_≡_, refl, ap, _∙_}
+use mathlib.Core.Path.{_≡_, ap, _∙_}
 use mathlib.Core.List.{[]}
 use Prim.Native.Nat.{ℕ, _-_, _≤_, min}
 use native.Mathlib.Omega.{arith}
