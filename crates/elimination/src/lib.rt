@@ -160,8 +160,8 @@ fn skip_even(words: &[u64], columns: &[u64], from: usize) -> usize
 }
 
 // The place of the column to take next, `from` or later: the columns passed over leave the words as they are. It looks for such
-// columns where the last one taken was one, so that there are as many words as before it, and where enough words and columns
-// are left for the table to pay: making it takes as long as some 12,000 parities.
+// columns where the last one taken was one, so that there are as many words as before it, and where so many words and columns
+// are left that the table pays, which takes as long to make as thousands of parities.
 fn next_place(words: &[u64], before: usize, columns: &[u64], from: usize) -> usize
     ensures { λ r. ⌜ (from ≤ r) × (steps (drop r (now (columns .entry))) (now (words .entry)) ≡ steps (drop from (now (columns .entry))) (now (words .entry))) ⌝ }
 {
@@ -178,7 +178,7 @@ fn next_place(words: &[u64], before: usize, columns: &[u64], from: usize) -> usi
     if columns.len() <= from {
         return from;
     }
-    if columns.len() - from < 12288 / count {
+    if (columns.len() - from) / 64 * count < 256 {
         return from;
     }
     skip_even(words, columns, from)

@@ -1,4 +1,8 @@
 -- `next_place` meets its contract: it passes over no column, or over columns that leave the words as they are.
+use Prim.Native.Nat.{_-_, _/_}
+use lib.ListN.{length}
+use native.Mathlib.Nat.{mul-le-mul-left}
+use native.Mathlib.Omega.{arith}
 use Rattle.elimination.proofs.SkipLaws.{next-skipped}
 use borrow.Author.Needs.{needs}
 use Rattle.elimination.proofs.next_place.Statement.{statement}
@@ -22,8 +26,10 @@ returns-4 c = search needs
 sub-if5 : tie.Need-sub-if5
 sub-if5 c = search needs
 
-div-if5 : tie.Need-div-if5
-div-if5 c = search needs
+mul-if5 : tie.Need-mul-if5
+mul-if5 c =
+    let a = c .before .before .before .before .before .before .args in
+    omega (arith, mul-le-mul-left ((length (a .columns .now) - a .from) / 64) (c .before .if3 .left))
 
 returns-5 : tie.Need-returns-5
 returns-5 c = search needs
@@ -43,7 +49,7 @@ next-place-spec =
     returns-3
     returns-4
     sub-if5
-    div-if5
+    mul-if5
     returns-5
     skip-even-requires
     returns-6)
