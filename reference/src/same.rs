@@ -176,16 +176,19 @@ fn count_unknowns(set: &[u8], read: &Read) -> usize {
     found
 }
 
-/// The columns of a row's marked chains over the end of the list; what stands before them.
+/// The words of a row's marked chains over the end of the list; what stands before them.
 fn list_row(columns: &mut [u64], words: &[u64], row: &[u8]) -> usize {
     let mut place = columns.len();
     for i in (0..words.len().div_ceil(64)).rev() {
         let mut marks = marks_word(row, i);
-        while marks != 0 {
-            let top = 63 - marks.leading_zeros() as usize;
-            marks ^= 1 << top;
-            place -= 1;
-            columns[place] = words[64 * i + top];
+        if marks == 0 {
+            continue;
+        }
+        let end = place;
+        place -= marks.count_ones() as usize;
+        for column in &mut columns[place..end] {
+            *column = words[64 * i + marks.trailing_zeros() as usize];
+            marks &= marks - 1;
         }
     }
     place
@@ -217,22 +220,20 @@ fn sparse(set: &[u8], read: &Read, columns: &mut [u64]) {
     }
     let mut place = columns.len();
     for t in (0..read.s).rev() {
-        let row = mark_row(set, read.n, t);
-        let later = &powers[read.s - 1 - t..];
-        for i in (0..read.n.div_ceil(64)).rev() {
-            let mut marks = marks_word(row, i);
-            while marks != 0 {
-                let top = 63 - marks.leading_zeros() as usize;
-                marks ^= 1 << top;
-                let w = read.spread[64 * i + top];
-                let mut column = 0;
-                for (k, p) in later[..m].iter().enumerate() {
-                    column ^= p & (w >> k & 1).wrapping_neg();
-                }
-                place -= 1;
-                columns[place] = column;
-            }
+        let start = list_row(
+            &mut columns[..place],
+            &read.spread[..read.n],
+            mark_row(set, read.n, t),
+        );
+        let later = &powers[read.s - 1 - t..][..m];
+        for column in &mut columns[start..place] {
+            let w = *column;
+            *column = later
+                .iter()
+                .enumerate()
+                .fold(0, |a, (k, p)| a ^ (p & (w >> k & 1).wrapping_neg()));
         }
+        place = start;
     }
 }
 
