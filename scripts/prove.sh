@@ -20,16 +20,16 @@ want() {
 }
 want "$1"
 
+log=$(mktemp)
+trap 'rm -f "$log"' EXIT
 read -r -a names <<<"$wanted"
 left=${#names[@]}
 for name in "${names[@]}"; do
-    printf '%s: %d of %d left to look at\n' "$name" "$left" "${#names[@]}" >&2
-    if ! rt check "$name" >target.log 2>&1; then
-        cat target.log
-        rm -f target.log
+    left=$((left - 1))
+    printf 'proving %s, then %d more\n' "$name" "$left" >&2
+    if ! rt check "$name" >"$log" 2>&1; then
+        cat "$log"
         echo "$name is not proved" >&2
         exit 1
     fi
-    left=$((left - 1))
 done
-rm -f target.log
