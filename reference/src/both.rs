@@ -58,8 +58,8 @@ impl Both {
         );
     }
 
-    /// The set reader.
-    pub fn read_set(&mut self, set: &[u8]) {
+    /// The set reader. This and those below give the number, 0 for an answer, where they give nothing else.
+    pub fn read_set(&mut self, set: &[u8]) -> u64 {
         let [a, ..] = &mut self.fences;
         let lent_set = a.put(set);
         let got = unsafe { canceller_read_set(lent_set.as_ptr(), lent_set.len()) };
@@ -86,10 +86,12 @@ impl Both {
         }
         assert!(same, "read_set, {}: the set was changed", self.at);
         self.same("read_set", got, want);
+        want.refusal
     }
 
     /// Both row calls.
-    pub fn rows(&mut self, set: &[u8], slice: u64) {
+    pub fn rows(&mut self, set: &[u8], slice: u64) -> u64 {
+        let mut number = 0;
         for mark in 0..2 {
             let lent_set = self.fences[0].put(set);
             let got = unsafe {
@@ -111,7 +113,9 @@ impl Both {
                 },
             };
             self.same("row", got, want);
+            number = want.refusal;
         }
+        number
     }
 
     /// The set writer, with an output of `room` bytes.
@@ -169,7 +173,7 @@ impl Both {
     }
 
     /// One clock.
-    pub fn clock(&mut self, m: u64, taps: u64, state: u64, spread: &[u64], row: &[u8]) {
+    pub fn clock(&mut self, m: u64, taps: u64, state: u64, spread: &[u64], row: &[u8]) -> u64 {
         let [a, b, ..] = &mut self.fences;
         let (ls, lr) = (a.put(spread), b.put(row));
         let got = unsafe {
@@ -186,6 +190,7 @@ impl Both {
             },
         };
         self.same("clock", got, want);
+        want.refusal
     }
 
     /// A record's signature.
@@ -212,7 +217,7 @@ impl Both {
     }
 
     /// The columns, with a list of `room` places.
-    pub fn list_columns(&mut self, set: &[u8], room: usize) {
+    pub fn list_columns(&mut self, set: &[u8], room: usize) -> u64 {
         let [a, b, ..] = &mut self.fences;
         let (ls, lc) = (a.put(set), b.put(&vec![PATTERN; room]));
         let got =
@@ -235,10 +240,11 @@ impl Both {
             ),
         };
         self.same("list_columns", (got, left), (pair, list));
+        pair.refusal
     }
 
     /// The elimination, with a list of `room` places.
-    pub fn eliminate(&mut self, m: u64, columns: &[u64], room: usize) {
+    pub fn eliminate(&mut self, m: u64, columns: &[u64], room: usize) -> u64 {
         let [a, b, ..] = &mut self.fences;
         let (lc, lw) = (a.put(columns), b.put(&vec![PATTERN; room]));
         let got =
@@ -265,6 +271,7 @@ impl Both {
             ),
         };
         self.same("eliminate", (got, left), (answer, list));
+        answer.refusal
     }
 
     /// Planning, with lists of these many places. Gives m, the words and the expected bits.
@@ -364,7 +371,7 @@ impl Both {
     }
 
     /// The plan reader, with a list of `room` places.
-    pub fn read_plan(&mut self, plan: &[u8], room: usize) {
+    pub fn read_plan(&mut self, plan: &[u8], room: usize) -> u64 {
         let [a, b, ..] = &mut self.fences;
         let (lp, lw) = (a.put(plan), b.put(&vec![PATTERN; room]));
         let got = unsafe { canceller_read_plan(lp.as_ptr(), lp.len(), lw.as_mut_ptr(), lw.len()) };
@@ -390,6 +397,7 @@ impl Both {
             ),
         };
         self.same("read_plan", (got, left), (answer, words));
+        answer.refusal
     }
 
     /// Judging.

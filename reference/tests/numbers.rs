@@ -1,0 +1,244 @@
+//! Each number that a call can meet, by an input that gives it and nothing earlier, and beside it the input that is right by one.
+
+use reference::both::Both;
+use reference::library::Side;
+use std::path::Path;
+
+fn sample(name: &str) -> Vec<u8> {
+    let path = Path::new(env!("CARGO_MANIFEST_DIR"))
+        .join("../samples")
+        .join(format!("{name}.set"));
+    std::fs::read(&path).unwrap_or_else(|e| panic!("{}: {e}", path.display()))
+}
+
+/// The sets that give 1 to 10.
+const BAD_SETS: [(&str, u64); 12] = [
+    ("empty", 1),
+    ("bytes-9", 1),
+    ("width-0", 2),
+    ("width-65", 2),
+    ("taps-9", 3),
+    ("chains-257", 4),
+    ("spread-short", 5),
+    ("spread-0", 6),
+    ("slices-513", 7),
+    ("rows-short", 8),
+    ("spare-bit", 9),
+    ("valued-unknown", 10),
+];
+
+fn number<T>(reply: Result<T, u64>) -> u64 {
+    reply.err().unwrap_or(0)
+}
+
+#[test]
+fn calls_on_sets() {
+    let mut both = Both::new(Side::End);
+    for (name, n) in BAD_SETS {
+        let set = sample(name);
+        both.at = name.to_string();
+        assert_eq!(both.read_set(&set), n, "{name}");
+        assert_eq!(both.rows(&set, 0), n, "{name}");
+        assert_eq!(number(both.sign(&set, &[])), n, "{name}");
+        assert_eq!(both.list_columns(&set, 9), n, "{name}");
+        assert_eq!(number(both.plan(&set, 9, 9)), n, "{name}");
+    }
+    let set = sample("sample");
+    both.at = "sample".to_string();
+    for (slice, n) in [(0, 0), (1, 0), (2, 11), (u64::MAX, 11)] {
+        assert_eq!(both.rows(&set, slice), n, "slice {slice}");
+    }
+    let records: [(&[u8], u64); 6] = [
+        (&[1, 1], 0),
+        (&[3, 0], 0),
+        (&[1], 12),
+        (&[1, 1, 1], 12),
+        (&[4, 0], 13),
+        (&[0, 0x80], 13),
+    ];
+    for (record, n) in records {
+        assert_eq!(number(both.sign(&set, record)), n, "record {record:?}");
+    }
+    assert_eq!(both.list_columns(&set, 1), 0);
+    assert_eq!(both.list_columns(&set, 0), 14);
+    assert_eq!(number(both.plan(&set, 1, 2)), 0);
+    assert_eq!(number(both.plan(&set, 0, 2)), 14);
+    assert_eq!(number(both.plan(&set, 1, 1)), 18);
+    assert_eq!(number(both.plan(&sample("no-words"), 1, 0)), 17);
+    for (name, n) in [
+        ("chains-256", 0),
+        ("slices-0", 0),
+        ("width-1", 0),
+        ("width-64", 0),
+        ("largest", 0),
+        ("too-long", 8),
+    ] {
+        assert_eq!(both.read_set(&sample(name)), n, "{name}");
+    }
+}
+
+#[test]
+fn the_set_writer() {
+    let mut both = Both::new(Side::End);
+    let mut write = |m: u64,
+                     taps: u64,
+                     spread: &[u64],
+                     values: &[u8],
+                     marks: &[u8],
+                     s: u64,
+                     room: usize,
+                     n: u64| {
+        both.at = format!("{m} {taps} {spread:?} {values:?} {marks:?} {s} {room}");
+        assert_eq!(
+            number(both.write_set(m, taps, spread, values, marks, s, room)),
+            n,
+            "{}",
+            both.at
+        );
+    };
+    write(3, 3, &[1, 4], &[1, 1], &[2, 0], 2, 34, 0);
+    write(0, 3, &[1, 4], &[1, 1], &[2, 0], 2, 34, 2);
+    write(65, 3, &[1, 4], &[1, 1], &[2, 0], 2, 34, 2);
+    write(3, 2, &[1, 4], &[1, 1], &[2, 0], 2, 34, 3);
+    write(3, 9, &[1, 4], &[1, 1], &[2, 0], 2, 34, 3);
+    write(3, 3, &[], &[], &[], 0, 34, 4);
+    write(3, 3, &[1; 256], &[], &[], 0, 3_000, 0);
+    write(3, 3, &[1; 257], &[], &[], 0, 3_000, 4);
+    write(3, 3, &[1, 0], &[1, 1], &[2, 0], 2, 34, 6);
+    write(3, 3, &[1, 8], &[1, 1], &[2, 0], 2, 34, 6);
+    write(3, 3, &[1, 4], &[0; 512], &[0; 512], 512, 2_000, 0);
+    write(3, 3, &[1, 4], &[0; 513], &[0; 513], 513, 2_000, 7);
+    write(3, 3, &[1, 4], &[1], &[2, 0], 2, 34, 8);
+    write(3, 3, &[1, 4], &[1, 1], &[2, 0, 0], 2, 34, 8);
+    write(3, 3, &[1, 4], &[1, 4], &[2, 0], 2, 34, 9);
+    write(3, 3, &[1, 4], &[1, 1], &[2, 0x80], 2, 34, 9);
+    write(3, 3, &[1, 4], &[3, 1], &[2, 0], 2, 34, 10);
+    write(3, 3, &[1, 4], &[1, 1], &[2, 0], 2, 33, 24);
+}
+
+#[test]
+fn the_clock() {
+    let mut both = Both::new(Side::End);
+    let mut clock = |m: u64, taps: u64, state: u64, spread: &[u64], row: &[u8], n: u64| {
+        both.at = format!("{m} {taps} {state} {spread:?} {row:?}");
+        assert_eq!(both.clock(m, taps, state, spread, row), n, "{}", both.at);
+    };
+    clock(3, 3, 7, &[1, 4], &[3], 0);
+    clock(0, 3, 7, &[1, 4], &[3], 2);
+    clock(65, 3, 7, &[1, 4], &[3], 2);
+    clock(3, 9, 7, &[1, 4], &[3], 3);
+    clock(3, 3, 7, &[], &[], 4);
+    clock(3, 3, 7, &[1; 257], &[0; 33], 4);
+    clock(3, 3, 7, &[1; 256], &[0; 32], 0);
+    clock(3, 3, 7, &[1, 8], &[3], 6);
+    clock(3, 3, 7, &[1, 4], &[3, 0], 8);
+    clock(3, 3, 7, &[1, 4], &[], 8);
+    clock(3, 3, 7, &[1, 4], &[4], 9);
+    clock(3, 3, 8, &[1, 4], &[3], 23);
+}
+
+#[test]
+fn the_elimination() {
+    let mut both = Both::new(Side::End);
+    let lines: [(u64, &[u64], usize, u64); 10] = [
+        (2, &[0], 2, 0),
+        (0, &[], 2, 2),
+        (65, &[], 65, 2),
+        (64, &[], 64, 0),
+        (2, &[3], 2, 0),
+        (2, &[4], 2, 15),
+        (1, &[1], 1, 17),
+        (2, &[1, 2, 3], 2, 17),
+        (2, &[3], 0, 18),
+        (2, &[3, 3, 3], 1, 0),
+    ];
+    for (m, columns, room, n) in lines {
+        both.at = format!("m {m}, {columns:?}, {room} places");
+        assert_eq!(both.eliminate(m, columns, room), n, "{}", both.at);
+    }
+}
+
+/// The sample's plan: m 3, words 3 and 4, expected bits 0.
+const PLAN: [u8; 23] = [
+    3, 0, 2, 0, 3, 0, 0, 0, 0, 0, 0, 0, 4, 0, 0, 0, 0, 0, 0, 0, 2, 0, 0,
+];
+
+#[test]
+fn calls_on_plans() {
+    let mut both = Both::new(Side::End);
+    let changed = |at: usize, byte: u8| {
+        let mut plan = PLAN.to_vec();
+        plan[at] = byte;
+        plan
+    };
+    let mut long = PLAN.to_vec();
+    long.push(0);
+    let plans = [
+        (PLAN.to_vec(), 0, "as it is"),
+        (vec![], 19, "empty"),
+        (vec![3], 19, "one byte"),
+        (changed(0, 0), 19, "m 0"),
+        (changed(0, 65), 19, "m 65"),
+        (PLAN[..3].to_vec(), 20, "cut in the count"),
+        (changed(2, 0), 20, "a count of 0"),
+        (changed(2, 4), 20, "a count above m"),
+        (PLAN[..19].to_vec(), 20, "cut in the last word"),
+        (changed(4, 7), 21, "highest bits that clash"),
+        (changed(4, 5), 21, "words that do not ascend"),
+        (changed(12, 12), 21, "a word beyond m"),
+        (changed(4, 0), 21, "a word 0"),
+        (PLAN[..20].to_vec(), 22, "no second count"),
+        (PLAN[..21].to_vec(), 22, "cut in the second count"),
+        (changed(20, 1), 22, "counts that disagree"),
+        (PLAN[..22].to_vec(), 22, "no expected bits"),
+        (long, 22, "one byte more"),
+        (changed(22, 4), 22, "a spare bit"),
+        (changed(22, 3), 0, "both expected bits 1"),
+    ];
+    for (plan, n, what) in plans {
+        both.at = what.to_string();
+        assert_eq!(number(both.judge(&plan, 0)), n, "{what}");
+        assert_eq!(both.read_plan(&plan, 2), n, "{what}");
+        // 18 comes after 22
+        assert_eq!(
+            both.read_plan(&plan, 1),
+            if n == 0 { 18 } else { n },
+            "{what}"
+        );
+        // 22 comes before 23
+        assert_eq!(
+            number(both.judge(&plan, 8)),
+            if n == 0 { 23 } else { n },
+            "{what}"
+        );
+    }
+    assert_eq!(number(both.judge(&PLAN, 7)), 0);
+}
+
+#[test]
+fn the_plan_writer() {
+    let mut both = Both::new(Side::End);
+    let lines: [(u64, &[u64], u64, usize, u64); 12] = [
+        (3, &[3, 4], 0, 23, 0),
+        (0, &[3, 4], 0, 23, 19),
+        (65, &[3, 4], 0, 23, 19),
+        (3, &[], 0, 23, 20),
+        (1, &[1, 2], 0, 23, 20),
+        (2, &[1, 2], 0, 23, 0),
+        (3, &[4, 3], 0, 23, 21),
+        (3, &[3, 8], 0, 23, 21),
+        (3, &[3, 6], 0, 23, 21),
+        (3, &[3, 4], 3, 23, 0),
+        (3, &[3, 4], 4, 23, 22),
+        (3, &[3, 4], 3, 22, 24),
+    ];
+    for (m, words, expected, room, n) in lines {
+        both.at = format!("{m} {words:?} {expected} {room}");
+        assert_eq!(
+            number(both.write_plan(m, words, expected, room)),
+            n,
+            "{}",
+            both.at
+        );
+    }
+}
