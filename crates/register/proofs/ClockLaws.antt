@@ -4,14 +4,13 @@ use mathlib.Core.Bool.{false}
 use mathlib.Core.List.{List}
 use Prim.Native.Nat.{ℕ, _+_, _-_, _*_, _%_, _^_, min}
 use native.Mathlib.Omega.{arith}
-use borrow.Author.Tests.{eq-eqb}
 use lib.Bits.{bitAnd, bitXor, and-mask}
 use lib.ListN.{length}
 use lib.Pow.{mod-mod-pow}
-use Rattle.word.specs.Word.{digit, lowMask, beyond, badWidth}
+use Rattle.word.specs.Word.{digit, lowMask, badWidth}
 use Rattle.word.specs.Reply.{answer, refusal, replied, firstOf}
-use Rattle.register.specs.Row.{cell, rowBytes, spareSet}
-use Rattle.register.specs.Circuit.{chosen, advanced, driven, clocked, badTaps, badChains, badSpread}
+use Rattle.register.specs.Row.{cell}
+use Rattle.register.specs.Circuit.{chosen, advanced, driven, clocked}
 use Rattle.register.specs.Clock.{circuitOf, clockTests, clockReply}
 use Rattle.register.specs.declared.Register.{Register}
 use Rattle.word.proofs.WordLaws.{good-width}
@@ -39,12 +38,6 @@ module _ (r : Register) (ws x : List ℕ) where
   pub clock-answers : firstOf (clockTests r ws x) ≡ 0 → clockReply r ws x ≡ answer (clocked (circuitOf r ws) (cell x) (r .state))
   unfolding clockReply
   clock-answers h = ap (λ (n : ℕ). replied n (clocked (circuitOf r ws) (cell x) (r .state))) h
-
-  pub clock-taken : badWidth (r .m) ≡ false → badTaps (r .m) (r .taps) ≡ false → badChains (length ws) ≡ false
-      → badSpread (r .m) ws ≡ false → length x ≡ rowBytes (length ws) → spareSet (length ws) x ≡ false
-      → beyond (r .m) (r .state) ≡ false → clockReply r ws x ≡ answer (clocked (circuitOf r ws) (cell x) (r .state))
-  unfolding clockTests
-  clock-taken h2 h3 h4 h6 h8 h9 h23 = clock-answers (rw (h2, h3, h4, h6, eq-eqb (length x) (rowBytes (length ws)) h8, h9, h23))
 
   clock-width : firstOf (clockTests r ws x) ≡ 0 → badWidth (r .m) ≡ false
   unfolding clockTests

@@ -82,9 +82,6 @@ accepted set h =
       unvalued = p10 .0;
     }
 
-pub accepted-answer : (set : List ℕ) (p : SetParts) → setReply set ≡ answer p → Accepted set
-accepted-answer set p h = accepted set (set-answer-none set p h)
-
 pub spread-length : (set : List ℕ) → length (spreadOf set) ≡ chainsOf set
 spread-length set = length-words-at set spreadAt (chainsOf set)
 

@@ -49,10 +49,6 @@ pub word-of-bytes : (s : List ℕ) (i : ℕ)
     (getD s i 0 ∷ getD s (i + 1) 0 ∷ getD s (i + 2) 0 ∷ getD s (i + 3) 0 ∷ getD s (i + 4) 0 ∷ getD s (i + 5) 0 ∷ getD s (i + 6) 0 ∷ getD s (i + 7) 0 ∷ [])
 word-of-bytes s i = simp towards-suc (number-of-bytes 8 s i)
 
-pub word-of-counts : (s : List ℕ) (i : ℕ) → wordAt s i ≡ countAt s i + 65536 * (countAt s (i + 2) + 65536 * (countAt s (i + 4) + 65536 * countAt s (i + 6)))
-unfolding number
-word-of-counts s i = simp (towards-suc, number-of-bytes) (omega arith)
-
 -- ---- a word, from its last byte on
 
 -- of the 8 bytes at place i those from place i + k on make w; a byte past the end counts as 0
