@@ -12,9 +12,10 @@ use Rattle.elimination.specs.Combination.{xFree}
 use Rattle.elimination.proofs.Theorems.{explained-listed}
 use Rattle.elimination.proofs.Agreeing.{parities-even, even-parities}
 use Rattle.register.specs.Circuit.{chains}
-use Rattle.register.proofs.Laws.{cell-lt, good-taps, good-spread}
+use Rattle.register.proofs.Laws.{good-taps, good-spread}
+use Rattle.rows.proofs.CellLaws.{cell-lt}
 use Rattle.set_file.specs.Layout.{widthOf, tapsOf, spreadOf, circuitOf, chainsOf, slicesOf, marks, values}
-use Rattle.set_file.specs.Writing.{listRow}
+use Rattle.rows.specs.Lists.{listRow}
 use Rattle.set_file.proofs.Laws.{Accepted, spread-length}
 use Rattle.response.specs.Signature.{Response, signature}
 use Rattle.response.specs.Columns.{columnsOf, zeroSignature, recordCells}

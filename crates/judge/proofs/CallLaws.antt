@@ -11,7 +11,7 @@ use lib.ListN.{length, drop, length-drop, drop-of-length-le}
 use lib.Pow.{pow-mono}
 use lib.Seq.{drop-cons}
 use Rattle.word.specs.Word.{beyond, parity}
-use Rattle.word.specs.Bytes.{wordAt}
+use Rattle.numbers.specs.Bytes.{wordAt}
 use Rattle.word.specs.Parities.{parities}
 use Rattle.word.specs.Reply.{answer, refusal, replied, firstOf, _when_}
 use Rattle.word.proofs.Laws.{parities-lt}

@@ -7,7 +7,7 @@ use native.Mathlib.Omega.{arith}
 use borrow.Author.Tests.{lt-ltb, le-ltb, ltb-false}
 use lib.Dec.{ltb}
 use lib.ListN.{length, take, set}
-use Rattle.word.specs.Bytes.{wordAt}
+use Rattle.numbers.specs.Bytes.{wordAt}
 use Rattle.word.specs.Reply.{Reply, answer, refusal, replied, firstOf, _when_, front, lent}
 use Rattle.word.proofs.ReplyLaws.{replied-refusal, none-applies}
 use Rattle.plan_file.specs.Layout.{bitsAt, widthOf, countOf, wordsOf, expectedOf}

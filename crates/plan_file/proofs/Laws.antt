@@ -12,7 +12,7 @@ use native.Mathlib.Omega.{arith}
 use borrow.Author.Tests.{eqb-true, not-false}
 use lib.Dec.{eqb, ltb}
 use lib.ListN.{length}
-use Rattle.word.specs.Bytes.{wordAt}
+use Rattle.numbers.specs.Bytes.{wordAt}
 use Rattle.word.specs.Reply.{Test, firstOf}
 use Rattle.word.proofs.BoolLaws.{or-false-left, or-false-right}
 use Rattle.word.proofs.ReplyLaws.{none-applies}

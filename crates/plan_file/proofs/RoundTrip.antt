@@ -21,11 +21,11 @@ use lib.Pow.{pow-mono}
 use lib.Seq.{take-all, take-at}
 use Rattle.word.specs.Word.{badWidth, beyond}
 use Rattle.word.specs.Some.{allOf}
-use Rattle.word.specs.Bytes.{numberAt, countAt, wordsAt, bytesOf, wordBytes}
+use Rattle.numbers.specs.Bytes.{numberAt, countAt, wordsAt, bytesOf, wordBytes}
 use Rattle.word.specs.Reply.{Reply, answer, firstOf, front, lent}
 use Rattle.word.proofs.BoolLaws.{and-left, and-right, or-false-left, or-false-right}
-use Rattle.word.proofs.ByteLaws.{bytes-of-length, length-word-bytes}
-use Rattle.word.proofs.FileLaws.{number-back, words-back, pow-bytes, number-bytes, words-bytes, part-joins}
+use Rattle.numbers.proofs.ByteLaws.{bytes-of-length, length-word-bytes}
+use Rattle.numbers.proofs.FileLaws.{number-back, words-back, pow-bytes, number-bytes, words-bytes, part-joins}
 use Rattle.word.proofs.TestLaws.{replied-answer}
 use Rattle.word.proofs.WordLaws.{good-width, within, not-beyond}
 use Rattle.elimination.specs.Reduced.{isReduced, ascending, topsClear}

@@ -8,9 +8,9 @@ use borrow.Author.Tests.{ltb-false, le-ltb, eq-eqb, ne-eqb}
 use lib.Dec.{eqb, ltb}
 use lib.ListN.{length}
 use Rattle.word.specs.Word.{badWidth, beyond}
-use Rattle.word.specs.Bytes.{countAt, wordAt}
+use Rattle.numbers.specs.Bytes.{countAt, wordAt}
 use Rattle.word.proofs.BoolLaws.{or-false-left, or-false-right, or-true-left, or-true-right}
-use Rattle.word.proofs.FileLaws.{number-to-end}
+use Rattle.numbers.proofs.FileLaws.{number-to-end}
 use Rattle.word.proofs.WordLaws.{good-width}
 use Rattle.plan_file.specs.Layout.{againAt, bitsAt, bitBytes, planLength, widthOf, countOf, againOf, expectedOf}
 use Rattle.plan_file.specs.Reading.{badPlanWidth, badPlanCount, badPlanEnd}

@@ -5,9 +5,9 @@ use mathlib.Core.List.{List}
 use Prim.Native.Nat.{ℕ, _+_, _*_, _<_, _≤_}
 use native.Mathlib.Omega.{arith}
 use lib.ListN.{length, getD, drop}
-use Rattle.word.specs.Bytes.{wordAt}
-use Rattle.word.proofs.ByteLaws.{length-words-at}
-use Rattle.word.proofs.FileLaws.{word-at-place}
+use Rattle.numbers.specs.Bytes.{wordAt}
+use Rattle.numbers.proofs.ByteLaws.{length-words-at}
+use Rattle.numbers.proofs.FileLaws.{word-at-place}
 use Rattle.elimination.specs.Reduced.{isReduced}
 use Rattle.elimination.specs.Pass.{follows, withTop, onePass}
 use Rattle.elimination.proofs.Theorems.{reduced-exactly}

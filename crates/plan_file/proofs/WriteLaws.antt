@@ -10,10 +10,10 @@ use lib.Dec.{ltb}
 use lib.ListN.{length, set, length-append}
 use lib.Seq.{sets, length-sets}
 use Rattle.word.specs.Word.{badWidth, beyond}
-use Rattle.word.specs.Bytes.{bytesOf, wordBytes}
+use Rattle.numbers.specs.Bytes.{bytesOf, wordBytes}
 use Rattle.word.specs.Reply.{Reply, answer, refusal, replied, firstOf, front, lent}
-use Rattle.word.proofs.ByteLaws.{bytes-of-length, length-word-bytes}
-use Rattle.word.proofs.FileLaws.{sets-parts, front-sets}
+use Rattle.numbers.proofs.ByteLaws.{bytes-of-length, length-word-bytes}
+use Rattle.numbers.proofs.FileLaws.{sets-parts, front-sets}
 use Rattle.word.proofs.ReplyLaws.{replied-refusal, none-applies}
 use Rattle.word.proofs.WordLaws.{good-width}
 use Rattle.elimination.specs.Reduced.{isReduced}

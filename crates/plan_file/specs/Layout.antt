@@ -13,7 +13,7 @@
 --   expectedOf plan     the expected bits as one word, bit i for word i: the number of their bytes, low byte first
 use mathlib.Core.List.{List}
 use Prim.Native.Nat.{ℕ, _+_, _*_, _/_}
-use Rattle.word.specs.Bytes.{countAt, numberAt, wordsAt}
+use Rattle.numbers.specs.Bytes.{countAt, numberAt, wordsAt}
 
 abbrev pub wordsPlace : ℕ
 wordsPlace = 4

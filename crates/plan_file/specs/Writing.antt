@@ -14,7 +14,7 @@ use Prim.Native.Nat.{ℕ}
 use lib.Dec.{ltb}
 use lib.ListN.{length}
 use Rattle.word.specs.Word.{badWidth, beyond}
-use Rattle.word.specs.Bytes.{bytesOf, wordBytes}
+use Rattle.numbers.specs.Bytes.{bytesOf, wordBytes}
 use Rattle.word.specs.Reply.{Test, _when_, Reply, answer, refusal, reply}
 use Rattle.elimination.specs.Reduced.{isReduced}
 use Rattle.plan_file.specs.Layout.{bitBytes, planLength}

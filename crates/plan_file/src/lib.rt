@@ -5,7 +5,7 @@ ghost use Prim.Native.Nat.{_+_, _*_, _<_, _≤_};
 ghost use lib.Dec.{ltb};
 ghost use lib.ListN.{length};
 ghost use lib.Seq.{sets};
-ghost use Rattle.word.specs.Bytes.{wordAt, bytesOf};
+ghost use Rattle.numbers.specs.Bytes.{wordAt, bytesOf};
 ghost use Rattle.word.specs.Reply.{firstOf, front, lent};
 ghost use Rattle.elimination.specs.Reduced.{isReduced};
 ghost use Rattle.plan_file.specs.Layout.{wordsPlace, bitsAt, planLength, widthOf, countOf, wordsOf};
@@ -28,14 +28,14 @@ pub enum Written {
 pub fn width(plan: &[u8]) -> u64
     ensures { λ r. ⌜ (r ≡ widthOf (now (plan .entry))) × (r < 65536) ⌝ }
 {
-    word::read_count(plan, 0)
+    numbers::read_count(plan, 0)
 }
 
 // q, as the plan has it; a byte past the end counts as 0. It meets no number.
 pub fn count(plan: &[u8]) -> u64
     ensures { λ r. ⌜ (r ≡ countOf (now (plan .entry))) × (r < 65536) ⌝ }
 {
-    word::read_count(plan, 2)
+    numbers::read_count(plan, 2)
 }
 
 // The 8 bytes at the place of word i; a byte past the end counts as 0. It meets no number.
@@ -43,7 +43,7 @@ pub fn plan_word(plan: &[u8], i: u16) -> u64
     ensures { λ r. ⌜ r ≡ wordAt (now (plan .entry)) (wordsPlace + 8 * i) ⌝ }
 {
     let place = i as usize;
-    word::read_word(plan, 4 + 8 * place)
+    numbers::read_word(plan, 4 + 8 * place)
 }
 
 // The 8 bytes from the place of the expected bits on; a byte past the end counts as 0. They are the expected bits as one
@@ -52,7 +52,7 @@ pub fn expected_bits(plan: &[u8]) -> u64
     ensures { λ r. ⌜ r ≡ wordAt (now (plan .entry)) (bitsAt (countOf (now (plan .entry)))) ⌝ }
 {
     let q = count(plan) as usize;
-    word::read_short_word(plan, 6 + 8 * q)
+    numbers::read_short_word(plan, 6 + 8 * q)
 }
 
 // Number 19: whether the plan has fewer than 2 bytes, or its m isn't 1 to 64.
@@ -103,7 +103,7 @@ fn is_bad_plan_end(plan: &[u8]) -> bool
     if plan.len() != 6 + 8 * places + (places + 7) / 8 {
         return true;
     }
-    (word::read_count(plan, 4 + 8 * places) != q) | word::is_beyond(q, expected_bits(plan))
+    (numbers::read_count(plan, 4 + 8 * places) != q) | word::is_beyond(q, expected_bits(plan))
 }
 
 // The first of the numbers 19 to 22 that applies to a plan file; 0 where none does.
@@ -230,7 +230,7 @@ fn write_low_bytes(out: &mut [u8], at: usize, n: usize, x: u64)
     let mut rest = x;
     let mut i: usize = 0;
     while i < n {
-        word::write_byte(out, at + i, (rest % 256) as u8);
+        numbers::write_byte(out, at + i, (rest % 256) as u8);
         rest = rest / 256;
         i += 1;
     }
@@ -241,10 +241,10 @@ fn write_file(m: u64, words: &[u64], expected: u64, out: &mut [u8])
     ensures { λ _. ⌜ (planLength (length (now (words .entry))) ≤ length (now (out .entry)) → now (out .exit) ≡ front (planBytes (contentOf m (now (words .entry)) expected)) (now (out .entry))) ⌝ }
 {
     let q = words.len();
-    word::write_count(out, 0, m);
-    word::write_count(out, 2, q as u64);
-    word::write_words(out, 4, words);
-    word::write_count(out, 4 + 8 * q, q as u64);
+    numbers::write_count(out, 0, m);
+    numbers::write_count(out, 2, q as u64);
+    numbers::write_words(out, 4, words);
+    numbers::write_count(out, 4 + 8 * q, q as u64);
     write_low_bytes(out, 6 + 8 * q, (q + 7) / 8, expected);
 }
 

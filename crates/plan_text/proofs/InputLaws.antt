@@ -17,13 +17,13 @@ use lib.Dec.{eqb, ltb}
 use lib.ListN.{length, take}
 use lib.Seq.{getD-take, length-take-le}
 use Rattle.word.specs.Word.{badWidth}
-use Rattle.word.specs.Bytes.{numberAt, wordsAt}
+use Rattle.numbers.specs.Bytes.{numberAt, wordsAt}
 use Rattle.word.specs.Reply.{Reply, replied, firstOf}
 use Rattle.word.proofs.BoolLaws.{or-false-right}
-use Rattle.word.proofs.ByteLaws.{number-at-zero, number-at-suc}
+use Rattle.numbers.proofs.ByteLaws.{number-at-zero, number-at-suc}
 use Rattle.word.proofs.ReplyLaws.{replied-refusal}
 use Rattle.word.proofs.TestLaws.{first-of-sooner}
-use Rattle.register.specs.Row.{rowBytes}
+use Rattle.rows.specs.Row.{rowBytes}
 use Rattle.register.specs.Circuit.{badTaps, badChains, badSpread}
 use Rattle.set_file.specs.Layout.{spreadAt, slicesAt, rowsAt, setLength, widthOf, tapsOf, chainsOf, spreadOf, slicesOf}
 use Rattle.set_file.specs.Reading.{badSlices, setTests}

@@ -13,8 +13,8 @@ use lib.Pow.{shr-shr}
 use lib.Seq.{sets, length-sets, drop-cons}
 use Rattle.word.specs.Word.{digit}
 use Rattle.word.specs.Reply.{front}
-use Rattle.word.proofs.FileLaws.{front-sets}
-use Rattle.word.proofs.ByteLaws.{sets-append}
+use Rattle.numbers.proofs.FileLaws.{front-sets}
+use Rattle.numbers.proofs.ByteLaws.{sets-append}
 use Rattle.text.specs.Text.{decimal, placeAfter}
 use Rattle.plan_text.specs.PlanText.{sp, newline, setLine, wordLine, wordLines, endLine, refusedLine}
 use Rattle.plan_text.specs.Code.{Put}

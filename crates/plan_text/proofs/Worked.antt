@@ -6,14 +6,14 @@ use Prim.Native.Nat.{ℕ}
 use lib.Count.{ones, onesIn}
 use Rattle.word.specs.Word.{parity, beyond, badWidth}
 use Rattle.word.specs.Some.{anyOf, allOf, anyBelow}
-use Rattle.word.specs.Bytes.{number, numberAt, wordsAt}
+use Rattle.numbers.specs.Bytes.{number, numberAt, wordsAt}
 use Rattle.word.specs.Parities.{parities}
 use Rattle.word.specs.Span.{isXorOf}
 use Rattle.word.specs.Worked.{sameList}
 use Rattle.elimination.specs.Combination.{rank, rankAfter, grown, xFree}
 use Rattle.elimination.specs.Reduced.{reducedList, wordsBelow, independent, made, xorRows}
 use Rattle.elimination.specs.Elimination.{onlyEmpty}
-use Rattle.register.specs.Row.{spareSet}
+use Rattle.rows.specs.Row.{spareSet}
 use Rattle.register.specs.Circuit.{advanced, driven, clocked, badTaps, badChains, badSpread}
 use Rattle.set_file.specs.Layout.{valueRow, markRow}
 use Rattle.set_file.specs.Reading.{badSlices, spareInRows, valuedUnknown, setTests}

@@ -6,7 +6,7 @@ use Prim.Native.Nat.{ℕ}
 use lib.Count.{ones, onesIn}
 use Rattle.word.specs.Word.{parity, beyond, badWidth}
 use Rattle.word.specs.Some.{anyOf, allOf, anyBelow}
-use Rattle.word.specs.Bytes.{number, numberAt, wordsAt}
+use Rattle.numbers.specs.Bytes.{number, numberAt, wordsAt}
 use Rattle.word.specs.Parities.{parities}
 use Rattle.word.specs.Worked.{Line, agrees}
 use Rattle.elimination.specs.Reduced.{reducedList, wordsBelow, independent, made, xorRows}

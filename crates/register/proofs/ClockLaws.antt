@@ -9,9 +9,9 @@ use lib.ListN.{length}
 use lib.Pow.{mod-mod-pow}
 use Rattle.word.specs.Word.{digit, lowMask, badWidth}
 use Rattle.word.specs.Reply.{answer, refusal, replied, firstOf}
-use Rattle.register.specs.Row.{cell}
+use Rattle.rows.specs.Row.{cell}
 use Rattle.register.specs.Circuit.{chosen, advanced, driven, clocked}
-use Rattle.register.specs.Clock.{circuitOf, clockTests, clockReply}
+use Rattle.register.specs.Clock.{registered, clockTests, clockReply}
 use Rattle.register.specs.declared.Register.{Register}
 use Rattle.word.proofs.WordLaws.{good-width}
 use Rattle.word.proofs.ReplyLaws.{none-applies, replied-refusal}
@@ -35,9 +35,9 @@ advanced-in-word m t s mask top feedback em et ef =
 
 module _ (r : Register) (ws x : List ℕ) where
   -- where no number applies the reply is the next state
-  pub clock-answers : firstOf (clockTests r ws x) ≡ 0 → clockReply r ws x ≡ answer (clocked (circuitOf r ws) (cell x) (r .state))
+  pub clock-answers : firstOf (clockTests r ws x) ≡ 0 → clockReply r ws x ≡ answer (clocked (registered r ws) (cell x) (r .state))
   unfolding clockReply
-  clock-answers h = ap (λ (n : ℕ). replied n (clocked (circuitOf r ws) (cell x) (r .state))) h
+  clock-answers h = ap (λ (n : ℕ). replied n (clocked (registered r ws) (cell x) (r .state))) h
 
   clock-width : firstOf (clockTests r ws x) ≡ 0 → badWidth (r .m) ≡ false
   unfolding clockTests
@@ -46,8 +46,8 @@ module _ (r : Register) (ws x : List ℕ) where
   pub clock-refused : (n : ℕ) → n ≡ firstOf (clockTests r ws x) → (n ≡ 0 → ⊥) → clockReply r ws x ≡ refusal n
   unfolding clockReply
   clock-refused n e h =
-      ap (λ (k : ℕ). replied k (clocked (circuitOf r ws) (cell x) (r .state))) (sym e)
-      ∙ replied-refusal n (clocked (circuitOf r ws) (cell x) (r .state)) h
+      ap (λ (k : ℕ). replied k (clocked (registered r ws) (cell x) (r .state))) (sym e)
+      ∙ replied-refusal n (clocked (registered r ws) (cell x) (r .state)) h
 
   pub clock-done : (d s : ℕ) → firstOf (clockTests r ws x) ≡ 0 → d ≡ driven ws (cell x) (length ws)
       → s ≡ bitXor (advanced (min (r .m) 64) (r .taps) (r .state)) d → clockReply r ws x ≡ answer s

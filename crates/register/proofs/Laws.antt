@@ -20,7 +20,7 @@ use Rattle.word.specs.Some.{anyOf}
 use Rattle.word.proofs.Laws.{mod2-lt, bit-cases, xor-zero-eq, xor-cancel-right, digit-xor}
 use Rattle.word.proofs.SomeLaws.{any-of-false}
 use Rattle.word.proofs.BoolLaws.{or-false-left, or-false-right}
-use Rattle.register.specs.Row.{Cells, cell}
+use Rattle.rows.specs.Row.{Cells, cell}
 use Rattle.register.specs.Circuit.{Circuit, chains, chosen, advanced, driven, clocked, badTaps, badSpread}
 use Rattle.word.proofs.WordLaws.{xor-crosswise, xor-double, below-top, within}
 
@@ -38,9 +38,6 @@ chosen-xor (suc (suc d)) e w hd he = let z : ⊥ = omega arith in absurd z
 chosen-lt : (m d w : ℕ) → w < 2 ^ m → chosen d w < 2 ^ m
 chosen-lt m zero w h = pow-pos m
 chosen-lt m (suc d) w h = h
-
-pub cell-lt : (row : List ℕ) (c : ℕ) → cell row c < 2
-cell-lt row c = mod2-lt (getD row (c / 8) 0 / 2 ^ (c % 8))
 
 -- ---- a clock with all cells 0
 

@@ -1,4 +1,3 @@
 pub mod Laws
-pub mod RowLaws
 pub mod ClockLaws
 pub mod Worked

@@ -2,6 +2,7 @@
 -- old bit m − 1 was set, XOR the tap word in; then XOR in the spread word of every chain whose cell is 1."
 --
 --   Circuit         the register's width m and tap word, and the chains' spread words
+--   circuit m t ws  the circuit of width m, tap word t and spread words ws
 --   chains k        document 01: n, the number of chains
 --   chosen d w      the word w where the digit d is 1, and 0 where it is 0
 --   advanced m t s  the state s of a register of width m and tap word t, shifted up by one with bit m dropped, and the
@@ -10,6 +11,7 @@
 --   clocked k x s   document 01: one clock of the state s with the cells x
 --   badTaps m t     document 01, 3: the tap word has bit 0 clear or a bit at or above m
 --   badChains n     document 01, 4: the chain count isn't 1 to 256
+--   tooManySlices s  document 01, 7: the slice count is above 512
 --   badSpread m ws  document 01, 6: a spread word is zero or has a bit at or above m
 use mathlib.Core.Bool.{Bool, _||_}
 use mathlib.Core.List.{List}
@@ -19,12 +21,15 @@ use lib.Dec.{eqb, ltb}
 use lib.ListN.{length, getD}
 use Rattle.word.specs.Word.{digit, beyond}
 use Rattle.word.specs.Some.{anyOf}
-use Rattle.register.specs.Row.{Cells}
+use Rattle.rows.specs.Row.{Cells}
 
 pub record Circuit : Type 0 where
   pub width : ℕ
   pub taps : ℕ
   pub spread : List ℕ
+
+abbrev pub circuit : ℕ → ℕ → List ℕ → Circuit
+circuit m t ws = record { width = m; taps = t; spread = ws }
 
 abbrev pub chains : Circuit → ℕ
 chains k = length (k .spread)
@@ -48,6 +53,9 @@ badTaps m t = eqb (digit 0 t) 0 || beyond m t
 
 unfoldable pub badChains : ℕ → Bool
 badChains n = ltb n 1 || ltb 256 n
+
+abbrev pub tooManySlices : ℕ → Bool
+tooManySlices s = ltb 512 s
 
 unfoldable pub badSpread : ℕ → List ℕ → Bool
 badSpread m ws = anyOf (λ w. eqb w 0 || beyond m w) ws

@@ -1,7 +1,7 @@
 -- The clock call. Document 01: "The clock takes a register (m, taps, state), the spread words and one row; it meets 2, 3, 4,
 -- 6, 8 for a row not of B bytes, 9, and 23 for the state"; "a state handed in comes back from a refusal unchanged".
 --
---   circuitOf r ws     the circuit of a register and its chains' spread words
+--   registered r ws    the circuit of a register and its chains' spread words
 --   clockTests r ws x  the numbers that the clock meets, in order
 --   clockReply r ws x  the reply: the next state, or the first number that applies
 --   said c             the paper's reading of what the clock hands back
@@ -13,15 +13,15 @@ use lib.Dec.{eqb}
 use lib.ListN.{length}
 use Rattle.word.specs.Word.{beyond, badWidth}
 use Rattle.word.specs.Reply.{Test, _when_, Reply, answer, refusal, reply}
-use Rattle.register.specs.Row.{cell, rowBytes, spareSet}
-use Rattle.register.specs.Circuit.{Circuit, clocked, badTaps, badChains, badSpread}
+use Rattle.rows.specs.Row.{cell, rowBytes, spareSet}
+use Rattle.register.specs.Circuit.{Circuit, circuit, clocked, badTaps, badChains, badSpread}
 use Rattle.register.specs.declared.Register.{Register}
 use Rattle.register.specs.declared.Clocking.{Clocking}
 use Rattle.register.specs.declared.Clocking.the-variants.{Done, Refused}
 use Rattle.register.specs.declared.Clocked.{Clocked}
 
-abbrev pub circuitOf : Register → List ℕ → Circuit
-circuitOf r ws = record { width = r .m; taps = r .taps; spread = ws }
+abbrev pub registered : Register → List ℕ → Circuit
+registered r ws = circuit (r .m) (r .taps) ws
 
 unfoldable pub clockTests : Register → List ℕ → List ℕ → List Test
 clockTests r ws x =
@@ -35,7 +35,7 @@ clockTests r ws x =
     ∷ []
 
 unfoldable pub clockReply : Register → List ℕ → List ℕ → Reply ℕ
-clockReply r ws x = reply (clockTests r ws x) (clocked (circuitOf r ws) (cell x) (r .state))
+clockReply r ws x = reply (clockTests r ws x) (clocked (registered r ws) (cell x) (r .state))
 
 abbrev pub saidOf : Clocking → ℕ → Reply ℕ
 saidOf Done s = answer s

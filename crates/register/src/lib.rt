@@ -7,8 +7,8 @@ ghost use lib.Dec.{eqb};
 ghost use lib.ListN.{length};
 ghost use Rattle.word.specs.Word.{beyond};
 ghost use Rattle.word.specs.Reply.{firstOf};
-ghost use Rattle.register.specs.Row.{rowBytes, cell, spareSet};
-ghost use Rattle.register.specs.Circuit.{chosen, advanced, driven, badTaps, badChains, badSpread};
+ghost use Rattle.rows.specs.Row.{rowBytes, cell};
+ghost use Rattle.register.specs.Circuit.{chosen, advanced, driven, badTaps, badChains, tooManySlices, badSpread};
 ghost use Rattle.register.specs.Clock.{clockTests, clockReply, said, stateAfter};
 
 // The register: its width m, its tap word and its state.
@@ -30,27 +30,6 @@ pub struct Clocked {
     pub register: Register,
 }
 
-// B, the bytes of a row of n chains: n ÷ 8 rounded up, for every n.
-pub fn row_bytes(n: usize) -> usize
-    ensures { λ r. ⌜ r ≡ rowBytes n ⌝ }
-{
-    n / 8 + (n % 8 + 7) / 8
-}
-
-// The cell of chain c in a row: 0 or 1, and 0 past the row's end. It meets no number.
-pub fn cell_at(row: &[u8], c: usize) -> u64
-    ensures { λ r. ⌜ r ≡ cell (now (row .entry)) c ⌝ }
-{
-    (word::wide(word::byte_at(row, c / 8)) >> (c % 8)) % 2
-}
-
-// Number 9: whether a row of n chains has a spare bit set. The spare bits are the high ones of one byte.
-pub fn has_spare_bit(n: usize, row: &[u8]) -> bool
-    ensures { λ r. ⌜ r ≡ spareSet n (now (row .entry)) ⌝ }
-{
-    (n % 8 != 0) & (word::wide(word::byte_at(row, n / 8)) >> (n % 8) != 0)
-}
-
 // Number 3: whether the tap word has bit 0 clear or a bit at or above m.
 pub fn is_bad_taps(m: u64, taps: u64) -> bool
     ensures { λ r. ⌜ r ≡ badTaps m taps ⌝ }
@@ -59,10 +38,17 @@ pub fn is_bad_taps(m: u64, taps: u64) -> bool
 }
 
 // Number 4: whether n isn't 1 to 256.
-pub fn is_bad_chains(n: usize) -> bool
+pub fn is_bad_chains(n: u64) -> bool
     ensures { λ r. ⌜ r ≡ badChains n ⌝ }
 {
     (n < 1) | (Register::LARGEST_CHAINS < n)
+}
+
+// Number 7: whether s is above 512.
+pub fn is_bad_slices(s: u64) -> bool
+    ensures { λ r. ⌜ r ≡ tooManySlices s ⌝ }
+{
+    Register::LARGEST_SLICES < s
 }
 
 // Whether a spread word is zero or has a bit at or above m.
@@ -100,7 +86,7 @@ pub fn driven_word(spread: &[u64], row: &[u8]) -> u64
     let mut drive = 0u64;
     let mut c = 0;
     while c < spread.len() {
-        drive = drive ^ chosen_word(cell_at(row, c), spread[c]);
+        drive = drive ^ chosen_word(rows::cell_at(row, c), spread[c]);
         c += 1;
     }
     drive
@@ -124,7 +110,7 @@ fn top_place(m: u64) -> u64
 fn is_bad_row_length(n: usize, row: &[u8]) -> bool
     ensures { λ r. ⌜ r ≡ not (eqb (length (now (row .entry))) (rowBytes n)) ⌝ }
 {
-    row.len() != row_bytes(n)
+    row.len() != rows::row_bytes(n)
 }
 
 // The first number that the clock meets with this input; 0 where none applies.
@@ -137,7 +123,7 @@ fn first_refusal(register: Register, spread: &[u64], row: &[u8]) -> u64
     if is_bad_taps(register.m, register.taps) {
         return 3;
     }
-    if is_bad_chains(spread.len()) {
+    if is_bad_chains(spread.len() as u64) {
         return 4;
     }
     if is_bad_spread(register.m, spread) {
@@ -146,7 +132,7 @@ fn first_refusal(register: Register, spread: &[u64], row: &[u8]) -> u64
     if is_bad_row_length(spread.len(), row) {
         return 8;
     }
-    if has_spare_bit(spread.len(), row) {
+    if rows::has_spare_bit(spread.len(), row) {
         return 9;
     }
     if word::is_beyond(register.m, register.state) {
@@ -158,7 +144,7 @@ fn first_refusal(register: Register, spread: &[u64], row: &[u8]) -> u64
 impl Register {
     pub const LARGEST_WIDTH: u64 = 64;
 
-    pub const LARGEST_CHAINS: usize = 256;
+    pub const LARGEST_CHAINS: u64 = 256;
 
     pub const LARGEST_SLICES: u64 = 512;
 

@@ -11,11 +11,11 @@ use lib.Seq.{take-all, length-take-le}
 use Rattle.word.specs.Some.{anyBelow}
 use Rattle.word.specs.Reply.{_when_, Reply, answer, refusal, replied, firstOf, front, lent, numberOf}
 use Rattle.word.proofs.ReplyLaws.{replied-refusal}
-use Rattle.register.specs.Row.{rowBytes, cell, spareSet}
+use Rattle.rows.specs.Row.{rowBytes, cell, spareSet}
 use Rattle.register.specs.Circuit.{Circuit}
 use Rattle.set_file.specs.Layout.{circuitOf, chainsOf, slicesOf}
 use Rattle.set_file.specs.Reading.{setTests, setReply, spreadBeside, said}
-use Rattle.set_file.specs.Writing.{listRow}
+use Rattle.rows.specs.Lists.{listRow}
 use Rattle.set_file.specs.declared.SetAnswer.{SetAnswer}
 use Rattle.set_file.specs.declared.SetAnswer.the-variants.{Read, Refused}
 use Rattle.response.specs.Signature.{signature}
@@ -26,7 +26,7 @@ use Rattle.response.specs.Code.{circuit, markCells, marksBelow, rowsFrom
 use Rattle.response.proofs.SignatureLaws.{signature-ext}
 use Rattle.response.proofs.BackLaws.{back-whole}
 use Rattle.word.proofs.TestLaws.{numbered, first-of-later, first-of-sooner}
-use Rattle.word.proofs.PartLaws.{take-limit}
+use Rattle.numbers.proofs.PartLaws.{take-limit}
 use Rattle.response.proofs.SetLaws.{read-refused, read-none, read-chains-limit, read-slices, read-slices-limit, read-unknowns, read-circuit, read-columns, read-words-length, length-columns}
 
 set-numbered : (set : List ℕ) → numbered (setTests set) ≡ true

@@ -9,10 +9,10 @@ use lib.Count.{ones, ones-step, ones-le}
 use lib.ListN.{length, take, drop, getD, List·getD-eq-default}
 use lib.Pow.{shr-shr}
 use Rattle.word.specs.Word.{digit}
-use Rattle.register.specs.Row.{cell, rowBytes}
-use Rattle.word.specs.Bytes.{wordAt}
-use Rattle.word.proofs.ByteLaws.{number-at-lt}
-use Rattle.register.proofs.Laws.{cell-lt}
+use Rattle.rows.specs.Row.{cell, rowBytes}
+use Rattle.numbers.specs.Bytes.{wordAt}
+use Rattle.numbers.proofs.ByteLaws.{number-at-lt}
+use Rattle.rows.proofs.CellLaws.{cell-lt}
 use Rattle.response.specs.Columns.{total}
 use Rattle.response.specs.Code.{markCells, marksBelow}
 use Rattle.set_file.specs.Layout.{markAt}

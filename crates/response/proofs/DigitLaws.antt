@@ -13,9 +13,9 @@ use lib.Count.{trailingZeros, under}
 use lib.ListN.{getD}
 use lib.Pow.{pow-pos, pow-mono, pow-lt, shr-le, shr-shr, shl-shr, split, low, field, mod-pow-add, mod-mod-pow}
 use Rattle.word.specs.Word.{digit}
-use Rattle.word.specs.Bytes.{numberAt, wordAt}
-use Rattle.word.proofs.ByteLaws.{number-at-suc}
-use Rattle.register.specs.Row.{cell}
+use Rattle.numbers.specs.Bytes.{numberAt, wordAt}
+use Rattle.numbers.proofs.ByteLaws.{number-at-suc}
+use Rattle.rows.specs.Row.{cell}
 
 -- ---- a number's digits
 

@@ -5,9 +5,9 @@ use Prim.Native.Nat.{ℕ, zero, suc, _-_, _≤_, _<_, min}
 use native.Mathlib.Omega.{arith}
 use lib.ListN.{length, take, drop, getD, length-map, length-append, length-drop, List·getD-map}
 use lib.Seq.{take-at, length-take-le}
-use Rattle.word.specs.Joined.{joined}
-use Rattle.word.proofs.JoinLaws.{joined-ext}
-use Rattle.register.specs.Row.{cell}
+use Rattle.numbers.specs.Joined.{joined}
+use Rattle.numbers.proofs.JoinLaws.{joined-ext}
+use Rattle.rows.specs.Row.{cell}
 use Rattle.register.specs.Circuit.{Circuit, chains, advanced}
 use Rattle.response.specs.Signature.{Response, column}
 use Rattle.response.specs.Later.{later}
@@ -15,7 +15,7 @@ use Rattle.response.specs.Columns.{listed, sliceColumns, columnsBelow}
 use Rattle.response.specs.Code.{circuit, markCells, chosenWords, back}
 use Rattle.response.proofs.ColumnLaws.{column-closed}
 use Rattle.response.proofs.PowerLaws.{later-zero}
-use Rattle.word.proofs.PartLaws.{take-limit}
+use Rattle.numbers.proofs.PartLaws.{take-limit}
 use Rattle.response.proofs.BackLaws.{rest, rest-none, rest-suc, rest-whole, back-none, back-length, back-more, back-more-room}
 
 -- every word after j clocks

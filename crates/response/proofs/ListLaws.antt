@@ -14,11 +14,11 @@ use lib.ListN.{length, take, drop, getD, set, length-set, length-append, length-
 use lib.Pow.{pow-pos, shl-exact, low}
 use lib.Seq.{take-suc-set, append-snoc, take-all, take-length, drop-length, length-take-le, length-front, take-append-le, drop-append-le, getD-drop}
 use Rattle.word.specs.Word.{digit, lowMask, highestBit}
-use Rattle.word.specs.Bytes.{wordAt}
-use Rattle.word.specs.Joined.{joined}
+use Rattle.numbers.specs.Bytes.{wordAt}
+use Rattle.numbers.specs.Joined.{joined}
 use Rattle.word.proofs.Laws.{mod2-lt}
-use Rattle.word.proofs.JoinLaws.{joined-ext}
-use Rattle.register.specs.Row.{cell}
+use Rattle.numbers.proofs.JoinLaws.{joined-ext}
+use Rattle.rows.specs.Row.{cell}
 use Rattle.response.specs.Columns.{listed, total}
 use Rattle.response.specs.Code.{bits, chosenWords, back}
 use Rattle.response.proofs.BackLaws.{rest, joined-rest, joined-none, rest-ext, rest-none, rest-whole, rest-add, rest-joined, joined-stops, back-fits, back-none, back-length, back-more, back-more-room}

@@ -7,7 +7,7 @@ use native.Mathlib.Numerals.{add-one}
 use native.Mathlib.Omega.{arith}
 use lib.ListN.{length, take, drop, set, drop-of-length-le}
 use lib.Seq.{drop-drop, set-split}
-use Rattle.word.proofs.PartLaws.{drop-same}
+use Rattle.numbers.proofs.PartLaws.{drop-same}
 use Rattle.response.specs.Code.{back}
 use Rattle.response.proofs.BackLaws.{back-fits, back-empty}
 

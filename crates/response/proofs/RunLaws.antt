@@ -7,9 +7,9 @@ use native.Mathlib.Omega.{arith}
 use lib.Bits.{bitXor}
 use lib.ListN.{length, take, drop, getD, length-take}
 use lib.Seq.{take-all}
-use Rattle.word.proofs.PartLaws.{take-limit}
-use Rattle.word.proofs.FileLaws.{part-small}
-use Rattle.register.specs.Row.{cell, rowBytes}
+use Rattle.numbers.proofs.PartLaws.{take-limit}
+use Rattle.numbers.proofs.FileLaws.{part-small}
+use Rattle.rows.specs.Row.{cell, rowBytes}
 use Rattle.register.specs.Circuit.{advanced, driven, clocked}
 use Rattle.response.specs.Signature.{runs, signature}
 use Rattle.response.specs.Code.{circuit, valueCells, rowsFrom, halfByte, looked}

@@ -17,9 +17,10 @@ use Rattle.word.specs.Reply.{Reply, answer, refusal, firstOf, front, lent, numb
 use Rattle.word.proofs.Laws.{bit-cases}
 use Rattle.word.proofs.FrontLaws.{front-length}
 use Rattle.word.proofs.SomeLaws.{any-below-false}
-use Rattle.register.specs.Row.{rowBytes, cell, spareSet}
+use Rattle.rows.specs.Row.{rowBytes, cell, spareSet}
 use Rattle.register.specs.Circuit.{Circuit, chains}
-use Rattle.register.proofs.Laws.{cell-lt, good-taps, good-spread}
+use Rattle.register.proofs.Laws.{good-taps, good-spread}
+use Rattle.rows.proofs.CellLaws.{cell-lt}
 use Rattle.set_file.specs.Layout.{widthOf, tapsOf, chainsOf, spreadOf, slicesOf, circuitOf, valueRow, markRow, marks}
 use Rattle.set_file.specs.Reading.{SetParts, setTests, partsOf, setReply, spreadBeside, said}
 use Rattle.set_file.specs.declared.SetAnswer.{SetAnswer}

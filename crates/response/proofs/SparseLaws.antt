@@ -7,8 +7,8 @@ use Prim.Native.Nat.{ℕ, zero, suc, _+_, _-_, _≤_, _<_}
 use native.Mathlib.Omega.{arith}
 use lib.ListN.{length, take, drop, getD, length-map, length-drop, length-take}
 use lib.Seq.{drop-drop, take-at, drop-at, take-append-le, drop-append-le, length-take-le}
-use Rattle.word.specs.Joined.{joined}
-use Rattle.register.specs.Row.{cell}
+use Rattle.numbers.specs.Joined.{joined}
+use Rattle.rows.specs.Row.{cell}
 use Rattle.register.specs.Circuit.{Circuit, badSpread}
 use Rattle.register.proofs.Laws.{good-spread}
 use Rattle.response.specs.Signature.{Response}

@@ -19,7 +19,7 @@ use Rattle.word.specs.Word.{digit}
 use Rattle.word.specs.Some.{anyBelow}
 use Rattle.word.proofs.Laws.{mod2-lt, xor-assoc}
 use Rattle.word.proofs.SomeLaws.{any-below-false}
-use Rattle.register.specs.Row.{Cells, cell}
+use Rattle.rows.specs.Row.{Cells, cell}
 use Rattle.register.specs.Circuit.{chosen, driven}
 use Rattle.register.proofs.Laws.{driven-ext, driven-none, driven-xor, driven-unit}
 use Rattle.response.specs.Code.{halfByte, topPlace, entryFrom, tableEnd, looked}

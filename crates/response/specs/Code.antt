@@ -23,8 +23,8 @@ use lib.Bits.{bitXor}
 use lib.Dec.{eqb, ltb}
 use lib.ListN.{length, take, drop, getD}
 use Rattle.word.specs.Word.{digit}
-use Rattle.word.specs.Joined.{joined}
-use Rattle.register.specs.Row.{Cells, cell, rowBytes}
+use Rattle.numbers.specs.Joined.{joined}
+use Rattle.rows.specs.Row.{Cells, cell, rowBytes}
 use Rattle.register.specs.Circuit.{Circuit, driven}
 use Rattle.set_file.specs.Layout.{valueAt, markAt}
 use Rattle.response.specs.Signature.{Response}

@@ -10,10 +10,10 @@
 --   recordCells n r        the cells of a record r of n chains. Document 01: "Record: s value rows and nothing else"
 use mathlib.Core.List.{List, [], _∷_, _++_}
 use Prim.Native.Nat.{ℕ, zero, suc, _+_}
-use Rattle.register.specs.Row.{cell}
+use Rattle.rows.specs.Row.{cell}
 use Rattle.register.specs.Circuit.{Circuit, chains}
 use Rattle.set_file.specs.Layout.{circuitOf, chainsOf, slicesOf, values, marks}
-use Rattle.set_file.specs.Writing.{listRow}
+use Rattle.rows.specs.Lists.{listRow}
 use Rattle.response.specs.Signature.{Response, signature, column}
 
 abbrev pub listed : ℕ → ℕ → List ℕ

@@ -10,7 +10,7 @@
 use mathlib.Core.Bool.{cond, _&&_}
 use Prim.Native.Nat.{ℕ, zero, suc}
 use lib.Dec.{eqb}
-use Rattle.register.specs.Row.{Cells}
+use Rattle.rows.specs.Row.{Cells}
 use Rattle.register.specs.Circuit.{Circuit, clocked}
 
 abbrev pub Response : Type 0

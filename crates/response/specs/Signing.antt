@@ -12,10 +12,10 @@ use lib.Dec.{eqb}
 use lib.ListN.{length}
 use Rattle.word.specs.Some.{anyBelow}
 use Rattle.word.specs.Reply.{Test, _when_, Reply, answer, refusal, reply}
-use Rattle.register.specs.Row.{rowBytes, spareSet}
+use Rattle.rows.specs.Row.{rowBytes, spareSet}
 use Rattle.set_file.specs.Layout.{circuitOf, chainsOf, slicesOf}
 use Rattle.set_file.specs.Reading.{setTests}
-use Rattle.set_file.specs.Writing.{listRow}
+use Rattle.rows.specs.Lists.{listRow}
 use Rattle.response.specs.Signature.{signature}
 use Rattle.response.specs.Columns.{recordCells}
 use Rattle.response.specs.declared.Signed.{Signed}

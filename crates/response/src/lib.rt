@@ -6,7 +6,7 @@ ghost use Prim.Native.Nat.{ℕ, min, _-_, _≤_, _<_};
 ghost use lib.Bits.{bitXor};
 ghost use lib.Count.{ones};
 ghost use lib.ListN.{length, take, drop, getD, replicate};
-ghost use Rattle.register.specs.Row.{cell, rowBytes};
+ghost use Rattle.rows.specs.Row.{cell, rowBytes};
 ghost use Rattle.register.specs.Circuit.{advanced, badSpread};
 ghost use Rattle.set_file.specs.Layout.{markAt};
 ghost use Rattle.word.specs.Reply.{lent};
@@ -141,11 +141,11 @@ fn half_bytes(spread: &[u64]) -> [u64; 1024]
 fn looked_up(table: &[u64; 1024], row: &[u8]) -> u64
     ensures { λ r. ⌜ r ≡ looked (now (table .entry)) (now (row .entry)) (min (length (now (row .entry))) 32) ⌝ }
 {
-    let count = word::moved(0, row.len(), 32);
+    let count = numbers::moved(0, row.len(), 32);
     let mut drive = 0u64;
     let mut i = 0;
     while i < count {
-        let b = word::wide(row[i]) as usize;
+        let b = numbers::wide(row[i]) as usize;
         drive = drive ^ table[32 * i + b % 16] ^ table[32 * i + 16 + b / 16];
         i += 1;
     }
@@ -226,7 +226,7 @@ fn list_row(columns: &mut [u64], words: &[u64], row: &[u8]) -> usize
         i -= 1;
         let first = 64 * i;
         let mask = word::low_mask((chains - first) as u64);
-        let marks = word::read_word(row, 8 * i) & mask;
+        let marks = numbers::read_word(row, 8 * i) & mask;
         place = list_word(&mut columns[..place], &words[first..], marks);
     }
     place
@@ -250,7 +250,7 @@ fn count_row(row: &[u8]) -> u64
     let mut found = 0u64;
     let mut i = 0;
     while i < 4 {
-        found += u64::count_ones(word::read_word(row, 8 * i)) as u64;
+        found += u64::count_ones(numbers::read_word(row, 8 * i)) as u64;
         i += 1;
     }
     found
@@ -265,13 +265,13 @@ fn run_rows(m: u64, taps: u64, spread: &[u64], bytes: &[u8], rows: Rows, s: u64)
     let at = rows.at;
     let stride = rows.stride;
     let count = rows.count;
-    let mut place = word::moved(at, 0, bytes.len());
+    let mut place = numbers::moved(at, 0, bytes.len());
     let mut state = 0u64;
     let mut t = 0;
     while t < s {
-        let drive = looked_up(&table, word::part(bytes, place, count));
+        let drive = looked_up(&table, numbers::part(bytes, place, count));
         state = next_state(m, taps, state, drive);
-        place = word::moved(place, stride, bytes.len());
+        place = numbers::moved(place, stride, bytes.len());
         t += 1;
     }
     state
@@ -283,7 +283,7 @@ pub fn zero_signature(set: &[u8], m: u64, taps: u64, spread: [u64; 256], n: u64,
     ensures { λ r. ⌜ r ≡ signature (circuit (min m 64) taps (take n spread)) (valueCells (min n 256) (now (set .entry))) s ⌝ }
 {
     let chains = chain_limit(n);
-    let count = register::row_bytes(chains);
+    let count = rows::row_bytes(chains);
     let rows = Rows {
         at: 14 + 8 * chains,
         stride: 2 * count,
@@ -297,8 +297,8 @@ fn mark_row(set: &[u8], n: usize, t: usize) -> &[u8]
     requires { ⌜ (n ≤ 256) × (t < 512) ⌝ }
     ensures { λ r. ⌜ now r ≡ take (rowBytes n) (drop (markAt n t) (now (set .entry))) ⌝ }
 {
-    let count = register::row_bytes(n);
-    word::part(set, 14 + 8 * n + 2 * count * t + count, count)
+    let count = rows::row_bytes(n);
+    numbers::part(set, 14 + 8 * n + 2 * count * t + count, count)
 }
 
 // The number of unknown cells of a set that the reader has taken: it answered with these n and s. It meets no number.
@@ -461,11 +461,11 @@ pub fn sign_record(set: &[u8], record: &[u8]) -> Signed
     };
     let chains = chain_limit(n);
     let slices = slice_limit(s);
-    let count = register::row_bytes(chains);
+    let count = rows::row_bytes(chains);
     if record.len() != count * slices {
         return Signed::Refused { number: 12 };
     }
-    if set_file::has_spare_row(chains, record, slices) {
+    if rows::has_spare_row(chains, record, slices) {
         return Signed::Refused { number: 13 };
     }
     let spread = read.spread;

@@ -11,20 +11,20 @@ use lib.Dec.{eqb}
 use lib.ListN.{length, getD, take, drop, length-drop}
 use lib.Seq.{take-all}
 use Rattle.word.specs.Some.{anyBelow}
-use Rattle.register.specs.Row.{rowBytes, spareSet}
+use Rattle.rows.specs.Row.{rowBytes, spareSet}
 use Rattle.register.specs.Circuit.{badSpread}
 use Rattle.register.proofs.Laws.{bad-spread-turn, bad-spread-ended}
 use Rattle.set_file.specs.Layout.{spreadAt, rowsAt, setLength, widthOf, chainsOf, spreadOf, slicesOf, valueAt, markAt, valueRow, markRow}
 use Rattle.set_file.specs.Reading.{spareInRows, valuedUnknown}
-use Rattle.set_file.specs.Writing.{listRow}
-use Rattle.set_file.specs.Code.{sharesBit}
-use Rattle.set_file.proofs.RangeLaws.{none-passed, one-passed, one-found, all-passed}
-use Rattle.set_file.proofs.RowLaws.{SpareRow, spare-rows-none}
+use Rattle.rows.specs.Lists.{listRow}
+use Rattle.rows.specs.Lists.{sharesBit}
+use Rattle.word.proofs.RangeLaws.{none-passed, one-passed, one-found, all-passed}
+use Rattle.rows.proofs.RowLaws.{SpareRow, spare-rows-none}
 use Rattle.set_file.proofs.SliceLaws.{rowsOf, spare-of-rows, slice-inside, valued-of-bytes}
 use Rattle.word.specs.Word.{beyond}
-use Rattle.word.specs.Bytes.{wordAt, wordsAt}
-use Rattle.word.proofs.FileLaws.{word-at-place}
-use Rattle.word.proofs.ByteLaws.{length-words-at}
+use Rattle.numbers.specs.Bytes.{wordAt, wordsAt}
+use Rattle.numbers.proofs.FileLaws.{word-at-place}
+use Rattle.numbers.proofs.ByteLaws.{length-words-at}
 
 -- counts of 2 bytes keep a set's length small
 pub rows-small : (b s : ℕ) → b ≤ 8192 → s ≤ 65536 → b * s ≤ 536870912
@@ -80,14 +80,6 @@ spare-of set n s at r en es ea er =
     let place : at ≡ rowsAt (chainsOf set) = omega arith in
     er ∙ ap (λ (l : List ℕ). anyBelow (2 * s) (SpareRow n l)) (whole ∙ ap (λ (k : ℕ). drop k set) place)
     ∙ ap₂ (λ (k x : ℕ). anyBelow (2 * x) (SpareRow k (rowsOf set))) en es ∙ sym (spare-of-rows set)
-
--- a row of the list, as it is lent
-pub row-lent : (n : ℕ) (l : List ℕ) (t at bytes : ℕ) (r : Bool) → bytes ≡ rowBytes n → at ≡ rowBytes n * t
-    → r ≡ spareSet n (take (at + bytes - at) (drop at l)) → r ≡ SpareRow n l t
-unfolding listRow
-row-lent n l t at bytes r eb ea er =
-    let count : at + bytes - at ≡ rowBytes n = omega arith in
-    er ∙ ap₂ (λ (k i : ℕ). spareSet n (take k (drop i l))) count ea
 
 -- ---- number 10
 

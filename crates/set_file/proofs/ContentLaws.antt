@@ -11,19 +11,22 @@ use lib.Dec.{eqb, ltb}
 use lib.ListN.{length, getD, drop, length-append}
 use lib.Seq.{getD-take, getD-drop}
 use Rattle.word.specs.Some.{anyBelow}
-use Rattle.word.specs.Joined.{joined}
+use Rattle.numbers.specs.Joined.{joined}
 use Rattle.word.proofs.SomeLaws.{any-below-ext, any-below-false}
 use Rattle.word.proofs.BoolLaws.{or-false-left, or-false-right}
-use Rattle.word.proofs.ByteLaws.{bytes-of-length, length-word-bytes}
-use Rattle.word.proofs.FileLaws.{part-small}
-use Rattle.register.specs.Row.{rowBytes, spareSet}
+use Rattle.numbers.proofs.ByteLaws.{bytes-of-length, length-word-bytes}
+use Rattle.numbers.proofs.FileLaws.{part-small}
+use Rattle.rows.specs.Row.{rowBytes, spareSet}
 use Rattle.register.specs.Circuit.{badChains}
 use Rattle.set_file.specs.Layout.{setLength}
-use Rattle.set_file.specs.Writing.{SetContent, contentOf, chainCount, listRow, sliceBytes, setBytes, badRows, spareInLists, valuedInLists}
-use Rattle.set_file.specs.Code.{sharesBit, inTurn}
-use Rattle.set_file.proofs.LayoutLaws.{good-chains, list-row-length}
-use Rattle.set_file.proofs.RangeLaws.{any-below-blocks}
-use Rattle.set_file.proofs.RowLaws.{valued-bytes}
+use Rattle.set_file.specs.Writing.{SetContent, contentOf, chainCount, sliceBytes, setBytes, badRows, spareInLists, valuedInLists}
+use Rattle.rows.specs.Lists.{listRow}
+use Rattle.set_file.specs.Code.{inTurn}
+use Rattle.rows.specs.Lists.{sharesBit}
+use Rattle.set_file.proofs.LayoutLaws.{good-chains}
+use Rattle.rows.proofs.CellLaws.{list-row-length}
+use Rattle.word.proofs.RangeLaws.{any-below-blocks}
+use Rattle.rows.proofs.RowLaws.{valued-bytes}
 use Rattle.set_file.proofs.WriteLaws.{in-turn-length}
 
 pub chains-small : (n : ℕ) (r : Bool) → r ≡ badChains n → r ≡ false → n < 65536

@@ -9,13 +9,13 @@ use lib.Dec.{ltb}
 use lib.ListN.{length, length-append}
 use lib.Seq.{sets}
 use Rattle.word.specs.Word.{badWidth}
-use Rattle.word.specs.Bytes.{bytesOf, wordBytes}
-use Rattle.word.specs.Joined.{joined}
+use Rattle.numbers.specs.Bytes.{bytesOf, wordBytes}
+use Rattle.numbers.specs.Joined.{joined}
 use Rattle.word.specs.Reply.{Reply, answer, refusal, replied, firstOf, front, lent}
 use Rattle.word.proofs.ReplyLaws.{replied-refusal}
-use Rattle.word.proofs.ByteLaws.{bytes-of-length, length-word-bytes}
-use Rattle.word.proofs.FileLaws.{sets-parts, front-sets}
-use Rattle.register.specs.Row.{rowBytes}
+use Rattle.numbers.proofs.ByteLaws.{bytes-of-length, length-word-bytes}
+use Rattle.numbers.proofs.FileLaws.{sets-parts, front-sets}
+use Rattle.rows.specs.Row.{rowBytes}
 use Rattle.register.specs.Circuit.{badTaps, badChains, badSpread}
 use Rattle.set_file.specs.Layout.{rowsAt, setLength}
 use Rattle.set_file.specs.Writing.{SetContent, chainCount, sliceBytes, setBytes, badRows, spareInLists, valuedInLists, writeTests, writeReply, saidWritten}

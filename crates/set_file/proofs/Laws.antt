@@ -16,13 +16,13 @@ use Rattle.word.proofs.SomeLaws.{any-below-false}
 use Rattle.word.proofs.BoolLaws.{or-false-right}
 use Rattle.word.proofs.ReplyLaws.{replied-refusal}
 use Rattle.word.proofs.TestLaws.{none-and-rest, replied-answer, replied-number}
-use Rattle.register.specs.Row.{rowBytes, spareSet}
+use Rattle.rows.specs.Row.{rowBytes, spareSet}
 use Rattle.register.specs.Circuit.{badTaps, badChains, badSpread}
 use Rattle.set_file.specs.Layout.{spreadAt, slicesAt, rowsAt, setLength, widthOf, tapsOf, chainsOf, spreadOf, slicesOf, valueRow, markRow, values, marks}
 use Rattle.set_file.specs.Reading.{badSlices, spareInRows, valuedUnknown, setTests, SetParts, partsOf, setReply}
 use Rattle.set_file.proofs.LayoutLaws.{good-chains}
 use Rattle.set_file.proofs.SliceLaws as slices
-use Rattle.word.proofs.ByteLaws.{length-words-at}
+use Rattle.numbers.proofs.ByteLaws.{length-words-at}
 
 -- ---- the reader's reply
 

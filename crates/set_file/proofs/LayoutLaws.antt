@@ -9,17 +9,17 @@ use native.Mathlib.Omega.{arith}
 use borrow.Author.Tests.{ltb-false}
 use lib.Dec.{ltb}
 use lib.ListN.{length, getD, take, set, length-take, length-drop}
-use Rattle.word.specs.Bytes.{wordAt, wordsAt}
+use Rattle.numbers.specs.Bytes.{wordAt, wordsAt}
 use Rattle.word.specs.Reply.{front}
 use Rattle.word.proofs.BoolLaws.{or-false-left, or-false-right}
 use Rattle.word.proofs.FrontLaws.{front-next, front-nothing, front-whole}
-use Rattle.word.proofs.FileLaws.{word-at-place}
-use Rattle.register.specs.Row.{rowBytes}
+use Rattle.numbers.proofs.FileLaws.{word-at-place}
+use Rattle.rows.specs.Row.{rowBytes}
 use Rattle.register.specs.Circuit.{badChains}
 use Rattle.set_file.specs.Layout.{spreadAt}
-use Rattle.set_file.specs.Writing.{listRow}
+use Rattle.rows.specs.Lists.{listRow}
 use Rattle.set_file.specs.Code.{noWords}
-use Rattle.word.proofs.ByteLaws.{length-words-at}
+use Rattle.numbers.proofs.ByteLaws.{length-words-at}
 
 pub good-chains : (n : ℕ) → badChains n ≡ false → (1 ≤ n) × (n ≤ 256)
 unfolding badChains
@@ -48,13 +48,3 @@ spread-turn l ws n c w e h b r =
 pub spread-end : (l ws : List ℕ) (n c : ℕ) → ws ≡ front (take c (wordsAt l spreadAt n)) noWords → c ≡ n → ws ≡ front (wordsAt l spreadAt n) noWords
 spread-end l ws n c e h =
     e ∙ ap (λ (k : ℕ). front (take k (wordsAt l spreadAt n)) noWords) (h ∙ sym (length-words-at l spreadAt n)) ∙ front-whole (wordsAt l spreadAt n) noWords
-
--- ---- rows
-
--- one row more lies within the rows
-pub row-step : (b t s : ℕ) → t < s → b * t + b ≤ b * s
-row-step b t s h = rw mul-suc at (mul-le-mul-left b h)
-
-pub list-row-length : (n : ℕ) (l : List ℕ) (s t : ℕ) → length l ≡ rowBytes n * s → t < s → length (listRow n l t) ≡ rowBytes n
-unfolding listRow
-list-row-length n l s t e h = simp (length-take, length-drop) (omega (arith, row-step (rowBytes n) t s h))

@@ -9,7 +9,7 @@ use lib.Dec.{ltb}
 use lib.ListN.{length, take, drop}
 use Rattle.word.specs.Reply.{Reply, answer, refusal, replied, firstOf, _when_}
 use Rattle.word.proofs.ReplyLaws.{replied-refusal, refuses, passes}
-use Rattle.register.specs.Row.{rowBytes}
+use Rattle.rows.specs.Row.{rowBytes}
 use Rattle.set_file.specs.Layout.{setLength, chainsOf, slicesOf, valueAt, markAt, valueRow, markRow}
 use Rattle.set_file.specs.Reading.{setTests}
 use Rattle.set_file.specs.Rows.{Stretch, rowTests, rowReply, valueReply, markReply, stretch, saidPlace}

@@ -25,25 +25,26 @@ use lib.Pow.{pow-mono}
 use lib.Seq.{take-add, drop-drop, take-at, drop-at}
 use Rattle.word.specs.Word.{badWidth}
 use Rattle.word.specs.Some.{anyBelow}
-use Rattle.word.specs.Bytes.{countAt, wordsAt, bytesOf, wordBytes}
-use Rattle.word.specs.Joined.{joined}
+use Rattle.numbers.specs.Bytes.{countAt, wordsAt, bytesOf, wordBytes}
+use Rattle.numbers.specs.Joined.{joined}
 use Rattle.word.specs.Reply.{Reply, answer, firstOf, front, lent}
 use Rattle.word.proofs.SomeLaws.{any-below-ext}
 use Rattle.word.proofs.BoolLaws.{or-false}
-use Rattle.word.proofs.ByteLaws.{bytes-of-length, length-word-bytes}
-use Rattle.word.proofs.FileLaws.{number-back, words-back, number-bytes, words-bytes, part-joins}
-use Rattle.word.proofs.JoinLaws.{joined-ext, joined-length, joined-row, joined-back}
+use Rattle.numbers.proofs.ByteLaws.{bytes-of-length, length-word-bytes}
+use Rattle.numbers.proofs.FileLaws.{number-back, words-back, number-bytes, words-bytes, part-joins}
+use Rattle.numbers.proofs.JoinLaws.{joined-ext, joined-length, joined-row, joined-back}
 use Rattle.word.proofs.TestLaws.{replied-answer}
 use Rattle.word.proofs.WordLaws.{good-width}
-use Rattle.register.specs.Row.{cell, rowBytes, spareSet}
+use Rattle.rows.specs.Row.{cell, rowBytes, spareSet}
 use Rattle.register.specs.Circuit.{badTaps, badChains, badSpread}
 use Rattle.register.proofs.Laws.{good-taps, good-spread}
 use Rattle.set_file.specs.Layout.{slicesAt, rowsAt, setLength, widthOf, tapsOf, chainsOf, spreadOf, slicesOf, valueAt, valueRow, markRow, valuesOf, marksOf}
 use Rattle.set_file.specs.Reading.{badSlices, spareInRows, valuedUnknown, setTests, SetParts, setReply, spreadBeside}
 use Rattle.set_file.specs.Rows.{valueReply, markReply, stretch}
-use Rattle.set_file.specs.Writing.{SetContent, contentIn, chainCount, listRow, sliceBytes, setBytes, badRows, spareInLists, valuedInLists, writeTests, writeReply}
+use Rattle.set_file.specs.Writing.{SetContent, contentIn, chainCount, sliceBytes, setBytes, badRows, spareInLists, valuedInLists, writeTests, writeReply}
+use Rattle.rows.specs.Lists.{listRow}
 use Rattle.set_file.specs.Code.{headBytes}
-use Rattle.set_file.proofs.LayoutLaws.{list-row-length}
+use Rattle.rows.proofs.CellLaws.{list-row-length}
 use Rattle.set_file.proofs.SliceLaws.{rowsOf}
 use Rattle.set_file.proofs.SliceLaws as slices
 use Rattle.set_file.proofs.Laws.{Accepted, accepted, spread-length, value-row-length, mark-row-length, set-answers}

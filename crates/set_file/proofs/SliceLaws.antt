@@ -10,15 +10,15 @@ use lib.Seq.{drop-drop}
 use Rattle.word.specs.Some.{anyBelow}
 use Rattle.word.proofs.SomeLaws.{any-below-false, any-below-ext}
 use Rattle.word.proofs.BoolLaws.{or-false-left, or-false-right}
-use Rattle.word.proofs.FileLaws.{part-small}
-use Rattle.register.specs.Row.{rowBytes, spareSet}
+use Rattle.numbers.proofs.FileLaws.{part-small}
+use Rattle.rows.specs.Row.{rowBytes, spareSet}
 use Rattle.set_file.specs.Layout.{rowsAt, setLength, chainsOf, slicesOf, valueAt, markAt, valueRow, markRow}
 use Rattle.set_file.specs.Reading.{spareInRows, valuedUnknown}
-use Rattle.set_file.specs.Writing.{listRow}
-use Rattle.set_file.specs.Code.{sharesBit}
-use Rattle.set_file.proofs.LayoutLaws.{row-step}
-use Rattle.set_file.proofs.RangeLaws.{any-below-pairs}
-use Rattle.set_file.proofs.RowLaws.{SpareRow, valued-bytes}
+use Rattle.rows.specs.Lists.{listRow}
+use Rattle.rows.specs.Lists.{sharesBit}
+use Rattle.rows.proofs.CellLaws.{row-step}
+use Rattle.word.proofs.RangeLaws.{any-below-pairs}
+use Rattle.rows.proofs.RowLaws.{SpareRow, valued-bytes}
 
 -- the rows of a set, from its first
 abbrev pub rowsOf : List ℕ → List ℕ

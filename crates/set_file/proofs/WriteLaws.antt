@@ -12,13 +12,13 @@ use borrow.Author.Tests.{ltb-false, le-ltb}
 use lib.Dec.{ltb}
 use lib.ListN.{length, getD, take, drop, set, length-set, length-append, length-take, length-drop, drop-of-length-le}
 use lib.Seq.{drop-cons, sets, length-sets}
-use Rattle.word.proofs.FileLaws.{sets-parts}
-use Rattle.word.specs.Joined.{joined}
-use Rattle.word.proofs.JoinLaws.{joined-length}
-use Rattle.word.proofs.WritingLaws.{Writing, writing-start, writing-past, writing-end}
+use Rattle.numbers.proofs.FileLaws.{sets-parts}
+use Rattle.numbers.specs.Joined.{joined}
+use Rattle.numbers.proofs.JoinLaws.{joined-length}
+use Rattle.numbers.proofs.WritingLaws.{Writing, writing-start, writing-past, writing-end}
 use Rattle.set_file.specs.Code.{inTurn}
 use Rattle.word.proofs.BoolLaws.{or-false, or-false-left, or-false-right}
-use Rattle.set_file.proofs.LayoutLaws.{row-step}
+use Rattle.rows.proofs.CellLaws.{row-step}
 use Rattle.set_file.proofs.CodeLaws.{rows-small}
 
 -- ---- bytes

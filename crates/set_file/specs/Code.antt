@@ -1,8 +1,7 @@
--- What the inner functions compute: 256 zero words, a faster way to put the test for number 10, byte by byte instead of cell
--- by cell, two lists of rows taken in turn, and the part of a set file that stands before its rows.
+-- What the inner functions compute: 256 zero words, two lists of rows taken in turn, and the part of a set file that stands before
+-- its rows.
 --
 --   noWords             256 zero words
---   sharesBit v k       at some place a byte of v and a byte of k have a bit in common
 --   inTurn b v k s      the first s rows, of b bytes each, of v and of k: row 0 of v, row 0 of k, row 1 of v, row 1 of k, ..
 --   headBytes m t ws s  the set file's bytes before its rows: m and the tap word, n and the spread words, s
 use mathlib.Core.Bool.{Bool, not}
@@ -12,14 +11,11 @@ use lib.Bits.{bitAnd}
 use lib.Dec.{eqb}
 use lib.ListN.{length, getD, take, drop, replicate}
 use Rattle.word.specs.Some.{anyBelow}
-use Rattle.word.specs.Joined.{joined}
-use Rattle.word.specs.Bytes.{bytesOf, wordBytes}
+use Rattle.numbers.specs.Joined.{joined}
+use Rattle.numbers.specs.Bytes.{bytesOf, wordBytes}
 
 unfoldable pub noWords : List ℕ
 noWords = replicate 256 0
-
-unfoldable pub sharesBit : List ℕ → List ℕ → Bool
-sharesBit v k = anyBelow (min (length v) (length k)) (λ i. not (eqb (bitAnd (getD v i 0) (getD k i 0)) 0))
 
 unfoldable pub inTurn : ℕ → List ℕ → List ℕ → ℕ → List ℕ
 inTurn b v k s = joined (λ t. take b (drop (b * t) v) ++ take b (drop (b * t) k)) s

@@ -22,9 +22,9 @@
 use mathlib.Core.List.{List}
 use Prim.Native.Nat.{ℕ, _+_, _*_}
 use lib.ListN.{take, drop}
-use Rattle.word.specs.Bytes.{countAt, wordAt, wordsAt}
-use Rattle.word.specs.Joined.{joined}
-use Rattle.register.specs.Row.{Cells, cell, rowBytes}
+use Rattle.numbers.specs.Bytes.{countAt, wordAt, wordsAt}
+use Rattle.numbers.specs.Joined.{joined}
+use Rattle.rows.specs.Row.{Cells, cell, rowBytes}
 use Rattle.register.specs.Circuit.{Circuit}
 
 abbrev pub spreadAt : ℕ

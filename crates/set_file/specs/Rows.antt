@@ -15,7 +15,7 @@ use Prim.Native.Nat.{ℕ}
 use lib.Dec.{ltb}
 use lib.ListN.{take, drop}
 use Rattle.word.specs.Reply.{Test, _when_, Reply, answer, refusal, reply}
-use Rattle.register.specs.Row.{rowBytes}
+use Rattle.rows.specs.Row.{rowBytes}
 use Rattle.set_file.specs.Layout.{chainsOf, slicesOf, valueAt, markAt}
 use Rattle.set_file.specs.Reading.{setTests}
 use Rattle.set_file.specs.declared.Place.{Place}

@@ -5,7 +5,6 @@
 --   contentOf m t ws v k s    the content of these: m, the tap word, the spread words, the value rows, the mark rows, s
 --   contentIn set       the content of a set file: what the writer is handed to write it again
 --   chainCount k        document 01: n
---   listRow n l t       row t of a list of rows of n chains
 --   sliceBytes k t      slice t: its value row and its row of unknown marks
 --   setBytes k          the set file of the content k
 --   badRows k           document 01, 8: the length of a list of rows isn't what the counts give
@@ -21,10 +20,11 @@ use lib.Dec.{eqb, ltb}
 use lib.ListN.{length, take, drop}
 use Rattle.word.specs.Word.{badWidth}
 use Rattle.word.specs.Some.{anyBelow}
-use Rattle.word.specs.Bytes.{bytesOf, wordBytes}
-use Rattle.word.specs.Joined.{joined}
+use Rattle.numbers.specs.Bytes.{bytesOf, wordBytes}
+use Rattle.numbers.specs.Joined.{joined}
 use Rattle.word.specs.Reply.{Test, _when_, Reply, answer, refusal, reply}
-use Rattle.register.specs.Row.{cell, rowBytes, spareSet}
+use Rattle.rows.specs.Row.{cell, rowBytes, spareSet}
+use Rattle.rows.specs.Lists.{listRow}
 use Rattle.register.specs.Circuit.{badTaps, badChains, badSpread}
 use Rattle.set_file.specs.Layout.{setLength, widthOf, tapsOf, spreadOf, slicesOf, valuesOf, marksOf}
 use Rattle.set_file.specs.declared.Written.{Written}
@@ -46,9 +46,6 @@ contentIn set = contentOf (widthOf set) (tapsOf set) (spreadOf set) (valuesOf se
 
 abbrev pub chainCount : SetContent → ℕ
 chainCount k = length (k .spread)
-
-unfoldable pub listRow : ℕ → List ℕ → ℕ → List ℕ
-listRow n l t = take (rowBytes n) (drop (rowBytes n * t) l)
 
 unfoldable pub sliceBytes : SetContent → ℕ → List ℕ
 sliceBytes k t = listRow (chainCount k) (k .values) t ++ listRow (chainCount k) (k .marks) t

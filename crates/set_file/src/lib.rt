@@ -1,20 +1,21 @@
 // The set file of document 01: its reader, the rows of one slice, and its writer.
 ghost use mathlib.Core.Path.{_≡_};
 ghost use mathlib.Core.Bool.{false, not, _||_};
-ghost use Prim.Native.Nat.{min, _*_, _≤_};
+ghost use Prim.Native.Nat.{_*_, _≤_};
 ghost use lib.Dec.{eqb, ltb};
 ghost use lib.ListN.{length};
 ghost use lib.Seq.{sets};
 ghost use Rattle.word.specs.Some.{anyBelow};
 ghost use Rattle.word.specs.Word.{badWidth};
 ghost use Rattle.word.specs.Reply.{firstOf, front, lent, numberOf};
-ghost use Rattle.register.specs.Row.{rowBytes, spareSet};
+ghost use Rattle.rows.specs.Row.{rowBytes, spareSet};
 ghost use Rattle.register.specs.Circuit.{badTaps, badChains, badSpread};
 ghost use Rattle.set_file.specs.Layout.{slicesAt, rowsAt, setLength, widthOf, tapsOf, chainsOf, spreadOf, slicesOf};
 ghost use Rattle.set_file.specs.Reading.{badSlices, spareInRows, valuedUnknown, setTests, setReply, spreadBeside, said};
 ghost use Rattle.set_file.specs.Rows.{rowTests, valueReply, markReply, stretch, saidPlace};
-ghost use Rattle.set_file.specs.Writing.{contentOf, listRow, setBytes, writeTests, writeReply, saidWritten};
-ghost use Rattle.set_file.specs.Code.{noWords, sharesBit, inTurn, headBytes};
+ghost use Rattle.set_file.specs.Writing.{contentOf, setBytes, writeTests, writeReply, saidWritten};
+ghost use Rattle.rows.specs.Lists.{listRow};
+ghost use Rattle.set_file.specs.Code.{noWords, inTurn, headBytes};
 
 // What the set reader answers: m, the tap word, n and s, or the first number that applies.
 pub enum SetAnswer {
@@ -67,7 +68,7 @@ fn rows_length(n: u16, s: u16) -> usize
     ensures { λ r. ⌜ (r ≡ rowBytes n * s) × (r ≤ 536870912) ⌝ }
 {
     let slices = s as usize;
-    register::row_bytes(n as usize) * slices
+    rows::row_bytes(n as usize) * slices
 }
 
 // The bytes of a set of n chains and s slices, and so the place of slice s's value row.
@@ -81,14 +82,14 @@ fn set_length(n: u16, s: u16) -> usize
 fn chain_count(set: &[u8]) -> u16
     ensures { λ r. ⌜ r ≡ chainsOf (now (set .entry)) ⌝ }
 {
-    word::read_count(set, CHAINS_AT) as u16
+    numbers::read_count(set, CHAINS_AT) as u16
 }
 
 // s, as the set gives it.
 fn slice_count(set: &[u8]) -> u16
     ensures { λ r. ⌜ r ≡ slicesOf (now (set .entry)) ⌝ }
 {
-    word::read_count(set, slices_at(chain_count(set))) as u16
+    numbers::read_count(set, slices_at(chain_count(set))) as u16
 }
 
 // 256 zero words.
@@ -106,10 +107,10 @@ fn spread_words(set: &[u8]) -> [u64; 256]
     let mut words = no_words();
     let mut c = 0;
     while c < n {
-        if register::Register::LARGEST_CHAINS <= c {
+        if register::Register::LARGEST_CHAINS <= c as u64 {
             return words;
         }
-        words[c] = word::read_word(set, SPREAD_AT + 8 * c);
+        words[c] = numbers::read_word(set, SPREAD_AT + 8 * c);
         c += 1;
     }
     words
@@ -126,21 +127,24 @@ fn is_short(set: &[u8]) -> bool
 fn has_bad_width(set: &[u8]) -> bool
     ensures { λ r. ⌜ r ≡ badWidth (widthOf (now (set .entry))) ⌝ }
 {
-    word::is_bad_width(word::read_count(set, 0))
+    word::is_bad_width(numbers::read_count(set, 0))
 }
 
 // Number 3: whether the tap word has bit 0 clear or a bit at or above m.
 fn has_bad_taps(set: &[u8]) -> bool
     ensures { λ r. ⌜ r ≡ badTaps (widthOf (now (set .entry))) (tapsOf (now (set .entry))) ⌝ }
 {
-    register::is_bad_taps(word::read_count(set, 0), word::read_word(set, TAPS_AT))
+    register::is_bad_taps(
+        numbers::read_count(set, 0),
+        numbers::read_word(set, TAPS_AT),
+    )
 }
 
 // Number 4: whether the chain count is absent or isn't 1 to 256.
 fn has_bad_chains(set: &[u8]) -> bool
     ensures { λ r. ⌜ r ≡ (ltb (length (now (set .entry))) 12 || badChains (chainsOf (now (set .entry)))) ⌝ }
 {
-    (set.len() < SPREAD_AT) | register::is_bad_chains(chain_count(set) as usize)
+    (set.len() < SPREAD_AT) | register::is_bad_chains(chain_count(set) as u64)
 }
 
 // Number 5: whether the set ends before the last spread word.
@@ -154,12 +158,12 @@ fn ends_in_spread(set: &[u8]) -> bool
 fn has_bad_spread(set: &[u8]) -> bool
     ensures { λ r. ⌜ r ≡ badSpread (widthOf (now (set .entry))) (spreadOf (now (set .entry))) ⌝ }
 {
-    let m = word::read_count(set, 0);
+    let m = numbers::read_count(set, 0);
     let n = chain_count(set);
     let mut c: u16 = 0;
     while c < n {
         let chain = c as usize;
-        if register::is_bad_spread_word(m, word::read_word(set, SPREAD_AT + 8 * chain)) {
+        if register::is_bad_spread_word(m, numbers::read_word(set, SPREAD_AT + 8 * chain)) {
             return true;
         }
         c += 1;
@@ -188,38 +192,6 @@ fn has_wrong_length(set: &[u8]) -> bool
     set.len() != set_length(chain_count(set), slice_count(set))
 }
 
-// The same as `has_spare_row`, by one byte of each row.
-fn finds_spare_row(n: usize, rows: &[u8], count: usize) -> bool
-    ensures { λ r. ⌜ r ≡ anyBelow count (λ t. spareSet n (listRow n (now (rows .entry)) t)) ⌝ }
-{
-    let bytes = register::row_bytes(n);
-    let mut at = 0;
-    let mut t = 0;
-    while t < count {
-        if rows.len() - at < bytes {
-            return false;
-        }
-        let end = at + bytes;
-        if register::has_spare_bit(n, &rows[at..end]) {
-            return true;
-        }
-        at = end;
-        t += 1;
-    }
-    false
-}
-
-// Whether one of the first `count` rows of a list of rows of n chains has a spare bit set; a row past the end of the list is
-// all 0. Rows of whole bytes have none. It meets no number.
-pub fn has_spare_row(n: usize, rows: &[u8], count: usize) -> bool
-    ensures { λ r. ⌜ r ≡ anyBelow count (λ t. spareSet n (listRow n (now (rows .entry)) t)) ⌝ }
-{
-    if n % 8 == 0 {
-        return false;
-    }
-    finds_spare_row(n, rows, count)
-}
-
 // Number 9: whether a row of the set has a spare bit set.
 fn has_spare_bits(set: &[u8]) -> bool
     ensures { λ r. ⌜ r ≡ spareInRows (now (set .entry)) ⌝ }
@@ -230,28 +202,7 @@ fn has_spare_bits(set: &[u8]) -> bool
     if set.len() < at {
         return false;
     }
-    has_spare_row(n as usize, &set[at..], rows)
-}
-
-// The shorter of two lengths.
-fn shorter(a: usize, b: usize) -> usize
-    ensures { λ r. ⌜ r ≡ min a b ⌝ }
-{
-    if a < b { a } else { b }
-}
-
-// Whether a byte of `values` and the byte of `marks` at the same place have a bit in common.
-fn share_a_bit(values: &[u8], marks: &[u8]) -> bool
-    ensures { λ r. ⌜ r ≡ sharesBit (now (values .entry)) (now (marks .entry)) ⌝ }
-{
-    let common = shorter(values.len(), marks.len());
-    let mut shared = 0u8;
-    let mut i = 0;
-    while i < common {
-        shared = shared | (values[i] & marks[i]);
-        i += 1;
-    }
-    shared != 0
+    rows::has_spare_row(n as usize, &set[at..], rows)
 }
 
 // Number 10, for a set of the right length in which no spare bit is set: whether an unknown cell has its value bit set. Whole
@@ -261,7 +212,7 @@ fn has_valued_unknown(set: &[u8]) -> bool
 {
     let n = chain_count(set);
     let s = slice_count(set);
-    let bytes = register::row_bytes(n as usize);
+    let bytes = rows::row_bytes(n as usize);
     let mut at = rows_at(n);
     let mut t: u16 = 0;
     while t < s {
@@ -270,7 +221,7 @@ fn has_valued_unknown(set: &[u8]) -> bool
         if set.len() < end {
             return false;
         }
-        if share_a_bit(&set[at..mark], &set[mark..end]) {
+        if rows::share_a_bit(&set[at..mark], &set[mark..end]) {
             return true;
         }
         at = end;
@@ -331,8 +282,8 @@ pub fn read_set(set: &[u8]) -> SetRead
     }
     SetRead {
         answer: SetAnswer::Read {
-            m: word::read_count(set, 0),
-            taps: word::read_word(set, TAPS_AT),
+            m: numbers::read_count(set, 0),
+            taps: numbers::read_word(set, TAPS_AT),
             n: chain_count(set) as u64,
             s: slice_count(set) as u64,
         },
@@ -372,7 +323,7 @@ pub fn value_place(set: &[u8], slice: u64) -> Place
     let n = chain_count(set);
     Place::At {
         start: set_length(n, slice as u16),
-        bytes: register::row_bytes(n as usize),
+        bytes: rows::row_bytes(n as usize),
     }
 }
 
@@ -397,7 +348,7 @@ fn stretch_at(set: &[u8], place: Place) -> &[u8]
     let Place::At { start, bytes } = place else {
         return &set[..0];
     };
-    word::part(set, start, bytes)
+    numbers::part(set, start, bytes)
 }
 
 // The value row of a slice, the stretch of the set itself; empty where `value_place` declines.
@@ -426,7 +377,7 @@ fn are_bad_rows(n: u16, s: u16, values: &[u8], marks: &[u8]) -> bool
 fn has_spare_list(n: usize, s: usize, values: &[u8], marks: &[u8]) -> bool
     ensures { λ r. ⌜ r ≡ anyBelow s (λ t. spareSet n (listRow n (now (values .entry)) t) || spareSet n (listRow n (now (marks .entry)) t)) ⌝ }
 {
-    has_spare_row(n, values, s) | has_spare_row(n, marks, s)
+    rows::has_spare_row(n, values, s) | rows::has_spare_row(n, marks, s)
 }
 
 // Number 24: whether `room` bytes are too few for a set of n chains and s slices.
@@ -454,7 +405,7 @@ fn first_write_refusal(
     if register::is_bad_taps(m, taps) {
         return 3;
     }
-    if register::is_bad_chains(spread.len()) {
+    if register::is_bad_chains(spread.len() as u64) {
         return 4;
     }
     if register::is_bad_spread(m, spread) {
@@ -471,7 +422,7 @@ fn first_write_refusal(
     if has_spare_list(n as usize, slices as usize, values, marks) {
         return 9;
     }
-    if share_a_bit(values, marks) {
+    if rows::share_a_bit(values, marks) {
         return 10;
     }
     if lacks_room(room, n, slices) {
@@ -487,7 +438,7 @@ fn write_bytes(out: &mut [u8], at: usize, bytes: &[u8])
     if out.len() <= at {
         return;
     }
-    let count = shorter(bytes.len(), out.len() - at);
+    let count = numbers::shorter(bytes.len(), out.len() - at);
     let mut i = 0;
     while i < count {
         out[at + i] = bytes[i];
@@ -500,18 +451,18 @@ fn write_head(out: &mut [u8], m: u64, taps: u64, spread: &[u64], s: u64)
     ensures { λ _. ⌜ now (out .exit) ≡ sets (now (out .entry)) 0 (headBytes m taps (now (spread .entry)) s) ⌝ }
 {
     let n = spread.len();
-    word::write_count(out, 0, m);
-    word::write_word(out, TAPS_AT, taps);
-    word::write_count(out, CHAINS_AT, n as u64);
-    word::write_words(out, SPREAD_AT, spread);
-    word::write_count(out, SPREAD_AT + 8 * n, s);
+    numbers::write_count(out, 0, m);
+    numbers::write_word(out, TAPS_AT, taps);
+    numbers::write_count(out, CHAINS_AT, n as u64);
+    numbers::write_words(out, SPREAD_AT, spread);
+    numbers::write_count(out, SPREAD_AT + 8 * n, s);
 }
 
 // The first s value rows and mark rows of n chains, in turn, where a set of n chains has its rows.
 fn write_slices(out: &mut [u8], n: u16, s: u16, values: &[u8], marks: &[u8])
     ensures { λ _. ⌜ (length (now (values .entry)) ≡ rowBytes n * s → length (now (marks .entry)) ≡ rowBytes n * s → now (out .exit) ≡ sets (now (out .entry)) (rowsAt n) (inTurn (rowBytes n) (now (values .entry)) (now (marks .entry)) s)) ⌝ }
 {
-    let bytes = register::row_bytes(n as usize);
+    let bytes = rows::row_bytes(n as usize);
     let mut to = rows_at(n);
     let mut from = 0;
     let mut t: u16 = 0;

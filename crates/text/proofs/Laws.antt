@@ -10,7 +10,7 @@ use borrow.Author.Tests.{le-leb, lt-leb, lt-ltb, le-ltb}
 use lib.Dec.{leb, ltb}
 use lib.ListN.{length, getD, set, take, drop, length-set, length-drop, drop-of-length-le}
 use lib.Seq.{sets, take-all, drop-cons, drop-set-lt, getD-set-same}
-use Rattle.word.proofs.ByteLaws.{sets-past-end}
+use Rattle.numbers.proofs.ByteLaws.{sets-past-end}
 use Rattle.text.specs.Text.{digitsIn, decimal, placeAfter}
 
 -- ---- bytes

@@ -1,14 +1,10 @@
 pub mod BoolLaws
 pub mod SomeLaws
+pub mod RangeLaws
 pub mod Laws
 pub mod ParityLaws
 pub mod WordLaws
 pub mod SpanLaws
-pub mod ByteLaws
-pub mod FileLaws
-pub mod WritingLaws
-pub mod JoinLaws
-pub mod PartLaws
 pub mod FrontLaws
 pub mod ReplyLaws
 pub mod TestLaws

@@ -1,8 +1,6 @@
 pub mod Word
-pub mod Bytes
 pub mod Reply
 pub mod Some
 pub mod Worked
 pub mod Span
 pub mod Parities
-pub mod Joined

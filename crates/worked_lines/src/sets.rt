@@ -108,18 +108,18 @@ pub fn read(set: &[u8]) {
 // A set without rows: n chains, each with the spread word 1, and the slice count s.
 pub fn read_edge(m: u64, taps: u64, n: usize, s: u64) {
     let mut set = no_bytes();
-    word::write_count(&mut set, 0, m);
-    word::write_word(&mut set, 2, taps);
-    word::write_count(&mut set, 10, n as u64);
+    numbers::write_count(&mut set, 0, m);
+    numbers::write_word(&mut set, 2, taps);
+    numbers::write_count(&mut set, 10, n as u64);
     let mut c: usize = 0;
     while c < n {
         if 300 <= c {
             return;
         }
-        word::write_word(&mut set, 12 + 8 * c, 1);
+        numbers::write_word(&mut set, 12 + 8 * c, 1);
         c += 1;
     }
-    word::write_count(&mut set, 12 + 8 * c, s);
+    numbers::write_count(&mut set, 12 + 8 * c, s);
     read(&set[..14 + 8 * c]);
 }
 
@@ -165,7 +165,7 @@ pub fn columns(set: &[u8]) {
 fn bytes(row: &[u8]) {
     let mut i: usize = 0;
     while i < row.len() {
-        number(word::wide(row[i]));
+        number(numbers::wide(row[i]));
         i += 1;
     }
 }

@@ -4,7 +4,7 @@ use Prim.Native.Nat.{_+_, _≤_, _-_}
 use native.Mathlib.Omega.{arith}
 use lib.ListN.{length}
 use lib.Seq.{sets}
-use Rattle.word.specs.Bytes.{bytesOf}
+use Rattle.numbers.specs.Bytes.{bytesOf}
 use Rattle.plan_file.proofs.WriteLaws.{bytes-start, bytes-turn, bytes-end}
 use borrow.Author.Needs.{needs}
 use Rattle.plan_file.proofs.write_low_bytes.Statement.{statement}

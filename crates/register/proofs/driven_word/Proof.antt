@@ -5,7 +5,7 @@ use native.Mathlib.Numerals.{add-one}
 use native.Mathlib.Omega.{arith}
 use borrow.Author.Needs.{needs}
 use lib.ListN.{length}
-use Rattle.register.specs.Row.{cell}
+use Rattle.rows.specs.Row.{cell}
 use Rattle.register.specs.Circuit.{driven}
 use Rattle.register.proofs.Laws.{driven-none, driven-suc}
 use Rattle.register.proofs.driven_word.Statement.{statement}

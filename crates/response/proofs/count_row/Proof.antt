@@ -4,7 +4,7 @@ use Prim.Native.Nat.{ℕ, _+_, _-_, _*_, _≤_, _<_}
 use native.Mathlib.Omega.{arith}
 use lib.ListN.{getD}
 use lib.Count.{ones}
-use Rattle.register.specs.Row.{cell}
+use Rattle.rows.specs.Row.{cell}
 use Rattle.response.specs.Columns.{total}
 use Rattle.response.proofs.CountLaws.{count-start, count-turns, count-le, ones-word-le}
 use borrow.Author.Needs.{needs}

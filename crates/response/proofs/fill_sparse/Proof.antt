@@ -5,7 +5,7 @@ use Prim.Native.Nat.{ℕ, _≤_, min}
 use native.Mathlib.Omega.{arith}
 use lib.ListN.{length, take, drop, length-take}
 use lib.Seq.{length-take-le, length-front}
-use Rattle.register.specs.Row.{cell}
+use Rattle.rows.specs.Row.{cell}
 use Rattle.register.specs.Circuit.{badSpread}
 use Rattle.response.specs.Code.{circuit, markCells}
 use Rattle.response.proofs.BackLaws.{back-length}

@@ -6,7 +6,7 @@ use Prim.Native.Nat.{ℕ, _≤_, min}
 use native.Mathlib.Omega.{arith}
 use lib.ListN.{length, take, drop}
 use lib.Seq.{length-take-le}
-use Rattle.register.specs.Row.{cell}
+use Rattle.rows.specs.Row.{cell}
 use Rattle.response.specs.Code.{circuit, markCells}
 use Rattle.response.proofs.FillLaws.{Filled, filled-room, filled-starts, filled-down, filled-ends, part-through, part-through-length, columns-limited}
 use borrow.Author.Needs.{needs}

@@ -1,6 +1,6 @@
 -- `has_spare_list` meets its contract.
-use Rattle.set_file.proofs.RowLaws.{SpareRow}
-use Rattle.set_file.proofs.RangeLaws.{any-below-or}
+use Rattle.rows.proofs.RowLaws.{SpareRow}
+use Rattle.word.proofs.RangeLaws.{any-below-or}
 use mathlib.Core.Bool.{Bool, _||_}
 use mathlib.Core.Path.{sym, ap₂, _∙_}
 use borrow.Author.Needs.{needs}

@@ -1,7 +1,7 @@
 -- `has_valued_unknown` meets its contract: in the slices passed no value row shares a bit with its mark row.
 use borrow.Author.Needs.{needs}
 use Rattle.set_file.proofs.CodeLaws.{Unshared, unshared-start, unshared-turn, valued-short, valued-found, valued-none}
-use Rattle.register.specs.Row.{rowBytes}
+use Rattle.rows.specs.Row.{rowBytes}
 use native.Mathlib.Omega.{arith}
 use Prim.Native.Nat.{_≤_, _-_}
 use mathlib.Core.Path.{ap, _∙_}

@@ -1,6 +1,6 @@
 -- `slice_count` meets its contract.
 use Rattle.set_file.specs.Layout.{slicesAt}
-use Rattle.word.specs.Bytes.{countAt}
+use Rattle.numbers.specs.Bytes.{countAt}
 use mathlib.Core.Path.{ap, _∙_}
 use borrow.Author.Needs.{needs}
 use Rattle.set_file.proofs.slice_count.Statement.{statement}

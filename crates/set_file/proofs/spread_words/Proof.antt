@@ -10,7 +10,7 @@ use Prim.Native.Nat.{ℕ, _≤_, _-_}
 use mathlib.Core.Path.{_≡_, ap, _∙_}
 use Rattle.set_file.proofs.spread_words.Statement.{statement}
 use Rattle.set_file.proofs.spread_words.Tie as tie
-use Rattle.word.specs.Bytes.{wordsAt}
+use Rattle.numbers.specs.Bytes.{wordsAt}
 
 abbrev Inv-loop : tie.InvT-loop
 Inv-loop set n words₀ c₀ words c = (c ≤ n) × (c ≤ 256) × (length words ≡ 256) × (words ≡ front (take c (wordsAt set spreadAt n)) noWords)

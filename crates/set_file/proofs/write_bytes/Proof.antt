@@ -1,7 +1,7 @@
 -- `write_bytes` meets its contract: the bytes from `i` on are left to be written.
 use borrow.Author.Needs.{needs}
 use Rattle.set_file.proofs.WriteLaws.{BytesLeft, bytes-start, bytes-turn, bytes-end}
-use Rattle.word.proofs.ByteLaws.{sets-past-end}
+use Rattle.numbers.proofs.ByteLaws.{sets-past-end}
 use native.Mathlib.Omega.{arith}
 use Prim.Native.Nat.{_≤_, _-_}
 use mathlib.Core.Path.{sym}

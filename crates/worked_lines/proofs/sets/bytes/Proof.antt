@@ -6,7 +6,7 @@ use Rattle.worked_lines.proofs.sets.bytes.Statement.{statement}
 use Rattle.worked_lines.proofs.sets.bytes.Tie as tie
 use Rattle.worked_lines.proofs.sets.bytes.Reads as reads
 use Rattle.worked_lines.proofs.sets.bytes.Lts as lts
-use Rattle.word.proofs.wide.Reads as wide-reads
+use Rattle.numbers.proofs.wide.Reads as wide-reads
 use Rattle.worked_lines.proofs.number.Reads as number-reads
 
 abbrev Inv-loop : tie.InvT-loop

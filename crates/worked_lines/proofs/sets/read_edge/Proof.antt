@@ -8,8 +8,8 @@ use Rattle.worked_lines.proofs.sets.read_edge.Statement.{statement}
 use Rattle.worked_lines.proofs.sets.read_edge.Tie as tie
 use Rattle.worked_lines.proofs.sets.read_edge.Reads as reads
 use Rattle.worked_lines.proofs.sets.read_edge.Lts as lts
-use Rattle.word.proofs.write_count.Reads as write-count-reads
-use Rattle.word.proofs.write_word.Reads as write-word-reads
+use Rattle.numbers.proofs.write_count.Reads as write-count-reads
+use Rattle.numbers.proofs.write_word.Reads as write-word-reads
 use Rattle.worked_lines.proofs.sets.no_bytes.Reads as no-bytes-reads
 use Rattle.worked_lines.proofs.sets.read.Reads as read-reads
 
