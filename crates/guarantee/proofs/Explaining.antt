@@ -12,7 +12,8 @@ use Rattle.elimination.specs.Combination.{xFree}
 use Rattle.elimination.proofs.Theorems.{explained-listed}
 use Rattle.elimination.proofs.Agreeing.{parities-even, even-parities}
 use Rattle.register.specs.Circuit.{chains}
-use Rattle.register.proofs.Laws.{good-taps, good-spread}
+use Rattle.register.proofs.Laws.{good-taps}
+use Rattle.chains.proofs.Laws.{good-spread}
 use Rattle.rows.proofs.CellLaws.{cell-lt}
 use Rattle.set_file.specs.Layout.{widthOf, tapsOf, spreadOf, circuitOf, chainsOf, slicesOf, marks, values}
 use Rattle.rows.specs.Lists.{listRow}

@@ -24,7 +24,8 @@ use Rattle.numbers.proofs.ByteLaws.{number-at-zero, number-at-suc}
 use Rattle.word.proofs.ReplyLaws.{replied-refusal}
 use Rattle.word.proofs.TestLaws.{first-of-sooner}
 use Rattle.rows.specs.Row.{rowBytes}
-use Rattle.register.specs.Circuit.{badTaps, badChains, badSpread}
+use Rattle.register.specs.Circuit.{badTaps, badChains}
+use Rattle.chains.specs.Driven.{badSpread}
 use Rattle.set_file.specs.Layout.{spreadAt, slicesAt, rowsAt, setLength, widthOf, tapsOf, chainsOf, spreadOf, slicesOf}
 use Rattle.set_file.specs.Reading.{badSlices, setTests}
 use Rattle.set_file.proofs.Laws.{Accepted, accepted, accepted-chains}

@@ -14,7 +14,8 @@ use Rattle.elimination.specs.Combination.{rank, rankAfter, grown, xFree}
 use Rattle.elimination.specs.Reduced.{reducedList, wordsBelow, independent, made, xorRows}
 use Rattle.elimination.specs.Elimination.{onlyEmpty}
 use Rattle.rows.specs.Row.{spareSet}
-use Rattle.register.specs.Circuit.{advanced, driven, clocked, badTaps, badChains, badSpread}
+use Rattle.register.specs.Circuit.{advanced, clocked, badTaps, badChains}
+use Rattle.chains.specs.Driven.{driven, badSpread}
 use Rattle.set_file.specs.Layout.{valueRow, markRow}
 use Rattle.set_file.specs.Reading.{badSlices, spareInRows, valuedUnknown, setTests}
 use Rattle.response.specs.Signature.{runs, column}

@@ -10,7 +10,8 @@ use Rattle.numbers.specs.Bytes.{number, numberAt, wordsAt}
 use Rattle.word.specs.Parities.{parities}
 use Rattle.word.specs.Worked.{Line, agrees}
 use Rattle.elimination.specs.Reduced.{reducedList, wordsBelow, independent, made, xorRows}
-use Rattle.register.specs.Circuit.{advanced, driven, clocked}
+use Rattle.register.specs.Circuit.{advanced, clocked}
+use Rattle.chains.specs.Driven.{driven}
 use Rattle.set_file.specs.Layout.{valueRow, markRow}
 use Rattle.response.specs.Signature.{runs, column}
 use Rattle.response.specs.Columns.{sliceColumns, columnsBelow, columnsOf, zeroSignature}

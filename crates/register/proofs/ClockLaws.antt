@@ -2,15 +2,18 @@
 use mathlib.Core.Path.{_≡_, sym, ap, ap₂, _∙_}
 use mathlib.Core.Bool.{false}
 use mathlib.Core.List.{List}
-use Prim.Native.Nat.{ℕ, _+_, _-_, _*_, _%_, _^_, min}
+use Prim.Native.Nat.{ℕ, _+_, _-_, _*_, _%_, _^_, _<_, min}
 use native.Mathlib.Omega.{arith}
 use lib.Bits.{bitAnd, bitXor, and-mask}
-use lib.ListN.{length}
+use lib.ListN.{length, getD, take}
 use lib.Pow.{mod-mod-pow}
 use Rattle.word.specs.Word.{digit, lowMask, badWidth}
 use Rattle.word.specs.Reply.{answer, refusal, replied, firstOf}
 use Rattle.rows.specs.Row.{cell}
-use Rattle.register.specs.Circuit.{chosen, advanced, driven, clocked}
+use Rattle.register.specs.Circuit.{circuit, advanced, clocked}
+use Rattle.chains.specs.Driven.{chosen, driven}
+use Rattle.chains.specs.Table.{HalfBytes, lookedUp}
+use Rattle.chains.proofs.TableLaws.{table-drives}
 use Rattle.register.specs.Clock.{registered, clockTests, clockReply}
 use Rattle.register.specs.declared.Register.{Register}
 use Rattle.word.proofs.WordLaws.{good-width}
@@ -30,6 +33,18 @@ pub advanced-in-word : (m t s mask top feedback : ℕ) → mask ≡ lowMask m �
 unfolding advanced
 advanced-in-word m t s mask top feedback em et ef =
     ap₂ bitXor (ap (bitAnd (s * 2 % 2 ^ 64)) em ∙ shifted-in-word m s) (ef ∙ ap (λ (i : ℕ). chosen (digit i s) t) et)
+
+-- ---- a clock by the table of half bytes
+
+module _ (m t s drive next : ℕ) (table row : List ℕ) (ed : drive ≡ lookedUp table row (min (length row) 32))
+    (es : next ≡ bitXor (advanced m t s) drive) where
+  pub by-table : next ≡ bitXor (advanced m t s) (lookedUp table row (min (length row) 32))
+  by-table = es ∙ ap (bitXor (advanced m t s)) ed
+
+  pub clocked-by-table : ((i : ℕ) → getD row i 0 < 256) → (ws : List ℕ) → HalfBytes ws table
+      → next ≡ clocked (circuit m t (take 256 ws)) (cell row) s
+  unfolding clocked
+  clocked-by-table byte ws right = by-table ∙ ap (bitXor (advanced m t s)) (table-drives ws table row right byte)
 
 -- ---- the clock's reply
 

@@ -1,5 +1,5 @@
 -- The laws of the clock that the crates above cite: it is linear, a tap word with bit 0 loses no state, a state stays
--- within the width, and one chain drives its own spread word. Assumes nothing.
+-- within the width. Assumes nothing.
 use mathlib.Core.Path.{_≡_, refl, sym, ap, ap₂, _∙_}
 use mathlib.Core.Bool.{Bool, false, cond, _||_}
 use mathlib.Core.Logic.{⊎-elim, dite}
@@ -21,23 +21,10 @@ use Rattle.word.proofs.Laws.{mod2-lt, bit-cases, xor-zero-eq, xor-cancel-right,
 use Rattle.word.proofs.SomeLaws.{any-of-false}
 use Rattle.word.proofs.BoolLaws.{or-false-left, or-false-right}
 use Rattle.rows.specs.Row.{Cells, cell}
-use Rattle.register.specs.Circuit.{Circuit, chains, chosen, advanced, driven, clocked, badTaps, badSpread}
+use Rattle.chains.specs.Driven.{chosen, driven}
+use Rattle.chains.proofs.Laws.{chosen-xor, chosen-lt, driven-ext, driven-zero, driven-lt, driven-xor}
+use Rattle.register.specs.Circuit.{Circuit, chains, advanced, clocked, badTaps}
 use Rattle.word.proofs.WordLaws.{xor-crosswise, xor-double, below-top, within}
-
--- ---- cells, and a word chosen by a digit
-
-chosen-xor : (d e w : ℕ) → d < 2 → e < 2 → chosen ((d + e) % 2) w ≡ bitXor (chosen d w) (chosen e w)
-chosen-xor zero zero w hd he = refl
-chosen-xor zero (suc zero) w hd he = refl
-chosen-xor zero (suc (suc e)) w hd he = let z : ⊥ = omega arith in absurd z
-chosen-xor (suc zero) zero w hd he = sym (xor-zero-r w)
-chosen-xor (suc zero) (suc zero) w hd he = sym (xor-self w)
-chosen-xor (suc zero) (suc (suc e)) w hd he = let z : ⊥ = omega arith in absurd z
-chosen-xor (suc (suc d)) e w hd he = let z : ⊥ = omega arith in absurd z
-
-chosen-lt : (m d w : ℕ) → w < 2 ^ m → chosen d w < 2 ^ m
-chosen-lt m zero w h = pow-pos m
-chosen-lt m (suc d) w h = h
 
 -- ---- a clock with all cells 0
 
@@ -87,67 +74,6 @@ advanced-one-to-one (suc k) t a b h odd ha hb e =
     (advanced-kernel k t (bitXor a b) odd (xor-lt (suc k) a b ha hb)
     (advanced-xor (suc k) t a b ∙ ap (λ (x : ℕ). bitXor x (advanced (suc k) t b)) e ∙ xor-self (advanced (suc k) t b)))
 
--- ---- what the chains drive
-
-pub driven-ext : (ws : List ℕ) (x y : Cells) (n : ℕ) → ((c : ℕ) → c < n → x c ≡ y c) → driven ws x n ≡ driven ws y n
-unfolding driven
-driven-ext ws x y zero h = refl
-driven-ext ws x y (suc n) h =
-    ap₂ bitXor (driven-ext ws x y n (λ c l. h c (le-step l))) (ap (λ (d : ℕ). chosen d (getD ws n 0)) (h n (lt-suc-self n)))
-
-pub driven-zero : (ws : List ℕ) (n : ℕ) → driven ws (λ c. 0) n ≡ 0
-unfolding driven
-driven-zero ws zero = refl
-driven-zero ws (suc n) = xor-zero-r _ ∙ driven-zero ws n
-
-pub driven-none : (ws : List ℕ) (x : Cells) → driven ws x 0 ≡ 0
-unfolding driven
-driven-none ws x = refl
-
-pub driven-suc : (ws : List ℕ) (x : Cells) (n : ℕ) → driven ws x (suc n) ≡ bitXor (driven ws x n) (chosen (x n) (getD ws n 0))
-unfolding driven
-driven-suc ws x n = refl
-
-pub driven-lt : (m : ℕ) (ws : List ℕ) (x : Cells) (n : ℕ) → ((c : ℕ) → getD ws c 0 < 2 ^ m) → driven ws x n < 2 ^ m
-unfolding driven
-driven-lt m ws x zero h = pow-pos m
-driven-lt m ws x (suc n) h = xor-lt m _ _ (driven-lt m ws x n h) (chosen-lt m (x n) (getD ws n 0) (h n))
-
-pub driven-xor : (ws : List ℕ) (x y : Cells) (n : ℕ) → ((c : ℕ) → x c < 2) → ((c : ℕ) → y c < 2)
-    → driven ws (λ c. (x c + y c) % 2) n ≡ bitXor (driven ws x n) (driven ws y n)
-unfolding driven
-driven-xor ws x y zero hx hy = refl
-driven-xor ws x y (suc n) hx hy =
-    ap₂ bitXor (driven-xor ws x y n hx hy) (chosen-xor (x n) (y n) (getD ws n 0) (hx n) (hy n))
-    ∙ xor-crosswise (driven ws x n) (driven ws y n) (chosen (x n) (getD ws n 0)) (chosen (y n) (getD ws n 0))
-
--- the cells of a slice in which chain c alone has a 1
-abbrev unit : ℕ → Cells
-unit c d = cond (eqb d c) 1 0
-
-unit-same : (c : ℕ) → unit c c ≡ 1
-unit-same c = rw (eq-eqb c c refl)
-
-unit-other : (c d : ℕ) → (d ≡ c → ⊥) → unit c d ≡ 0
-unit-other c d h = rw (ne-eqb d c h)
-
-pub driven-unit : (ws : List ℕ) (c n : ℕ) → c < n → driven ws (λ d. cond (eqb d c) 1 0) n ≡ getD ws c 0
-driven-unit ws c zero h = absurd (not-suc-le-zero h)
-driven-unit ws c (suc n) h =
-    ⊎-elim last (λ (l : c < n). below l (driven-unit ws c n l)) (eq-or-lt-of-le (le-of-suc-le-suc h))
-  where
-    below : c < n → driven ws (unit c) n ≡ getD ws c 0 → driven ws (unit c) (suc n) ≡ getD ws c 0
-    below l ih =
-        driven-suc ws (unit c) n
-        ∙ ap₂ bitXor ih (ap (λ (d : ℕ). chosen d (getD ws n 0)) (unit-other c n (λ (e : n ≡ c). omega arith)))
-        ∙ xor-zero-r (getD ws c 0)
-
-    last : c ≡ n → driven ws (unit c) (suc n) ≡ getD ws c 0
-    last e =
-        driven-suc ws (unit c) n
-        ∙ ap₂ bitXor (driven-ext ws (unit c) (λ d. 0) n (λ d l. unit-other c d (λ (f : d ≡ c). omega arith)) ∙ driven-zero ws n)
-        (ap (λ (d : ℕ). chosen (unit c d) (getD ws d 0)) (sym e) ∙ ap (λ (d : ℕ). chosen d (getD ws c 0)) (unit-same c))
-
 -- ---- one clock
 
 pub clocked-ext : (k : Circuit) (x y : Cells) (s : ℕ) → ((c : ℕ) → c < chains k → x c ≡ y c) → clocked k x s ≡ clocked k y s
@@ -182,7 +108,7 @@ clocked-one-to-one k x a b hm odd ha hb e =
     ∙ ap (λ (y : ℕ). bitXor y (driven (k .spread) x (chains k))) e
     ∙ xor-cancel-right (advanced (k .width) (k .taps) b) (driven (k .spread) x (chains k)))
 
--- ---- what a tap word and spread words that are taken have
+-- ---- a tap word that is taken
 
 pub good-taps : (m t : ℕ) → badTaps m t ≡ false → (digit 0 t ≡ 1) × (t < 2 ^ m)
 unfolding badTaps
@@ -191,40 +117,3 @@ good-taps m t h = (
       (λ (o : digit 0 t ≡ 1). o) (bit-cases (digit 0 t) (mod2-lt (t / 2 ^ 0))),
   within m t (or-false-right (eqb (digit 0 t) 0) (beyond m t) h),
 )
-
-pub bad-spread-none : (m : ℕ) → badSpread m [] ≡ false
-unfolding badSpread anyOf
-bad-spread-none m = refl
-
--- the spread words from chain c on: chain c's, and those after it
-pub bad-spread-from : (m : ℕ) (ws : List ℕ) (c : ℕ) → c < length ws
-    → badSpread m (drop c ws) ≡ ((eqb (getD ws c 0) 0 || beyond m (getD ws c 0)) || badSpread m (drop (suc c) ws))
-unfolding badSpread anyOf
-bad-spread-from m ws c l = rw (drop-cons ws c 0 l)
-
--- the word of chain c and the words after it decide what the words from c on do
-pub bad-spread-turn : (m : ℕ) (ws : List ℕ) (c : ℕ) (b : Bool) → c < length ws → badSpread m (drop c ws) ≡ badSpread m ws
-    → (eqb (getD ws c 0) 0 || beyond m (getD ws c 0)) ≡ b → (b || badSpread m (drop (suc c) ws)) ≡ badSpread m ws
-bad-spread-turn m ws c b l e h = sym (rw h at (bad-spread-from m ws c l)) ∙ e
-
--- after the last word nothing is left to decide it
-pub bad-spread-ended : (m : ℕ) (ws : List ℕ) (c : ℕ) → length ws ≤ c → badSpread m (drop c ws) ≡ badSpread m ws → false ≡ badSpread m ws
-bad-spread-ended m ws c l e = sym (bad-spread-none m) ∙ ap (badSpread m) (sym (drop-of-length-le ws l)) ∙ e
-
-good-spread-word : (m : ℕ) (ws : List ℕ) → badSpread m ws ≡ false → (c : ℕ) → c < length ws → (eqb (getD ws c 0) 0 || beyond m (getD ws c 0)) ≡ false
-unfolding badSpread
-good-spread-word m ws h c l = any-of-false (λ (w : ℕ). eqb w 0 || beyond m w) 0 ws h c l
-
-pub good-spread : (m : ℕ) (ws : List ℕ) → badSpread m ws ≡ false → (c : ℕ) → getD ws c 0 < 2 ^ m
-good-spread m ws h c = dite (decLt c (length ws)) inside past
-  where
-    inside : c < length ws → getD ws c 0 < 2 ^ m
-    inside l =
-        within m (getD ws c 0) (or-false-right (eqb (getD ws c 0) 0) (beyond m (getD ws c 0)) (good-spread-word m ws h c l))
-
-    past : (c < length ws → ⊥) → getD ws c 0 < 2 ^ m
-    past l = let end : length ws ≤ c = omega arith in rw (List·getD-eq-default ws 0 end) (pow-pos m)
-
-pub good-spread-not-zero : (m : ℕ) (ws : List ℕ) → badSpread m ws ≡ false → (c : ℕ) → c < length ws → getD ws c 0 ≡ 0 → ⊥
-good-spread-not-zero m ws h c l =
-    eqb-false (getD ws c 0) 0 (or-false-left (eqb (getD ws c 0) 0) (beyond m (getD ws c 0)) (good-spread-word m ws h c l))

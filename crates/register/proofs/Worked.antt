@@ -3,7 +3,8 @@ use mathlib.Core.Path.{_≡_, refl}
 use mathlib.Core.Bool.{true}
 use mathlib.Core.List.{List, [], _∷_}
 use Rattle.word.specs.Worked.{Line, agrees}
-use Rattle.register.specs.Circuit.{Circuit, advanced, driven, clocked}
+use Rattle.register.specs.Circuit.{Circuit, advanced, clocked}
+use Rattle.chains.specs.Driven.{driven}
 
 -- the sample's register and chains: m 3, taps 3, spread words 1 and 4
 abbrev sample : Circuit

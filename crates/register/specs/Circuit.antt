@@ -4,15 +4,12 @@
 --   Circuit         the register's width m and tap word, and the chains' spread words
 --   circuit m t ws  the circuit of width m, tap word t and spread words ws
 --   chains k        document 01: n, the number of chains
---   chosen d w      the word w where the digit d is 1, and 0 where it is 0
 --   advanced m t s  the state s of a register of width m and tap word t, shifted up by one with bit m dropped, and the
 --                   tap word XORed in if bit m - 1 was set: a clock with all cells 0
---   driven ws x n   the XOR of the words of ws of the chains below n whose cell in x is 1
 --   clocked k x s   document 01: one clock of the state s with the cells x
 --   badTaps m t     document 01, 3: the tap word has bit 0 clear or a bit at or above m
 --   badChains n     document 01, 4: the chain count isn't 1 to 256
 --   tooManySlices s  document 01, 7: the slice count is above 512
---   badSpread m ws  document 01, 6: a spread word is zero or has a bit at or above m
 use mathlib.Core.Bool.{Bool, _||_}
 use mathlib.Core.List.{List}
 use Prim.Native.Nat.{ℕ, zero, suc, _-_, _*_, _%_, _^_}
@@ -22,6 +19,7 @@ use lib.ListN.{length, getD}
 use Rattle.word.specs.Word.{digit, beyond}
 use Rattle.word.specs.Some.{anyOf}
 use Rattle.rows.specs.Row.{Cells}
+use Rattle.chains.specs.Driven.{chosen, driven}
 
 pub record Circuit : Type 0 where
   pub width : ℕ
@@ -34,16 +32,8 @@ circuit m t ws = record { width = m; taps = t; spread = ws }
 abbrev pub chains : Circuit → ℕ
 chains k = length (k .spread)
 
-abbrev pub chosen : ℕ → ℕ → ℕ
-chosen zero w = 0
-chosen (suc d) w = w
-
 unfoldable pub advanced : ℕ → ℕ → ℕ → ℕ
 advanced m t s = bitXor (s * 2 % 2 ^ m) (chosen (digit (m - 1) s) t)
-
-unfoldable pub driven : List ℕ → Cells → ℕ → ℕ
-driven ws x zero = 0
-driven ws x (suc c) = bitXor (driven ws x c) (chosen (x c) (getD ws c 0))
 
 unfoldable pub clocked : Circuit → Cells → ℕ → ℕ
 clocked k x s = bitXor (advanced (k .width) (k .taps) s) (driven (k .spread) x (chains k))
@@ -56,6 +46,3 @@ badChains n = ltb n 1 || ltb 256 n
 
 abbrev pub tooManySlices : ℕ → Bool
 tooManySlices s = ltb 512 s
-
-unfoldable pub badSpread : ℕ → List ℕ → Bool
-badSpread m ws = anyOf (λ w. eqb w 0 || beyond m w) ws

@@ -14,7 +14,8 @@ use lib.ListN.{length}
 use Rattle.word.specs.Word.{beyond, badWidth}
 use Rattle.word.specs.Reply.{Test, _when_, Reply, answer, refusal, reply}
 use Rattle.rows.specs.Row.{cell, rowBytes, spareSet}
-use Rattle.register.specs.Circuit.{Circuit, circuit, clocked, badTaps, badChains, badSpread}
+use Rattle.register.specs.Circuit.{Circuit, circuit, clocked, badTaps, badChains}
+use Rattle.chains.specs.Driven.{badSpread}
 use Rattle.register.specs.declared.Register.{Register}
 use Rattle.register.specs.declared.Clocking.{Clocking}
 use Rattle.register.specs.declared.Clocking.the-variants.{Done, Refused}

@@ -1,14 +1,15 @@
-// The signature register of document 01 and its clock.
+// The signature register of document 01 and its clock, cell by cell and by a table. It sees rows and chains; it knows no file.
 ghost use mathlib.Core.Path.{_≡_};
-ghost use mathlib.Core.Bool.{not, _||_};
-ghost use Prim.Native.Nat.{min, _-_};
+ghost use mathlib.Core.Bool.{not};
+ghost use mathlib.Core.List.{List};
+ghost use Prim.Native.Nat.{ℕ, min, _-_};
 ghost use lib.Bits.{bitXor};
 ghost use lib.Dec.{eqb};
-ghost use lib.ListN.{length};
-ghost use Rattle.word.specs.Word.{beyond};
+ghost use lib.ListN.{length, take};
 ghost use Rattle.word.specs.Reply.{firstOf};
-ghost use Rattle.rows.specs.Row.{rowBytes, cell};
-ghost use Rattle.register.specs.Circuit.{chosen, advanced, driven, badTaps, badChains, tooManySlices, badSpread};
+ghost use Rattle.rows.specs.Row.{cell, rowBytes};
+ghost use Rattle.chains.specs.Table.{HalfBytes, lookedUp};
+ghost use Rattle.register.specs.Circuit.{circuit, advanced, clocked, badTaps, badChains, tooManySlices};
 ghost use Rattle.register.specs.Clock.{clockTests, clockReply, said, stateAfter};
 
 // The register: its width m, its tap word and its state.
@@ -51,47 +52,6 @@ pub fn is_bad_slices(s: u64) -> bool
     Register::LARGEST_SLICES < s
 }
 
-// Whether a spread word is zero or has a bit at or above m.
-pub fn is_bad_spread_word(m: u64, w: u64) -> bool
-    ensures { λ r. ⌜ r ≡ (eqb w 0 || beyond m w) ⌝ }
-{
-    (w == 0) | word::is_beyond(m, w)
-}
-
-// Number 6: whether one of the spread words is zero or has a bit at or above m.
-pub fn is_bad_spread(m: u64, spread: &[u64]) -> bool
-    ensures { λ r. ⌜ r ≡ badSpread m (now (spread .entry)) ⌝ }
-{
-    let mut c = 0;
-    while c < spread.len() {
-        if is_bad_spread_word(m, spread[c]) {
-            return true;
-        }
-        c += 1;
-    }
-    false
-}
-
-// The word w where the digit is 1, and 0 where it is 0.
-fn chosen_word(digit: u64, w: u64) -> u64
-    ensures { λ r. ⌜ r ≡ chosen digit w ⌝ }
-{
-    if digit == 0 { 0 } else { w }
-}
-
-// The XOR of the spread words of the chains whose cell in the row is 1. It meets no number: a cell past the row's end is 0.
-pub fn driven_word(spread: &[u64], row: &[u8]) -> u64
-    ensures { λ r. ⌜ r ≡ driven (now (spread .entry)) (cell (now (row .entry))) (length (now (spread .entry))) ⌝ }
-{
-    let mut drive = 0u64;
-    let mut c = 0;
-    while c < spread.len() {
-        drive = drive ^ chosen_word(rows::cell_at(row, c), spread[c]);
-        c += 1;
-    }
-    drive
-}
-
 // The place of the highest bit of a register of width m: m - 1, and no place outside a word.
 fn top_place(m: u64) -> u64
     ensures { λ r. ⌜ r ≡ min m 64 - 1 ⌝ }
@@ -126,7 +86,7 @@ fn first_refusal(register: Register, spread: &[u64], row: &[u8]) -> u64
     if is_bad_chains(spread.len() as u64) {
         return 4;
     }
-    if is_bad_spread(register.m, spread) {
+    if chains::is_bad_spread(register.m, spread) {
         return 6;
     }
     if is_bad_row_length(spread.len(), row) {
@@ -160,7 +120,7 @@ impl Register {
     pub fn advance(self, drive: u64) -> Register
         ensures { λ r. ⌜ (r .m ≡ self .m) × (r .taps ≡ self .taps) × (r .state ≡ bitXor (advanced (min (self .m) 64) (self .taps) (self .state)) drive) ⌝ }
     {
-        let feedback = chosen_word((self.state >> top_place(self.m)) % 2, self.taps);
+        let feedback = chains::chosen_word((self.state >> top_place(self.m)) % 2, self.taps);
         let shifted = (self.state << 1) & word::low_mask(self.m);
         Register {
             m: self.m,
@@ -184,7 +144,18 @@ impl Register {
         }
         Clocked {
             answer: Clocking::Done,
-            register: self.advance(driven_word(spread, row)),
+            register: self.advance(chains::driven_word(spread, row)),
         }
+    }
+
+    // One clock with the cells of one row, a part of a set file or a record as it stands there, by the table of half bytes of the
+    // chains' spread words (`chains::half_bytes`): the register with its next state, the same as by the clock for the first 256
+    // chains. It meets no number: a width above 64 counts as 64, and a cell past the row's end is 0.
+    pub fn clock_by_table(self, table: &[u64; 1024], row: &[u8]) -> Register
+        ensures kept { λ r. ⌜ (r .m ≡ self .m) × (r .taps ≡ self .taps) ⌝ }
+        ensures drive { λ r. ⌜ r .state ≡ bitXor (advanced (min (self .m) 64) (self .taps) (self .state)) (lookedUp (now (table .entry)) (now (row .entry)) (min (length (now (row .entry))) 32)) ⌝ }
+        ensures clocks { λ r. ⌜ ((ws : List ℕ) → HalfBytes ws (now (table .entry)) → r .state ≡ clocked (circuit (min (self .m) 64) (self .taps) (take 256 ws)) (cell (now (row .entry))) (self .state)) ⌝ }
+    {
+        self.advance(chains::looked_up(table, row))
     }
 }

@@ -16,7 +16,8 @@ use Rattle.word.proofs.BoolLaws.{or-false}
 use Rattle.word.proofs.SomeLaws.{any-of-append}
 use Rattle.word.proofs.WordLaws.{not-beyond}
 use Rattle.register.specs.Circuit.{Circuit, chains, advanced, clocked}
-use Rattle.register.proofs.Laws.{clocked-ext, clocked-zero, advanced-zero, driven-ext, driven-unit}
+use Rattle.register.proofs.Laws.{clocked-ext, clocked-zero, advanced-zero}
+use Rattle.chains.proofs.Laws.{driven-ext, driven-unit}
 use Rattle.response.specs.Signature.{Response, runs, signature, onlyCell, column}
 use Rattle.response.specs.Later.{later}
 use Rattle.response.specs.Columns.{listed, sliceColumns, columnsBelow, total}

@@ -15,7 +15,8 @@ use lib.Dec.{eqb, ltb}
 use Rattle.word.specs.Span.{isXorOf}
 use Rattle.word.proofs.Laws.{mod2-lt, xor-cancel, xor-zero-eq}
 use Rattle.word.proofs.SpanLaws.{xor-of-zero, xor-of-head, xor-of-nil, xor-of-join, xor-of-split, xor-of-left, xor-of-one}
-use Rattle.register.specs.Circuit.{Circuit, chains, chosen}
+use Rattle.register.specs.Circuit.{Circuit, chains}
+use Rattle.chains.specs.Driven.{chosen}
 use Rattle.rows.proofs.CellLaws.{cell-lt}
 use Rattle.set_file.specs.Layout.{circuitOf, slicesOf, values, marks, markRow, valueRow}
 use Rattle.response.specs.Signature.{Response, signature, onlyCell, column}

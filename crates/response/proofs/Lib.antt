@@ -7,7 +7,6 @@ pub mod DigitLaws
 pub mod ListLaws
 pub mod AdvanceLaws
 pub mod CountLaws
-pub mod TableLaws
 pub mod RunLaws
 pub mod PowerLaws
 pub mod FillLaws

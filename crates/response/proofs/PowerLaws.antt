@@ -14,8 +14,10 @@ use lib.Pow.{pow-pos, pow-lt, mod-pow-add, shr-shr}
 use lib.Seq.{getD-set-same, getD-set-other, getD-take, getD-drop, length-take-le}
 use Rattle.word.specs.Word.{digit}
 use Rattle.word.proofs.Laws.{mod2-lt}
-use Rattle.register.specs.Circuit.{Circuit, chosen, advanced, driven}
-use Rattle.register.proofs.Laws.{advanced-xor, advanced-zero, driven-none, driven-suc}
+use Rattle.register.specs.Circuit.{Circuit, advanced}
+use Rattle.chains.specs.Driven.{chosen, driven}
+use Rattle.register.proofs.Laws.{advanced-xor, advanced-zero}
+use Rattle.chains.proofs.Laws.{driven-none, driven-suc}
 use Rattle.response.specs.Later.{later}
 use Rattle.response.specs.Code.{bits, circuit, fromPowers}
 use Rattle.response.proofs.DigitLaws.{digit-past}

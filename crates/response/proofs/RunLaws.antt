@@ -10,12 +10,13 @@ use lib.Seq.{take-all}
 use Rattle.numbers.proofs.PartLaws.{take-limit}
 use Rattle.numbers.proofs.FileLaws.{part-small}
 use Rattle.rows.specs.Row.{cell, rowBytes}
-use Rattle.register.specs.Circuit.{advanced, driven, clocked}
+use Rattle.register.specs.Circuit.{advanced, clocked}
+use Rattle.chains.specs.Driven.{driven}
 use Rattle.response.specs.Signature.{runs, signature}
 use Rattle.response.specs.Code.{circuit, valueCells, rowsFrom, halfByte, looked}
 use Rattle.response.proofs.SignatureLaws.{runs-none, runs-suc}
 use Rattle.response.proofs.PlaceLaws.{Placed, placed-starts, placed-turns}
-use Rattle.response.proofs.TableLaws.{looked-drives, half-byte-take}
+use Rattle.chains.proofs.TableLaws.{looked-drives, half-byte-take}
 
 module _ (m t : ℕ) (ws l : List ℕ) (i d b : ℕ) where
   -- what the loop knows: the state after the first c rows, and where the next row stands

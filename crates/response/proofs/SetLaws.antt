@@ -19,7 +19,8 @@ use Rattle.word.proofs.FrontLaws.{front-length}
 use Rattle.word.proofs.SomeLaws.{any-below-false}
 use Rattle.rows.specs.Row.{rowBytes, cell, spareSet}
 use Rattle.register.specs.Circuit.{Circuit, chains}
-use Rattle.register.proofs.Laws.{good-taps, good-spread}
+use Rattle.register.proofs.Laws.{good-taps}
+use Rattle.chains.proofs.Laws.{good-spread}
 use Rattle.rows.proofs.CellLaws.{cell-lt}
 use Rattle.set_file.specs.Layout.{widthOf, tapsOf, chainsOf, spreadOf, slicesOf, circuitOf, valueRow, markRow, marks}
 use Rattle.set_file.specs.Reading.{SetParts, setTests, partsOf, setReply, spreadBeside, said}

@@ -9,8 +9,9 @@ use lib.ListN.{length, take, drop, getD, length-map, length-drop, length-take}
 use lib.Seq.{drop-drop, take-at, drop-at, take-append-le, drop-append-le, length-take-le}
 use Rattle.numbers.specs.Joined.{joined}
 use Rattle.rows.specs.Row.{cell}
-use Rattle.register.specs.Circuit.{Circuit, badSpread}
-use Rattle.register.proofs.Laws.{good-spread}
+use Rattle.register.specs.Circuit.{Circuit}
+use Rattle.chains.specs.Driven.{badSpread}
+use Rattle.chains.proofs.Laws.{good-spread}
 use Rattle.response.specs.Signature.{Response}
 use Rattle.response.specs.Later.{later}
 use Rattle.response.specs.Columns.{listed, columnsBelow}

@@ -25,7 +25,8 @@ use lib.ListN.{length, take, drop, getD}
 use Rattle.word.specs.Word.{digit}
 use Rattle.numbers.specs.Joined.{joined}
 use Rattle.rows.specs.Row.{Cells, cell, rowBytes}
-use Rattle.register.specs.Circuit.{Circuit, driven}
+use Rattle.register.specs.Circuit.{Circuit}
+use Rattle.chains.specs.Driven.{driven}
 use Rattle.set_file.specs.Layout.{valueAt, markAt}
 use Rattle.response.specs.Signature.{Response}
 use Rattle.response.specs.Columns.{listed, total}

@@ -7,7 +7,8 @@ ghost use lib.Bits.{bitXor};
 ghost use lib.Count.{ones};
 ghost use lib.ListN.{length, take, drop, getD, replicate};
 ghost use Rattle.rows.specs.Row.{cell, rowBytes};
-ghost use Rattle.register.specs.Circuit.{advanced, badSpread};
+ghost use Rattle.register.specs.Circuit.{advanced};
+ghost use Rattle.chains.specs.Driven.{badSpread};
 ghost use Rattle.set_file.specs.Layout.{markAt};
 ghost use Rattle.word.specs.Reply.{lent};
 ghost use Rattle.response.specs.Signature.{signature};
@@ -15,7 +16,7 @@ ghost use Rattle.response.specs.Later.{later};
 ghost use Rattle.response.specs.Columns.{columnsBelow, columnsOf, total};
 ghost use Rattle.response.specs.Signing.{signReply, saidSigned};
 ghost use Rattle.response.specs.Listing.{listReply, saidListed};
-ghost use Rattle.response.specs.Code.{circuit, valueCells, markCells, marksBelow, rowsFrom, halfByte, topPlace, entryFrom, tableEnd, looked, bits, chosenWords, fromPowers, back};
+ghost use Rattle.response.specs.Code.{circuit, valueCells, markCells, marksBelow, rowsFrom, bits, chosenWords, fromPowers, back};
 
 // What signing a record answers: its signature, or the first number that applies.
 pub enum Signed {
@@ -68,88 +69,12 @@ fn slice_limit(s: u64) -> usize
     }
 }
 
-// The word of place c; 0 past the end.
-fn word_at(words: &[u64], c: usize) -> u64
-    ensures { λ r. ⌜ r ≡ getD (now (words .entry)) c 0 ⌝ }
-{
-    if c < words.len() { words[c] } else { 0 }
-}
-
 // The next state of a register of width m and tap word taps, in which the chains drive this word.
 fn next_state(m: u64, taps: u64, state: u64, drive: u64) -> u64
     ensures { λ r. ⌜ r ≡ bitXor (advanced (min m 64) taps state) drive ⌝ }
 {
     let next = register::Register { m, taps, state }.advance(drive);
     next.state
-}
-
-fn no_entries() -> [u64; 1024]
-    ensures { λ r. ⌜ r ≡ replicate 1024 0 ⌝ }
-{
-    [0u64; 1024]
-}
-
-// The place of the highest bit of a half byte; 0 for 0.
-fn top_place(half: usize) -> usize
-    ensures { λ r. ⌜ r ≡ topPlace half ⌝ }
-{
-    if half < 2 {
-        return 0;
-    }
-    if half < 4 {
-        return 1;
-    }
-    if half < 8 { 2 } else { 3 }
-}
-
-// Entry e of the table of half bytes, where the entries before it stand.
-fn table_entry(table: &[u64], spread: &[u64], e: usize) -> u64
-    ensures { λ r. ⌜ r ≡ entryFrom (now (table .entry)) (now (spread .entry)) e ⌝ }
-{
-    let half = e % 16;
-    if half == 0 {
-        return 0;
-    }
-    let top = top_place(half);
-    word_at(table, e - (1usize << top)) ^ word_at(spread, 4 * (e / 16) + top)
-}
-
-// How many entries of the table of half bytes can differ from 0, for n chains.
-fn table_end(n: usize) -> usize
-    ensures { λ r. ⌜ r ≡ tableEnd n ⌝ }
-{
-    if n < 256 { 16 * ((n + 3) / 4) } else { 1024 }
-}
-
-// The table of half bytes: for each four chains of the first 256, the XORs of some of their spread words, by which of their
-// cells are 1. So a slice costs one look for each half byte of its row.
-fn half_bytes(spread: &[u64]) -> [u64; 1024]
-    ensures { λ r. ⌜ ((e : ℕ) → e < 1024 → getD r e 0 ≡ halfByte (now (spread .entry)) e) ⌝ }
-{
-    let mut table = no_entries();
-    let end = table_end(spread.len());
-    let mut e = 0;
-    while e < end {
-        let word = table_entry(&table[..], spread, e);
-        table[e] = word;
-        e += 1;
-    }
-    table
-}
-
-// The XOR of the table's entries for the half bytes of a row of 32 bytes at most.
-fn looked_up(table: &[u64; 1024], row: &[u8]) -> u64
-    ensures { λ r. ⌜ r ≡ looked (now (table .entry)) (now (row .entry)) (min (length (now (row .entry))) 32) ⌝ }
-{
-    let count = numbers::moved(0, row.len(), 32);
-    let mut drive = 0u64;
-    let mut i = 0;
-    while i < count {
-        let b = numbers::wide(row[i]) as usize;
-        drive = drive ^ table[32 * i + b % 16] ^ table[32 * i + 16 + b / 16];
-        i += 1;
-    }
-    drive
 }
 
 // Writes the word over the list's last place, and answers with how many places stand before it.
@@ -175,7 +100,7 @@ fn list_from_last(columns: &mut [u64], words: &[u64], marks: u64) -> usize
     let mut left = marks;
     while left != 0 {
         let top = word::highest_bit(left);
-        place = put_last(&mut columns[..place], word_at(words, top as usize));
+        place = put_last(&mut columns[..place], word::word_at(words, top as usize));
         left -= 1u64 << top;
     }
     place
@@ -192,7 +117,7 @@ fn list_from_first(columns: &mut [u64], words: &[u64], marks: u64) -> usize
     let mut left = marks;
     while left != 0 {
         let low = u64::trailing_zeros(left) as usize;
-        columns[place] = word_at(words, low);
+        columns[place] = word::word_at(words, low);
         left = left & (left - 1);
         place += 1;
     }
@@ -261,7 +186,7 @@ fn count_row(row: &[u8]) -> u64
 fn run_rows(m: u64, taps: u64, spread: &[u64], bytes: &[u8], rows: Rows, s: u64) -> u64
     ensures { λ r. ⌜ r ≡ signature (circuit (min m 64) taps (take 256 (now (spread .entry)))) (rowsFrom (now (bytes .entry)) (rows .at) (rows .stride) (rows .count)) s ⌝ }
 {
-    let table = half_bytes(spread);
+    let table = chains::half_bytes(spread);
     let at = rows.at;
     let stride = rows.stride;
     let count = rows.count;
@@ -269,7 +194,7 @@ fn run_rows(m: u64, taps: u64, spread: &[u64], bytes: &[u8], rows: Rows, s: u64)
     let mut state = 0u64;
     let mut t = 0;
     while t < s {
-        let drive = looked_up(&table, numbers::part(bytes, place, count));
+        let drive = chains::looked_up(&table, numbers::part(bytes, place, count));
         state = next_state(m, taps, state, drive);
         place = numbers::moved(place, stride, bytes.len());
         t += 1;
@@ -441,7 +366,7 @@ pub fn fill_columns(
         fill_swept(set, m, taps, spread, n, s, columns);
         return;
     }
-    if register::is_bad_spread(width_limit(m), &spread[..chains]) {
+    if chains::is_bad_spread(width_limit(m), &spread[..chains]) {
         fill_swept(set, m, taps, spread, n, s, columns);
         return;
     }

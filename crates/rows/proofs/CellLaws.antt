@@ -5,7 +5,9 @@ use mathlib.Core.List.{List}
 use Prim.Native.Nat.{ℕ, _+_, _-_, _*_, _/_, _%_, _^_, _≤_, _<_}
 use native.Mathlib.Nat.{mul-le-mul-left, mul-le-mul-right, mul-suc}
 use native.Mathlib.Omega.{arith}
-use lib.ListN.{length, getD, take, drop, length-take, length-drop}
+use lib.ListN.{length, getD, take, drop, length-take, length-drop, List·getD-eq-default}
+use lib.Pow.{shr-le}
+use Rattle.word.specs.Word.{digit}
 use Rattle.word.proofs.Laws.{mod2-lt}
 use Rattle.rows.specs.Row.{rowBytes, cell, spareSet}
 use Rattle.rows.specs.Lists.{listRow}
@@ -36,3 +38,18 @@ place-small stride t hs ht =
   where
     le-of-lt : {a b : ℕ} → a < b → a ≤ b
     le-of-lt h = omega arith
+
+-- ---- a row's bytes
+
+pub cell-clear : (row : List ℕ) (c : ℕ) → getD row (c / 8) 0 ≡ 0 → cell row c ≡ 0
+cell-clear row c e = omega (arith, shr-le (getD row (c / 8) 0) (c % 8))
+
+-- past the row's end every cell is 0
+pub cell-past : (row : List ℕ) (c : ℕ) → length row ≤ c / 8 → cell row c ≡ 0
+cell-past row c h = cell-clear row c (List·getD-eq-default row 0 h)
+
+pub byte-cell : (row : List ℕ) (i k : ℕ) → k < 8 → cell row (8 * i + k) ≡ digit k (getD row i 0)
+byte-cell row i k h =
+    let byte : (8 * i + k) / 8 ≡ i = omega arith in
+    let bit : (8 * i + k) % 8 ≡ k = omega arith in
+    ap₂ (λ (a b : ℕ). digit b (getD row a 0)) byte bit

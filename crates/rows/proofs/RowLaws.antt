@@ -20,19 +20,12 @@ use Rattle.word.proofs.WordLaws.{below-top}
 use Rattle.word.proofs.SomeLaws.{any-below-none, any-below-false}
 use Rattle.word.proofs.BoolLaws.{or-false-left, or-false-right}
 use Rattle.rows.specs.Row.{rowBytes, cell, spareSet}
-use Rattle.rows.proofs.CellLaws.{cell-lt}
+use Rattle.rows.proofs.CellLaws.{cell-lt, cell-past}
 use Rattle.rows.specs.Lists.{sharesBit}
 use Rattle.rows.specs.Lists.{listRow}
 use Rattle.word.proofs.RangeLaws.{same-failures}
 
 -- ---- spare bits past the end of the rows
-
-cell-past : (row : List ℕ) (c : ℕ) → length row ≤ c / 8 → cell row c ≡ 0
-cell-past row c h =
-    ap (λ (b : ℕ). digit (c % 8) b) (List·getD-eq-default row 0 h) ∙ clear (c % 8)
-  where
-    clear : (i : ℕ) → digit i 0 ≡ 0
-    clear i = omega (arith, shr-le 0 i)
 
 spare-past : (n : ℕ) (row : List ℕ) → length row ≤ n / 8 → spareSet n row ≡ false
 unfolding spareSet

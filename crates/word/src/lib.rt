@@ -4,6 +4,9 @@ ghost use Prim.Native.Nat.{min, _+_, _<_};
 ghost use lib.ListN.{take, set};
 ghost use Rattle.word.specs.Word.{lowMask, beyond, parity, highestBit, badWidth};
 ghost use Rattle.word.specs.Parities.{parities};
+ghost use Prim.Native.Nat.{_-_};
+ghost use Prim.Native.Nat.{_-_, _<_};
+ghost use lib.ListN.{getD};
 
 // The word with bits 0 to m - 1 set; all 64 bits from m = 64 on.
 pub fn low_mask(m: u64) -> u64
@@ -62,4 +65,11 @@ pub fn is_bad_width(m: u64) -> bool
     ensures { λ r. ⌜ r ≡ badWidth m ⌝ }
 {
     (m < 1) | (64 < m)
+}
+
+// The word of place c; 0 past the end.
+pub fn word_at(words: &[u64], c: usize) -> u64
+    ensures { λ r. ⌜ r ≡ getD (now (words .entry)) c 0 ⌝ }
+{
+    if c < words.len() { words[c] } else { 0 }
 }

@@ -3,7 +3,7 @@ use mathlib.Core.Path.{sym, ap₂, _∙_}
 use Prim.Native.Nat.{ℕ}
 use lib.ListN.{take}
 use lib.Seq.{length-take-le}
-use Rattle.register.specs.Circuit.{badSpread}
+use Rattle.chains.specs.Driven.{badSpread}
 use borrow.Author.Needs.{needs}
 use Rattle.response.proofs.fill_columns.Statement.{statement}
 use Rattle.response.proofs.fill_columns.Tie as tie

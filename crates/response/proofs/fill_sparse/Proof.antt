@@ -6,7 +6,7 @@ use native.Mathlib.Omega.{arith}
 use lib.ListN.{length, take, drop, length-take}
 use lib.Seq.{length-take-le, length-front}
 use Rattle.rows.specs.Row.{cell}
-use Rattle.register.specs.Circuit.{badSpread}
+use Rattle.chains.specs.Driven.{badSpread}
 use Rattle.response.specs.Code.{circuit, markCells}
 use Rattle.response.proofs.BackLaws.{back-length}
 use Rattle.response.proofs.FillLaws.{columns-limited}

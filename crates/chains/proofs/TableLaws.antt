@@ -12,7 +12,7 @@ use native.Mathlib.Omega.{arith}
 use borrow.Author.Tests.{eqb-true, eq-eqb, ne-eqb, not-false, ltb-true, ltb-false}
 use lib.Bits.{bitXor, xor-zero-r}
 use lib.Dec.{eqb, ltb}
-use lib.ListN.{length, take, drop, getD, set, replicate, getD-replicate, length-set, length-replicate, drop-of-length-le, List·getD-eq-default}
+use lib.ListN.{length, length-take, take, drop, getD, set, replicate, getD-replicate, length-set, length-replicate, drop-of-length-le, List·getD-eq-default}
 use lib.Seq.{getD-drop, getD-take, getD-set-same, getD-set-other}
 use lib.Pow.{shr-shr, pow-pos, shl-exact}
 use Rattle.word.specs.Word.{digit}
@@ -20,10 +20,10 @@ use Rattle.word.specs.Some.{anyBelow}
 use Rattle.word.proofs.Laws.{mod2-lt, xor-assoc}
 use Rattle.word.proofs.SomeLaws.{any-below-false}
 use Rattle.rows.specs.Row.{Cells, cell}
-use Rattle.register.specs.Circuit.{chosen, driven}
-use Rattle.register.proofs.Laws.{driven-ext, driven-none, driven-xor, driven-unit}
-use Rattle.response.specs.Code.{halfByte, topPlace, entryFrom, tableEnd, looked}
-use Rattle.response.proofs.CountLaws.{byte-cell, cell-past}
+use Rattle.chains.specs.Driven.{chosen, driven}
+use Rattle.chains.proofs.Laws.{driven-ext, driven-none, driven-xor, driven-unit}
+use Rattle.chains.specs.Table.{halfByte, HalfBytes, topPlace, halfByteFrom, tableEnd, lookedUp}
+use Rattle.rows.proofs.CellLaws.{byte-cell, cell-past}
 
 -- ---- what the chains drive, in parts
 
@@ -172,8 +172,8 @@ module _ (ws : List ℕ) where
           dite (decLt i 1024) (λ (l : i < 1024). getD-replicate 1024 i 0 0 l)
           (λ (l : i < 1024 → ⊥). List·getD-eq-default (replicate 1024 0) 0 {n = i} (omega (arith, length-replicate {A = ℕ} 1024 0)))
 
-  entry-right : (table : List ℕ) (e : ℕ) → ((i : ℕ) → i < e → getD table i 0 ≡ halfByte ws i) → entryFrom table ws e ≡ halfByte ws e
-  unfolding entryFrom
+  entry-right : (table : List ℕ) (e : ℕ) → ((i : ℕ) → i < e → getD table i 0 ≡ halfByte ws i) → halfByteFrom table ws e ≡ halfByte ws e
+  unfolding halfByteFrom
   entry-right table e h = dite (ℕ-discrete (e % 16) 0) first next
     where
       first : e % 16 ≡ 0 → _≡_ {A = ℕ} (cond (eqb (e % 16) 0) 0 (bitXor (getD table (e - 2 ^ topPlace (e % 16)) 0) (getD ws (4 * (e / 16) + topPlace (e % 16)) 0))) (halfByte ws e)
@@ -186,7 +186,7 @@ module _ (ws : List ℕ) where
           (ap (λ (x : ℕ). bitXor x (getD ws (4 * (e / 16) + topPlace (e % 16)) 0)) (h (e - 2 ^ topPlace (e % 16)) before)
           ∙ sym (half-byte-next e z))
 
-  pub made-turns : (table : List ℕ) (e w : ℕ) → Made table e → e < 1024 → w ≡ entryFrom table ws e → Made (set table e w) (e + 1)
+  pub made-turns : (table : List ℕ) (e w : ℕ) → Made table e → e < 1024 → w ≡ halfByteFrom table ws e → Made (set table e w) (e + 1)
   unfolding Made
   made-turns table e w k h ew = (
     length-set table e w ∙ k .0,
@@ -211,31 +211,31 @@ module _ (e : ℕ) (h : e % 16 ≡ 0 → ⊥) (top : ℕ) (et : top ≡ topPlace
   entry-shift = shl-exact {a = 1} 1 top 64 (omega arith) (omega (arith, entry-top .0)) ∙ one-mul (2 ^ top)
 
   pub entry-next : (table ws : List ℕ) (step a b : ℕ) → step ≡ (1 * 2 ^ top) % 2 ^ 64 → a ≡ getD table (e - step) 0
-      → b ≡ getD ws (4 * (e / 16) + top) 0 → bitXor a b ≡ entryFrom table ws e
-  unfolding entryFrom
+      → b ≡ getD ws (4 * (e / 16) + top) 0 → bitXor a b ≡ halfByteFrom table ws e
+  unfolding halfByteFrom
   entry-next table ws step a b es ea eb =
       rw (ne-eqb (e % 16) 0 h)
       (ap₂ bitXor (ea ∙ ap (λ (x : ℕ). getD table (e - x) 0) (es ∙ entry-shift ∙ ap (λ (x : ℕ). 2 ^ x) et))
       (eb ∙ ap (λ (x : ℕ). getD ws (4 * (e / 16) + x) 0) et))
 
-pub entry-first : (table ws : List ℕ) (e : ℕ) → e % 16 ≡ 0 → 0 ≡ entryFrom table ws e
-unfolding entryFrom
+pub entry-first : (table ws : List ℕ) (e : ℕ) → e % 16 ≡ 0 → 0 ≡ halfByteFrom table ws e
+unfolding halfByteFrom
 entry-first table ws e h = rw (eq-eqb (e % 16) 0 h)
 
 -- ---- the entries of a row's half bytes
 
-pub looked-none : (table row : List ℕ) → looked table row 0 ≡ 0
-unfolding looked
+pub looked-none : (table row : List ℕ) → lookedUp table row 0 ≡ 0
+unfolding lookedUp
 looked-none table row = refl
 
-pub looked-turn : (table row : List ℕ) (i b w : ℕ) → w ≡ looked table row i → b ≡ getD row i 0
-    → bitXor (bitXor w (getD table (32 * i + b % 16) 0)) (getD table (32 * i + 16 + b / 16) 0) ≡ looked table row (i + 1)
-unfolding looked
+pub looked-turn : (table row : List ℕ) (i b w : ℕ) → w ≡ lookedUp table row i → b ≡ getD row i 0
+    → bitXor (bitXor w (getD table (32 * i + b % 16) 0)) (getD table (32 * i + 16 + b / 16) 0) ≡ lookedUp table row (i + 1)
+unfolding lookedUp
 looked-turn table row i b w ew eb =
     ap₂ (λ (x y : ℕ). bitXor (bitXor x (getD table (32 * i + y % 16) 0)) (getD table (32 * i + 16 + y / 16) 0)) ew eb
-    ∙ ap (looked table row) (sym (add-one i))
+    ∙ ap (lookedUp table row) (sym (add-one i))
 
-module _ (ws table row : List ℕ) (right : (e : ℕ) → e < 1024 → getD table e 0 ≡ halfByte ws e) (byte : (i : ℕ) → getD row i 0 < 256) where
+module _ (ws table row : List ℕ) (right : HalfBytes ws table) (byte : (i : ℕ) → getD row i 0 < 256) where
   low-half : (i : ℕ) → i < 32 → getD table (32 * i + getD row i 0 % 16) 0 ≡ driven (drop (8 * i) ws) (λ k. cell row (8 * i + k)) 4
   unfolding halfByte
   low-half i h =
@@ -256,8 +256,8 @@ module _ (ws table row : List ℕ) (right : (e : ℕ) → e < 1024 → getD tabl
       ∙ driven-ext (drop (8 * i + 4) ws) (λ k. digit k (getD row i 0 / 16)) (λ k. cell row (8 * i + 4 + k)) 4
       (λ k m. high-digit (getD row i 0) k ∙ sym (byte-cell row i (4 + k) (omega arith)) ∙ ap (cell row) (sym (add-assoc (8 * i) 4 k)))
 
-  looked-driven : (i : ℕ) → i ≤ 32 → looked table row i ≡ driven ws (cell row) (8 * i)
-  unfolding looked
+  looked-driven : (i : ℕ) → i ≤ 32 → lookedUp table row i ≡ driven ws (cell row) (8 * i)
+  unfolding lookedUp
   looked-driven zero h = sym (driven-none ws (cell row))
   looked-driven (suc i) h =
       let next : 8 * i + 4 + 4 ≡ 8 * suc i = omega arith in
@@ -267,7 +267,7 @@ module _ (ws table row : List ℕ) (right : (e : ℕ) → e < 1024 → getD tabl
       ∙ sym (driven-add ws (cell row) (8 * i + 4) 4) ∙ ap (driven ws (cell row)) next
 
   -- the table's entries for a row add up to what the chains drive
-  pub looked-drives : length ws ≤ 256 → (k : ℕ) → k ≡ min (length row) 32 → looked table row k ≡ driven ws (cell row) (length ws)
+  looked-drives : length ws ≤ 256 → (k : ℕ) → k ≡ min (length row) 32 → lookedUp table row k ≡ driven ws (cell row) (length ws)
   looked-drives h k e =
       let both : 8 * k + length ws ≡ length ws + 8 * k = omega arith in
       looked-driven k (omega arith) ∙ sym (driven-stops ws (cell row) (8 * k) (length ws) bytes-end)
@@ -282,9 +282,16 @@ module _ (ws table row : List ℕ) (right : (e : ℕ) → e < 1024 → getD tabl
           (λ (n : length ws ≤ c → ⊥). ap (λ (d : ℕ). chosen d (getD ws c 0)) (cell-past row c (omega arith)))
 
 -- a table of the first 256 words has the same entries
-pub half-byte-take : (ws : List ℕ) (e : ℕ) → e < 1024 → halfByte ws e ≡ halfByte (take 256 ws) e
+half-byte-take : (ws : List ℕ) (e : ℕ) → e < 1024 → halfByte ws e ≡ halfByte (take 256 ws) e
 unfolding halfByte
 half-byte-take ws e h =
     driven-words-ext (drop (4 * (e / 16)) ws) (drop (4 * (e / 16)) (take 256 ws)) (λ i. digit i (e % 16)) 4
     (λ c l.
     getD-drop (4 * (e / 16)) ws c 0 ∙ sym (getD-take 256 ws (4 * (e / 16) + c) 0 (omega arith)) ∙ sym (getD-drop (4 * (e / 16)) (take 256 ws) c 0))
+
+-- the table's entries for a row add up to what the first 256 chains drive
+pub table-drives : (ws table row : List ℕ) → HalfBytes ws table → ((i : ℕ) → getD row i 0 < 256)
+    → lookedUp table row (min (length row) 32) ≡ driven (take 256 ws) (cell row) (length (take 256 ws))
+table-drives ws table row right byte =
+    looked-drives (take 256 ws) table row (λ e h. right e h ∙ half-byte-take ws e h) byte (omega (arith, length-take 256 ws))
+    (min (length row) 32) refl

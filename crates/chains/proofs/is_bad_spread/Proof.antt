@@ -5,10 +5,10 @@ use Prim.Native.Nat.{_≤_, _-_}
 use native.Mathlib.Numerals.{add-one}
 use borrow.Author.Needs.{needs}
 use lib.ListN.{length, drop}
-use Rattle.register.specs.Circuit.{badSpread}
-use Rattle.register.proofs.Laws.{bad-spread-turn, bad-spread-ended}
-use Rattle.register.proofs.is_bad_spread.Statement.{statement}
-use Rattle.register.proofs.is_bad_spread.Tie as tie
+use Rattle.chains.specs.Driven.{badSpread}
+use Rattle.chains.proofs.Laws.{bad-spread-turn, bad-spread-ended}
+use Rattle.chains.proofs.is_bad_spread.Statement.{statement}
+use Rattle.chains.proofs.is_bad_spread.Tie as tie
 
 abbrev Inv-loop : tie.InvT-loop
 Inv-loop m spread c₀ c = (c ≤ length spread) × (badSpread m (drop c spread) ≡ badSpread m spread)

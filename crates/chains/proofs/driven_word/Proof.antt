@@ -6,10 +6,10 @@ use native.Mathlib.Omega.{arith}
 use borrow.Author.Needs.{needs}
 use lib.ListN.{length}
 use Rattle.rows.specs.Row.{cell}
-use Rattle.register.specs.Circuit.{driven}
-use Rattle.register.proofs.Laws.{driven-none, driven-suc}
-use Rattle.register.proofs.driven_word.Statement.{statement}
-use Rattle.register.proofs.driven_word.Tie as tie
+use Rattle.chains.specs.Driven.{driven}
+use Rattle.chains.proofs.Laws.{driven-none, driven-suc}
+use Rattle.chains.proofs.driven_word.Statement.{statement}
+use Rattle.chains.proofs.driven_word.Tie as tie
 
 abbrev Inv-loop : tie.InvT-loop
 Inv-loop spread row drive₀ c₀ drive c = (c ≤ length spread) × (drive ≡ driven spread (cell row) c)

@@ -3,14 +3,14 @@ use mathlib.Core.Path.{_≡_, sym, ap, _∙_}
 use Prim.Native.Nat.{_-_, _≤_, min}
 use lib.ListN.{length}
 use native.Mathlib.Omega.{arith}
-use Rattle.response.specs.Code.{looked}
-use Rattle.response.proofs.TableLaws.{looked-none, looked-turn}
+use Rattle.chains.specs.Table.{lookedUp}
+use Rattle.chains.proofs.TableLaws.{looked-none, looked-turn}
 use borrow.Author.Needs.{needs}
-use Rattle.response.proofs.looked_up.Statement.{statement}
-use Rattle.response.proofs.looked_up.Tie as tie
+use Rattle.chains.proofs.looked_up.Statement.{statement}
+use Rattle.chains.proofs.looked_up.Tie as tie
 
 abbrev Inv-loop : tie.InvT-loop
-Inv-loop table row count drive₀ i₀ drive i = (i ≤ count) × (drive ≡ looked table row i)
+Inv-loop table row count drive₀ i₀ drive i = (i ≤ count) × (drive ≡ lookedUp table row i)
 
 abbrev μ-loop : tie.MeasureT-loop
 μ-loop table row count drive₀ i₀ drive i = count - i
@@ -66,7 +66,7 @@ loop-again c = (search needs, looked-turn _ _ _ _ _ (c .before .before .before .
 returns : tie.Need-returns Inv-loop μ-loop
 returns c =
     let e : c .before .loop .i ≡ min (length (c .before .before .before .before .args .row .now)) 32 = omega arith in
-    c .before .loop .inv .1 ∙ ap (looked (c .before .before .before .before .args .table .now) (c .before .before .before .before .args .row .now)) e
+    c .before .loop .inv .1 ∙ ap (lookedUp (c .before .before .before .before .args .table .now) (c .before .before .before .before .args .row .now)) e
 
 pub looked-up-spec : {M : Type 1} → statement M
 looked-up-spec =

@@ -1,7 +1,7 @@
 -- `is_bad_spread_word` meets its contract, which is its code.
 use borrow.Author.Needs.{needs}
-use Rattle.register.proofs.is_bad_spread_word.Statement.{statement}
-use Rattle.register.proofs.is_bad_spread_word.Tie as tie
+use Rattle.chains.proofs.is_bad_spread_word.Statement.{statement}
+use Rattle.chains.proofs.is_bad_spread_word.Tie as tie
 
 is-beyond-requires : tie.Need-is-beyond-requires
 is-beyond-requires c κs = search needs

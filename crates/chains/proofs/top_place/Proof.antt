@@ -1,8 +1,8 @@
 -- `top_place` meets its contract, by the same tests.
 use borrow.Author.Tests.{lt-ltb, le-ltb}
-use Rattle.response.specs.Code.{topPlace}
-use Rattle.response.proofs.top_place.Statement.{statement}
-use Rattle.response.proofs.top_place.Tie as tie
+use Rattle.chains.specs.Table.{topPlace}
+use Rattle.chains.proofs.top_place.Statement.{statement}
+use Rattle.chains.proofs.top_place.Tie as tie
 
 returns : tie.Need-returns
 unfolding topPlace

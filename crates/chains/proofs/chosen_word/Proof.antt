@@ -2,9 +2,9 @@
 use mathlib.Core.Path.{_≡_, refl}
 use Prim.Native.Nat.{ℕ, zero, suc}
 use borrow.Author.Needs.{needs}
-use Rattle.register.specs.Circuit.{chosen}
-use Rattle.register.proofs.chosen_word.Statement.{statement}
-use Rattle.register.proofs.chosen_word.Tie as tie
+use Rattle.chains.specs.Driven.{chosen}
+use Rattle.chains.proofs.chosen_word.Statement.{statement}
+use Rattle.chains.proofs.chosen_word.Tie as tie
 
 not-zero : (d w : ℕ) → (d ≡ 0 → ⊥) → w ≡ chosen d w
 not-zero zero w h = absurd (h refl)

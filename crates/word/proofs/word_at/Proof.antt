@@ -2,8 +2,8 @@
 use mathlib.Core.Path.{sym}
 use lib.ListN.{List·getD-eq-default}
 use borrow.Author.Needs.{needs}
-use Rattle.response.proofs.word_at.Statement.{statement}
-use Rattle.response.proofs.word_at.Tie as tie
+use Rattle.word.proofs.word_at.Statement.{statement}
+use Rattle.word.proofs.word_at.Tie as tie
 
 mul-result : tie.Need-mul-result
 mul-result c = search needs

@@ -1,10 +1,10 @@
 -- `table_entry` meets its contract.
 use mathlib.Core.Path.{refl}
 use native.Mathlib.Omega.{arith}
-use Rattle.response.proofs.TableLaws.{entry-first, entry-top, entry-shift, entry-next}
+use Rattle.chains.proofs.TableLaws.{entry-first, entry-top, entry-shift, entry-next}
 use borrow.Author.Needs.{needs}
-use Rattle.response.proofs.table_entry.Statement.{statement}
-use Rattle.response.proofs.table_entry.Tie as tie
+use Rattle.chains.proofs.table_entry.Statement.{statement}
+use Rattle.chains.proofs.table_entry.Tie as tie
 
 returns : tie.Need-returns
 returns c = entry-first _ _ _ (c .if1 .taken)

@@ -3,10 +3,10 @@ use mathlib.Core.Path.{_≡_}
 use Prim.Native.Nat.{_-_, _≤_}
 use native.Mathlib.Omega.{arith}
 use lib.ListN.{length}
-use Rattle.response.proofs.TableLaws.{Made, made-length, made-starts, made-turns, made-ends}
+use Rattle.chains.proofs.TableLaws.{Made, made-length, made-starts, made-turns, made-ends}
 use borrow.Author.Needs.{needs}
-use Rattle.response.proofs.half_bytes.Statement.{statement}
-use Rattle.response.proofs.half_bytes.Tie as tie
+use Rattle.chains.proofs.half_bytes.Statement.{statement}
+use Rattle.chains.proofs.half_bytes.Tie as tie
 
 abbrev Inv-loop : tie.InvT-loop
 Inv-loop spread table₀ end e₀ table e = (e ≤ end) × (length table ≡ 1024) × Made spread table e

@@ -1,0 +1,2 @@
+pub mod Driven
+pub mod Table
