@@ -9,7 +9,7 @@ ghost use Rattle.register.specs.Clock.{clockReply, said as saidClocked};
 ghost use Rattle.set_file.specs.Reading.{setReply, spreadBeside, said as saidSet};
 ghost use Rattle.set_file.specs.Rows.{valueReply, markReply, saidPlace};
 ghost use Rattle.set_file.specs.Writing.{contentOf as setContent, writeReply as setWriteReply, setBytes, saidWritten as saidSetWritten};
-ghost use Rattle.response.specs.Columns.{columnsOf};
+ghost use Rattle.signatures.specs.Columns.{columnsOf};
 ghost use Rattle.response.specs.Signing.{signReply, saidSigned};
 ghost use Rattle.response.specs.Listing.{listReply, saidListed};
 ghost use Rattle.plan_file.specs.Layout.{wordsOf as planWords};

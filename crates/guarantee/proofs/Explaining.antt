@@ -18,10 +18,10 @@ use Rattle.rows.proofs.CellLaws.{cell-lt}
 use Rattle.set_file.specs.Layout.{widthOf, tapsOf, spreadOf, circuitOf, chainsOf, slicesOf, marks, values}
 use Rattle.rows.specs.Lists.{listRow}
 use Rattle.set_file.proofs.Laws.{Accepted, spread-length}
-use Rattle.response.specs.Signature.{Response, signature}
-use Rattle.response.specs.Columns.{columnsOf, zeroSignature, recordCells}
-use Rattle.response.proofs.SignatureLaws.{signature-lt}
-use Rattle.response.proofs.FillingLaws.{filling-differs, filling-of, alike-differ}
+use Rattle.signatures.specs.Signature.{Response, signature}
+use Rattle.signatures.specs.Columns.{columnsOf, zeroSignature, recordCells}
+use Rattle.signatures.proofs.SignatureLaws.{signature-lt}
+use Rattle.signatures.proofs.FillingLaws.{filling-differs, filling-of, alike-differ}
 use Rattle.response.proofs.SetLaws.{columns-of-within}
 use Rattle.planner.specs.Planning.{wordsOf, expectedOf}
 use Rattle.guarantee.specs.Demand.{Known, Explained, Alike}

@@ -19,7 +19,7 @@ use Rattle.elimination.proofs.Theorems.{words-and-rank, reduced-list-reduced, o
 use Rattle.set_file.specs.Layout.{widthOf}
 use Rattle.set_file.specs.Reading.{setTests}
 use Rattle.set_file.proofs.Laws.{Accepted, accepted, accepted-width}
-use Rattle.response.specs.Columns.{columnsOf, zeroSignature}
+use Rattle.signatures.specs.Columns.{columnsOf, zeroSignature}
 use Rattle.response.specs.Listing.{listTests}
 use Rattle.response.proofs.SetLaws.{columns-of-within}
 use Rattle.planner.specs.Planning.{wordsOf, expectedOf, planTests, PlanParts, partsOf, planReply}

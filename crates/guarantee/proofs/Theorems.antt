@@ -40,8 +40,8 @@ use Rattle.elimination.proofs.Theorems.{words-and-rank, x-free-listed, only-emp
 use Rattle.set_file.specs.Layout.{widthOf, chainsOf, slicesOf, circuitOf}
 use Rattle.set_file.specs.Reading.{setTests}
 use Rattle.set_file.proofs.Laws.{Accepted, accepted}
-use Rattle.response.specs.Signature.{signature}
-use Rattle.response.specs.Columns.{columnsOf, zeroSignature, recordCells}
+use Rattle.signatures.specs.Signature.{signature}
+use Rattle.signatures.specs.Columns.{columnsOf, zeroSignature, recordCells}
 use Rattle.response.specs.Signing.{signTests, signReply}
 use Rattle.response.specs.Listing.{listTests}
 use Rattle.response.proofs.SetLaws.{columns-of-within}

@@ -15,8 +15,8 @@ use Prim.Native.Nat.{ℕ, _<_}
 use lib.ListN.{length, getD}
 use Rattle.word.specs.Word.{parity}
 use Rattle.set_file.specs.Layout.{circuitOf, chainsOf, slicesOf, values, marks}
-use Rattle.response.specs.Signature.{Response, signature}
-use Rattle.response.specs.Columns.{recordCells, zeroSignature}
+use Rattle.signatures.specs.Signature.{Response, signature}
+use Rattle.signatures.specs.Columns.{recordCells, zeroSignature}
 use Rattle.planner.specs.Planning.{PlanParts, wordsOf}
 use Rattle.plan_file.specs.Writing.{contentOf, planBytes}
 

@@ -14,7 +14,7 @@ use Rattle.set_file.specs.Reading.{setTests, setReply, said as setSaid}
 use Rattle.set_file.specs.declared.SetAnswer.{SetAnswer}
 use Rattle.set_file.specs.declared.SetAnswer.the-variants.{Read}
 use Rattle.set_file.proofs.Laws.{Accepted, accepted, accepted-width}
-use Rattle.response.specs.Columns.{columnsOf, unknownsOf}
+use Rattle.signatures.specs.Columns.{columnsOf, unknownsOf}
 use Rattle.response.specs.Listing.{listTests}
 use Rattle.response.specs.Code.{marksBelow}
 use Rattle.response.proofs.SetLaws.{columns-of-within, read-width, read-chains, read-slices, read-unknowns}

@@ -18,8 +18,8 @@ use Rattle.register.specs.Circuit.{advanced, clocked, badTaps, badChains}
 use Rattle.chains.specs.Driven.{driven, badSpread}
 use Rattle.set_file.specs.Layout.{valueRow, markRow}
 use Rattle.set_file.specs.Reading.{badSlices, spareInRows, valuedUnknown, setTests}
-use Rattle.response.specs.Signature.{runs, column}
-use Rattle.response.specs.Columns.{sliceColumns, columnsBelow, columnsOf, total, unknownsOf, zeroSignature}
+use Rattle.signatures.specs.Signature.{runs, column}
+use Rattle.signatures.specs.Columns.{sliceColumns, columnsBelow, columnsOf, total, unknownsOf, zeroSignature}
 use Rattle.response.specs.Listing.{listTests}
 use Rattle.planner.specs.Planning.{wordsOf, expectedOf, planTests, planReply}
 use Rattle.text.specs.Text.{digitsIn, decimal}

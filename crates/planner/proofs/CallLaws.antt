@@ -20,7 +20,7 @@ use Rattle.elimination.proofs.Theorems.{words-and-rank}
 use Rattle.set_file.specs.Layout.{widthOf}
 use Rattle.set_file.specs.Reading.{setTests}
 use Rattle.set_file.proofs.Laws.{Accepted, accepted-width}
-use Rattle.response.specs.Columns.{columnsOf, unknownsOf, zeroSignature}
+use Rattle.signatures.specs.Columns.{columnsOf, unknownsOf, zeroSignature}
 use Rattle.response.specs.Listing.{listTests, listReply}
 use Rattle.response.proofs.SetLaws.{length-columns, columns-of-within}
 use Rattle.planner.specs.Planning.{wordsOf, expectedOf, planTests, PlanParts, partsOf, planReply, columnsAfter, said}

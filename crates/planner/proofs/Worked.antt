@@ -13,8 +13,8 @@ use Rattle.elimination.specs.Reduced.{reducedList, wordsBelow, independent, mad
 use Rattle.register.specs.Circuit.{advanced, clocked}
 use Rattle.chains.specs.Driven.{driven}
 use Rattle.set_file.specs.Layout.{valueRow, markRow}
-use Rattle.response.specs.Signature.{runs, column}
-use Rattle.response.specs.Columns.{sliceColumns, columnsBelow, columnsOf, zeroSignature}
+use Rattle.signatures.specs.Signature.{runs, column}
+use Rattle.signatures.specs.Columns.{sliceColumns, columnsBelow, columnsOf, zeroSignature}
 use Rattle.planner.specs.Planning.{wordsOf, expectedOf}
 
 -- the sample of document 01, 34 bytes

@@ -19,7 +19,7 @@ use Rattle.elimination.specs.Combination.{rank}
 use Rattle.elimination.specs.Reduced.{reducedList}
 use Rattle.elimination.specs.Elimination.{onlyEmpty}
 use Rattle.set_file.specs.Layout.{widthOf}
-use Rattle.response.specs.Columns.{columnsOf, zeroSignature}
+use Rattle.signatures.specs.Columns.{columnsOf, zeroSignature}
 use Rattle.response.specs.Listing.{listTests, listReply}
 use Rattle.planner.specs.declared.Planned.{Planned}
 use Rattle.planner.specs.declared.Planned.the-variants.{Plan, Refused}

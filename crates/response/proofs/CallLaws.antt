@@ -18,12 +18,12 @@ use Rattle.set_file.specs.Reading.{setTests, setReply, spreadBeside, said}
 use Rattle.rows.specs.Lists.{listRow}
 use Rattle.set_file.specs.declared.SetAnswer.{SetAnswer}
 use Rattle.set_file.specs.declared.SetAnswer.the-variants.{Read, Refused}
-use Rattle.response.specs.Signature.{signature}
-use Rattle.response.specs.Columns.{columnsBelow, columnsOf, unknownsOf, recordCells}
+use Rattle.signatures.specs.Signature.{signature}
+use Rattle.signatures.specs.Columns.{columnsBelow, columnsOf, unknownsOf, recordCells}
 use Rattle.response.specs.Signing.{spareInRecord, signTests, signReply}
 use Rattle.response.specs.Listing.{listTests, listReply}
 use Rattle.response.specs.Code.{circuit, markCells, marksBelow, rowsFrom, back}
-use Rattle.response.proofs.SignatureLaws.{signature-ext}
+use Rattle.signatures.proofs.SignatureLaws.{signature-ext}
 use Rattle.response.proofs.BackLaws.{back-whole}
 use Rattle.word.proofs.TestLaws.{numbered, first-of-later, first-of-sooner}
 use Rattle.numbers.proofs.PartLaws.{take-limit}

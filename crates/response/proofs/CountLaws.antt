@@ -13,7 +13,7 @@ use Rattle.rows.specs.Row.{cell, rowBytes}
 use Rattle.numbers.specs.Bytes.{wordAt}
 use Rattle.numbers.proofs.ByteLaws.{number-at-lt}
 use Rattle.rows.proofs.CellLaws.{cell-lt}
-use Rattle.response.specs.Columns.{total}
+use Rattle.signatures.specs.Columns.{total}
 use Rattle.response.specs.Code.{markCells, marksBelow}
 use Rattle.set_file.specs.Layout.{markAt}
 use Rattle.response.proofs.DigitLaws.{word-cell, cell-clear}

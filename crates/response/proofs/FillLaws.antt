@@ -9,11 +9,11 @@ use Rattle.numbers.specs.Joined.{joined}
 use Rattle.numbers.proofs.JoinLaws.{joined-ext}
 use Rattle.rows.specs.Row.{cell}
 use Rattle.register.specs.Circuit.{Circuit, chains, advanced}
-use Rattle.response.specs.Signature.{Response, column}
-use Rattle.response.specs.Later.{later}
-use Rattle.response.specs.Columns.{listed, sliceColumns, columnsBelow}
+use Rattle.signatures.specs.Signature.{Response, column}
+use Rattle.signatures.specs.Later.{later}
+use Rattle.signatures.specs.Columns.{listed, sliceColumns, columnsBelow}
 use Rattle.response.specs.Code.{circuit, markCells, chosenWords, back}
-use Rattle.response.proofs.ColumnLaws.{column-closed}
+use Rattle.signatures.proofs.ColumnLaws.{column-closed}
 use Rattle.response.proofs.PowerLaws.{later-zero}
 use Rattle.numbers.proofs.PartLaws.{take-limit}
 use Rattle.response.proofs.BackLaws.{rest, rest-none, rest-suc, rest-whole, back-none, back-length, back-more, back-more-room}

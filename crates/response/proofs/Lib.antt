@@ -1,6 +1,3 @@
-pub mod SignatureLaws
-pub mod ColumnLaws
-pub mod FillingLaws
 pub mod BackLaws
 pub mod PlaceLaws
 pub mod DigitLaws

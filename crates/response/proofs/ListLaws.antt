@@ -19,12 +19,12 @@ use Rattle.numbers.specs.Joined.{joined}
 use Rattle.word.proofs.Laws.{mod2-lt}
 use Rattle.numbers.proofs.JoinLaws.{joined-ext}
 use Rattle.rows.specs.Row.{cell}
-use Rattle.response.specs.Columns.{listed, total}
+use Rattle.signatures.specs.Columns.{listed, total}
 use Rattle.response.specs.Code.{bits, chosenWords, back}
 use Rattle.response.proofs.BackLaws.{rest, joined-rest, joined-none, rest-ext, rest-none, rest-whole, rest-add, rest-joined, joined-stops, back-fits, back-none, back-length, back-more, back-more-room}
 use Rattle.response.proofs.DigitLaws.{digit-mod, digit-past, word-cell, Lowest, below-lowest, above-lowest, lowest-gone}
 use Rattle.response.proofs.CountLaws.{total-digits}
-use Rattle.response.proofs.ColumnLaws.{length-listed}
+use Rattle.signatures.proofs.ColumnLaws.{length-listed}
 
 -- ---- the marks of 64 chains
 

@@ -18,7 +18,7 @@ use Rattle.register.specs.Circuit.{Circuit, advanced}
 use Rattle.chains.specs.Driven.{chosen, driven}
 use Rattle.register.proofs.Laws.{advanced-xor, advanced-zero}
 use Rattle.chains.proofs.Laws.{driven-none, driven-suc}
-use Rattle.response.specs.Later.{later}
+use Rattle.signatures.specs.Later.{later}
 use Rattle.response.specs.Code.{bits, circuit, fromPowers}
 use Rattle.response.proofs.DigitLaws.{digit-past}
 

@@ -12,9 +12,9 @@ use Rattle.numbers.proofs.FileLaws.{part-small}
 use Rattle.rows.specs.Row.{cell, rowBytes}
 use Rattle.register.specs.Circuit.{advanced, clocked}
 use Rattle.chains.specs.Driven.{driven}
-use Rattle.response.specs.Signature.{runs, signature}
+use Rattle.signatures.specs.Signature.{runs, signature}
 use Rattle.response.specs.Code.{circuit, valueCells, rowsFrom, halfByte, looked}
-use Rattle.response.proofs.SignatureLaws.{runs-none, runs-suc}
+use Rattle.signatures.proofs.SignatureLaws.{runs-none, runs-suc}
 use Rattle.response.proofs.PlaceLaws.{Placed, placed-starts, placed-turns}
 use Rattle.chains.proofs.TableLaws.{looked-drives, half-byte-take}
 

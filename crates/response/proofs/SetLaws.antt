@@ -27,12 +27,12 @@ use Rattle.set_file.specs.Reading.{SetParts, setTests, partsOf, setReply, sprea
 use Rattle.set_file.specs.declared.SetAnswer.{SetAnswer}
 use Rattle.set_file.specs.declared.SetAnswer.the-variants.{Read, Refused}
 use Rattle.set_file.proofs.Laws.{Accepted, accepted, accepted-width, accepted-chains, spread-length, mark-row-length, mark-row-clean, set-answer-none, set-answer-parts, set-refusal-first, set-answers}
-use Rattle.response.specs.Signature.{signature}
-use Rattle.response.specs.Columns.{columnsBelow, columnsOf, total, unknownsOf, zeroSignature}
+use Rattle.signatures.specs.Signature.{signature}
+use Rattle.signatures.specs.Columns.{columnsBelow, columnsOf, total, unknownsOf, zeroSignature}
 use Rattle.response.specs.Code.{circuit, valueCells, markCells, marksBelow}
-use Rattle.response.proofs.ColumnLaws.{length-columns-below, columns-within}
+use Rattle.signatures.proofs.ColumnLaws.{length-columns-below, columns-within}
 use Rattle.response.proofs.CountLaws.{total-ext, total-stops, cell-past}
-use Rattle.response.proofs.FillingLaws.{marks-lt}
+use Rattle.signatures.proofs.FillingLaws.{marks-lt}
 
 -- ---- the columns of a set
 

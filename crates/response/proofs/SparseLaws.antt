@@ -12,9 +12,9 @@ use Rattle.rows.specs.Row.{cell}
 use Rattle.register.specs.Circuit.{Circuit}
 use Rattle.chains.specs.Driven.{badSpread}
 use Rattle.chains.proofs.Laws.{good-spread}
-use Rattle.response.specs.Signature.{Response}
-use Rattle.response.specs.Later.{later}
-use Rattle.response.specs.Columns.{listed, columnsBelow}
+use Rattle.signatures.specs.Signature.{Response}
+use Rattle.signatures.specs.Later.{later}
+use Rattle.signatures.specs.Columns.{listed, columnsBelow}
 use Rattle.response.specs.Code.{circuit, chosenWords, back, fromPowers}
 use Rattle.response.proofs.BackLaws.{back-length}
 use Rattle.response.proofs.PowerLaws.{from-powers, powers-part, later-same}

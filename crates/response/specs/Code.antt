@@ -28,8 +28,8 @@ use Rattle.rows.specs.Row.{Cells, cell, rowBytes}
 use Rattle.register.specs.Circuit.{Circuit}
 use Rattle.chains.specs.Driven.{driven}
 use Rattle.set_file.specs.Layout.{valueAt, markAt}
-use Rattle.response.specs.Signature.{Response}
-use Rattle.response.specs.Columns.{listed, total}
+use Rattle.signatures.specs.Signature.{Response}
+use Rattle.signatures.specs.Columns.{listed, total}
 
 abbrev pub circuit : ℕ → ℕ → List ℕ → Circuit
 circuit m t ws = record { width = m; taps = t; spread = ws }

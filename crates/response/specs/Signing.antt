@@ -16,8 +16,8 @@ use Rattle.rows.specs.Row.{rowBytes, spareSet}
 use Rattle.set_file.specs.Layout.{circuitOf, chainsOf, slicesOf}
 use Rattle.set_file.specs.Reading.{setTests}
 use Rattle.rows.specs.Lists.{listRow}
-use Rattle.response.specs.Signature.{signature}
-use Rattle.response.specs.Columns.{recordCells}
+use Rattle.signatures.specs.Signature.{signature}
+use Rattle.signatures.specs.Columns.{recordCells}
 use Rattle.response.specs.declared.Signed.{Signed}
 use Rattle.response.specs.declared.Signed.the-variants.{Signature, Refused}
 

@@ -12,8 +12,8 @@ use lib.ListN.{length, getD, take, drop, length-drop}
 use lib.Seq.{take-all}
 use Rattle.word.specs.Some.{anyBelow}
 use Rattle.rows.specs.Row.{rowBytes, spareSet}
-use Rattle.register.specs.Circuit.{badSpread}
-use Rattle.register.proofs.Laws.{bad-spread-turn, bad-spread-ended}
+use Rattle.chains.specs.Driven.{badSpread}
+use Rattle.chains.proofs.Laws.{bad-spread-turn, bad-spread-ended}
 use Rattle.set_file.specs.Layout.{spreadAt, rowsAt, setLength, widthOf, chainsOf, spreadOf, slicesOf, valueAt, markAt, valueRow, markRow}
 use Rattle.set_file.specs.Reading.{spareInRows, valuedUnknown}
 use Rattle.rows.specs.Lists.{listRow}

@@ -16,7 +16,8 @@ use Rattle.word.proofs.ReplyLaws.{replied-refusal}
 use Rattle.numbers.proofs.ByteLaws.{bytes-of-length, length-word-bytes}
 use Rattle.numbers.proofs.FileLaws.{sets-parts, front-sets}
 use Rattle.rows.specs.Row.{rowBytes}
-use Rattle.register.specs.Circuit.{badTaps, badChains, badSpread}
+use Rattle.register.specs.Circuit.{badTaps, badChains}
+use Rattle.chains.specs.Driven.{badSpread}
 use Rattle.set_file.specs.Layout.{rowsAt, setLength}
 use Rattle.set_file.specs.Writing.{SetContent, chainCount, sliceBytes, setBytes, badRows, spareInLists, valuedInLists, writeTests, writeReply, saidWritten}
 use Rattle.set_file.specs.Code.{inTurn, headBytes}

@@ -36,8 +36,10 @@ use Rattle.numbers.proofs.JoinLaws.{joined-ext, joined-length, joined-row, join
 use Rattle.word.proofs.TestLaws.{replied-answer}
 use Rattle.word.proofs.WordLaws.{good-width}
 use Rattle.rows.specs.Row.{cell, rowBytes, spareSet}
-use Rattle.register.specs.Circuit.{badTaps, badChains, badSpread}
-use Rattle.register.proofs.Laws.{good-taps, good-spread}
+use Rattle.register.specs.Circuit.{badTaps, badChains}
+use Rattle.chains.specs.Driven.{badSpread}
+use Rattle.register.proofs.Laws.{good-taps}
+use Rattle.chains.proofs.Laws.{good-spread}
 use Rattle.set_file.specs.Layout.{slicesAt, rowsAt, setLength, widthOf, tapsOf, chainsOf, spreadOf, slicesOf, valueAt, valueRow, markRow, valuesOf, marksOf}
 use Rattle.set_file.specs.Reading.{badSlices, spareInRows, valuedUnknown, setTests, SetParts, setReply, spreadBeside}
 use Rattle.set_file.specs.Rows.{valueReply, markReply, stretch}

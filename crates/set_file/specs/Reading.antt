@@ -19,7 +19,8 @@ use Rattle.word.specs.Word.{badWidth}
 use Rattle.word.specs.Some.{anyBelow}
 use Rattle.word.specs.Reply.{Test, _when_, Reply, answer, refusal, reply, lent}
 use Rattle.rows.specs.Row.{spareSet}
-use Rattle.register.specs.Circuit.{badTaps, badChains, badSpread}
+use Rattle.register.specs.Circuit.{badTaps, badChains}
+use Rattle.chains.specs.Driven.{badSpread}
 use Rattle.set_file.specs.Layout.{slicesAt, rowsAt, setLength, widthOf, tapsOf, chainsOf, spreadOf, slicesOf, valueRow, markRow, values, marks}
 use Rattle.set_file.specs.declared.SetAnswer.{SetAnswer}
 use Rattle.set_file.specs.declared.SetAnswer.the-variants.{Read, Refused}

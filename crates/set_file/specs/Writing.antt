@@ -25,7 +25,8 @@ use Rattle.numbers.specs.Joined.{joined}
 use Rattle.word.specs.Reply.{Test, _when_, Reply, answer, refusal, reply}
 use Rattle.rows.specs.Row.{cell, rowBytes, spareSet}
 use Rattle.rows.specs.Lists.{listRow}
-use Rattle.register.specs.Circuit.{badTaps, badChains, badSpread}
+use Rattle.register.specs.Circuit.{badTaps, badChains}
+use Rattle.chains.specs.Driven.{badSpread}
 use Rattle.set_file.specs.Layout.{setLength, widthOf, tapsOf, spreadOf, slicesOf, valuesOf, marksOf}
 use Rattle.set_file.specs.declared.Written.{Written}
 use Rattle.set_file.specs.declared.Written.the-variants.{Done, Refused}

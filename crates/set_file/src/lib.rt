@@ -9,7 +9,8 @@ ghost use Rattle.word.specs.Some.{anyBelow};
 ghost use Rattle.word.specs.Word.{badWidth};
 ghost use Rattle.word.specs.Reply.{firstOf, front, lent, numberOf};
 ghost use Rattle.rows.specs.Row.{rowBytes, spareSet};
-ghost use Rattle.register.specs.Circuit.{badTaps, badChains, badSpread};
+ghost use Rattle.register.specs.Circuit.{badTaps, badChains};
+ghost use Rattle.chains.specs.Driven.{badSpread};
 ghost use Rattle.set_file.specs.Layout.{slicesAt, rowsAt, setLength, widthOf, tapsOf, chainsOf, spreadOf, slicesOf};
 ghost use Rattle.set_file.specs.Reading.{badSlices, spareInRows, valuedUnknown, setTests, setReply, spreadBeside, said};
 ghost use Rattle.set_file.specs.Rows.{rowTests, valueReply, markReply, stretch, saidPlace};
@@ -163,7 +164,7 @@ fn has_bad_spread(set: &[u8]) -> bool
     let mut c: u16 = 0;
     while c < n {
         let chain = c as usize;
-        if register::is_bad_spread_word(m, numbers::read_word(set, SPREAD_AT + 8 * chain)) {
+        if chains::is_bad_spread_word(m, numbers::read_word(set, SPREAD_AT + 8 * chain)) {
             return true;
         }
         c += 1;
@@ -408,7 +409,7 @@ fn first_write_refusal(
     if register::is_bad_chains(spread.len() as u64) {
         return 4;
     }
-    if register::is_bad_spread(m, spread) {
+    if chains::is_bad_spread(m, spread) {
         return 6;
     }
     if is_bad_slices(s) {

@@ -53,3 +53,11 @@ or-true-left a b h = rw h
 pub or-true-right : (a b : Bool) → b ≡ true → (a || b) ≡ true
 or-true-right true b h = refl
 or-true-right false b h = h
+
+pub and-off : (b : Bool) → (b && false) ≡ false
+and-off true = refl
+and-off false = refl
+
+pub or-off : (b : Bool) → (b || false) ≡ b
+or-off true = refl
+or-off false = refl

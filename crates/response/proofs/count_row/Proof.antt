@@ -5,7 +5,7 @@ use native.Mathlib.Omega.{arith}
 use lib.ListN.{getD}
 use lib.Count.{ones}
 use Rattle.rows.specs.Row.{cell}
-use Rattle.response.specs.Columns.{total}
+use Rattle.signatures.specs.Columns.{total}
 use Rattle.response.proofs.CountLaws.{count-start, count-turns, count-le, ones-word-le}
 use borrow.Author.Needs.{needs}
 use Rattle.response.proofs.count_row.Statement.{statement}

@@ -7,7 +7,7 @@ use lib.Bits.{xor-zero-r}
 use lib.ListN.{length, length-replicate, length-set}
 use Rattle.register.specs.Circuit.{advanced}
 use Rattle.response.specs.Code.{circuit}
-use Rattle.response.specs.Later.{later}
+use Rattle.signatures.specs.Later.{later}
 use Rattle.response.proofs.PowerLaws.{Powered, powered-starts, powered-turns, powered-ends, later-none, later-suc}
 use borrow.Author.Needs.{needs}
 use Rattle.response.proofs.powers.Statement.{statement}

@@ -12,16 +12,16 @@ use lib.Dec.{eqb}
 use lib.ListN.{length, getD, length-append}
 use Rattle.word.specs.Word.{beyond}
 use Rattle.word.specs.Some.{anyOf}
-use Rattle.word.proofs.BoolLaws.{or-false}
+use Rattle.word.proofs.BoolLaws.{or-false, and-off}
 use Rattle.word.proofs.SomeLaws.{any-of-append}
 use Rattle.word.proofs.WordLaws.{not-beyond}
 use Rattle.register.specs.Circuit.{Circuit, chains, advanced, clocked}
 use Rattle.register.proofs.Laws.{clocked-ext, clocked-zero, advanced-zero}
 use Rattle.chains.proofs.Laws.{driven-ext, driven-unit}
-use Rattle.response.specs.Signature.{Response, runs, signature, onlyCell, column}
-use Rattle.response.specs.Later.{later}
-use Rattle.response.specs.Columns.{listed, sliceColumns, columnsBelow, total}
-use Rattle.response.proofs.SignatureLaws.{signature-ext, signature-zero, signature-lt, runs-suc}
+use Rattle.signatures.specs.Signature.{Response, runs, signature, onlyCell, column}
+use Rattle.signatures.specs.Later.{later}
+use Rattle.signatures.specs.Columns.{listed, sliceColumns, columnsBelow, total}
+use Rattle.signatures.proofs.SignatureLaws.{signature-ext, signature-zero, signature-lt, runs-suc}
 
 -- ---- the response with one cell
 
@@ -39,11 +39,7 @@ pub only-cell-other-slice : (t c u d : ℕ) → (u ≡ t → ⊥) → onlyCell t
 only-cell-other-slice t c u d h = rw (ne-eqb u t h)
 
 pub only-cell-other-chain : (t c u d : ℕ) → (d ≡ c → ⊥) → onlyCell t c u d ≡ 0
-only-cell-other-chain t c u d h = rw (ne-eqb d c h, and-none (eqb u t))
-  where
-    and-none : (b : Bool) → (b && false) ≡ false
-    and-none true = refl
-    and-none false = refl
+only-cell-other-chain t c u d h = rw (ne-eqb d c h, and-off (eqb u t))
 
 pub only-cell-same : (t c : ℕ) → onlyCell t c t c ≡ 1
 only-cell-same t c = rw (eq-eqb t t refl, eq-eqb c c refl)

@@ -7,7 +7,7 @@ use lib.ListN.{getD}
 use lib.Pow.{pow-pos}
 use Rattle.register.specs.Circuit.{Circuit, chains, clocked}
 use Rattle.register.proofs.Laws.{clocked-ext, clocked-zero, clocked-xor, clocked-lt, advanced-zero}
-use Rattle.response.specs.Signature.{Response, runs, signature}
+use Rattle.signatures.specs.Signature.{Response, runs, signature}
 
 pub runs-none : (k : Circuit) (x : Response) → runs k x 0 ≡ 0
 unfolding runs

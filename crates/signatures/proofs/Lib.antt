@@ -1,0 +1,4 @@
+pub mod SignatureLaws
+pub mod ColumnLaws
+pub mod DifferenceLaws
+pub mod FillingLaws
