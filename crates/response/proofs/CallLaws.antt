@@ -24,7 +24,7 @@ use Rattle.response.specs.Signing.{spareInRecord, signTests, signReply}
 use Rattle.response.specs.Listing.{listTests, listReply}
 use Rattle.response.specs.Code.{circuit, markCells, marksBelow, rowsFrom, back}
 use Rattle.signatures.proofs.SignatureLaws.{signature-ext}
-use Rattle.response.proofs.BackLaws.{back-whole}
+use Rattle.marked_words.proofs.BackLaws.{back-whole}
 use Rattle.word.proofs.TestLaws.{numbered, first-of-later, first-of-sooner}
 use Rattle.numbers.proofs.PartLaws.{take-limit}
 use Rattle.response.proofs.SetLaws.{read-refused, read-none, read-chains-limit, read-slices, read-slices-limit, read-unknowns, read-circuit, read-columns, read-words-length, length-columns}

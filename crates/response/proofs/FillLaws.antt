@@ -16,7 +16,7 @@ use Rattle.response.specs.Code.{circuit, markCells, chosenWords, back}
 use Rattle.signatures.proofs.ColumnLaws.{column-closed}
 use Rattle.response.proofs.PowerLaws.{later-zero}
 use Rattle.numbers.proofs.PartLaws.{take-limit}
-use Rattle.response.proofs.BackLaws.{rest, rest-none, rest-suc, rest-whole, back-none, back-length, back-more, back-more-room}
+use Rattle.marked_words.proofs.BackLaws.{rest, rest-none, rest-suc, rest-whole, back-none, back-length, back-more, back-more-room}
 
 -- every word after j clocks
 pub laterWords : Circuit → ℕ → List ℕ → List ℕ

@@ -1,9 +1,4 @@
-pub mod BackLaws
-pub mod PlaceLaws
-pub mod DigitLaws
-pub mod ListLaws
 pub mod AdvanceLaws
-pub mod CountLaws
 pub mod RunLaws
 pub mod PowerLaws
 pub mod FillLaws

@@ -20,7 +20,7 @@ use Rattle.register.proofs.Laws.{advanced-xor, advanced-zero}
 use Rattle.chains.proofs.Laws.{driven-none, driven-suc}
 use Rattle.signatures.specs.Later.{later}
 use Rattle.response.specs.Code.{bits, circuit, fromPowers}
-use Rattle.response.proofs.DigitLaws.{digit-past}
+use Rattle.marked_words.proofs.DigitLaws.{digit-past}
 
 -- ---- clocks with all cells 0
 

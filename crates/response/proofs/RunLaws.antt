@@ -15,7 +15,7 @@ use Rattle.chains.specs.Driven.{driven}
 use Rattle.signatures.specs.Signature.{runs, signature}
 use Rattle.response.specs.Code.{circuit, valueCells, rowsFrom, halfByte, looked}
 use Rattle.signatures.proofs.SignatureLaws.{runs-none, runs-suc}
-use Rattle.response.proofs.PlaceLaws.{Placed, placed-starts, placed-turns}
+use Rattle.marked_words.proofs.PlaceLaws.{Placed, placed-starts, placed-turns}
 use Rattle.chains.proofs.TableLaws.{looked-drives, half-byte-take}
 
 module _ (m t : ℕ) (ws l : List ℕ) (i d b : ℕ) where

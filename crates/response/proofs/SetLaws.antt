@@ -31,7 +31,7 @@ use Rattle.signatures.specs.Signature.{signature}
 use Rattle.signatures.specs.Columns.{columnsBelow, columnsOf, total, unknownsOf, zeroSignature}
 use Rattle.response.specs.Code.{circuit, valueCells, markCells, marksBelow}
 use Rattle.signatures.proofs.ColumnLaws.{length-columns-below, columns-within}
-use Rattle.response.proofs.CountLaws.{total-ext, total-stops, cell-past}
+use Rattle.marked_words.proofs.CountLaws.{total-ext, total-stops, cell-past}
 use Rattle.signatures.proofs.FillingLaws.{marks-lt}
 
 -- ---- the columns of a set

@@ -16,7 +16,7 @@ use Rattle.signatures.specs.Signature.{Response}
 use Rattle.signatures.specs.Later.{later}
 use Rattle.signatures.specs.Columns.{listed, columnsBelow}
 use Rattle.response.specs.Code.{circuit, chosenWords, back, fromPowers}
-use Rattle.response.proofs.BackLaws.{back-length}
+use Rattle.marked_words.proofs.BackLaws.{back-length}
 use Rattle.response.proofs.PowerLaws.{from-powers, powers-part, later-same}
 use Rattle.response.proofs.FillLaws.{laterWords, later-words-none, later-words-get, later-words-length, later-words-suc, Filled, filled-inside, filled-room, filled-starts, filled-down, filled-ends}
 

@@ -1,22 +1,21 @@
 // Responses: a record's signature, the signature for all unknowns 0, and the columns of the unknown cells.
 ghost use mathlib.Core.Path.{_≡_};
 ghost use mathlib.Core.Bool.{false};
-ghost use mathlib.Core.List.{[], _∷_, map};
+ghost use mathlib.Core.List.{[], map};
 ghost use Prim.Native.Nat.{ℕ, min, _-_, _≤_, _<_};
 ghost use lib.Bits.{bitXor};
-ghost use lib.Count.{ones};
 ghost use lib.ListN.{length, take, drop, getD, replicate};
-ghost use Rattle.rows.specs.Row.{cell, rowBytes};
+ghost use Rattle.rows.specs.Row.{rowBytes};
 ghost use Rattle.register.specs.Circuit.{advanced};
 ghost use Rattle.chains.specs.Driven.{badSpread};
 ghost use Rattle.set_file.specs.Layout.{markAt};
 ghost use Rattle.word.specs.Reply.{lent};
 ghost use Rattle.signatures.specs.Signature.{signature};
 ghost use Rattle.signatures.specs.Later.{later};
-ghost use Rattle.signatures.specs.Columns.{columnsBelow, columnsOf, total};
+ghost use Rattle.signatures.specs.Columns.{columnsBelow, columnsOf};
 ghost use Rattle.response.specs.Signing.{signReply, saidSigned};
 ghost use Rattle.response.specs.Listing.{listReply, saidListed};
-ghost use Rattle.response.specs.Code.{circuit, valueCells, markCells, marksBelow, rowsFrom, bits, chosenWords, fromPowers, back};
+ghost use Rattle.response.specs.Code.{circuit, valueCells, markCells, marksBelow, rowsFrom, fromPowers, back};
 
 // What signing a record answers: its signature, or the first number that applies.
 pub enum Signed {
@@ -77,86 +76,6 @@ fn next_state(m: u64, taps: u64, state: u64, drive: u64) -> u64
     next.state
 }
 
-// Writes the word over the list's last place, and answers with how many places stand before it.
-fn put_last(columns: &mut [u64], word: u64) -> usize
-    ensures { λ r. ⌜ r ≡ length (now (columns .entry)) - 1 ⌝ }
-    ensures { λ _. ⌜ now (columns .exit) ≡ back (word ∷ []) (now (columns .entry)) ⌝ }
-{
-    let room = columns.len();
-    if room == 0 {
-        return 0;
-    }
-    columns[room - 1] = word;
-    room - 1
-}
-
-// Writes the words of the chains whose bit in `marks` is 1 over the list's end, from the last chain on, and answers with how many
-// places stand before them. The list may be too short for them.
-fn list_from_last(columns: &mut [u64], words: &[u64], marks: u64) -> usize
-    ensures { λ r. ⌜ r ≡ length (now (columns .entry)) - length (chosenWords (now (words .entry)) (bits marks) 64) ⌝ }
-    ensures { λ _. ⌜ now (columns .exit) ≡ back (chosenWords (now (words .entry)) (bits marks) 64) (now (columns .entry)) ⌝ }
-{
-    let mut place = columns.len();
-    let mut left = marks;
-    while left != 0 {
-        let top = word::highest_bit(left);
-        place = put_last(&mut columns[..place], word::word_at(words, top as usize));
-        left -= 1u64 << top;
-    }
-    place
-}
-
-// The same for a list that is long enough, from the first chain on: the next bit then doesn't wait for the one before it.
-fn list_from_first(columns: &mut [u64], words: &[u64], marks: u64) -> usize
-    requires { ⌜ ones marks ≤ length (now columns) ⌝ }
-    ensures { λ r. ⌜ r ≡ length (now (columns .entry)) - length (chosenWords (now (words .entry)) (bits marks) 64) ⌝ }
-    ensures { λ _. ⌜ now (columns .exit) ≡ back (chosenWords (now (words .entry)) (bits marks) 64) (now (columns .entry)) ⌝ }
-{
-    let start = columns.len() - u64::count_ones(marks) as usize;
-    let mut place = start;
-    let mut left = marks;
-    while left != 0 {
-        let low = u64::trailing_zeros(left) as usize;
-        columns[place] = word::word_at(words, low);
-        left = left & (left - 1);
-        place += 1;
-    }
-    start
-}
-
-// Writes the words of the chains whose bit in `marks` is 1 over the list's end, and answers with how many places stand before them.
-fn list_word(columns: &mut [u64], words: &[u64], marks: u64) -> usize
-    ensures { λ r. ⌜ r ≡ length (now (columns .entry)) - length (chosenWords (now (words .entry)) (bits marks) 64) ⌝ }
-    ensures { λ _. ⌜ now (columns .exit) ≡ back (chosenWords (now (words .entry)) (bits marks) 64) (now (columns .entry)) ⌝ }
-{
-    if marks == 0 {
-        return columns.len();
-    }
-    if columns.len() < u64::count_ones(marks) as usize {
-        return list_from_last(columns, words, marks);
-    }
-    list_from_first(columns, words, marks)
-}
-
-// Writes the words of the chains whose cell in the row is 1 over the list's end, and answers with how many places stand before
-// them. It goes by words of 64 cells; a row may have bits past the last chain.
-fn list_row(columns: &mut [u64], words: &[u64], row: &[u8]) -> usize
-    ensures { λ r. ⌜ r ≡ length (now (columns .entry)) - length (chosenWords (now (words .entry)) (cell (now (row .entry))) (length (now (words .entry)))) ⌝ }
-    ensures { λ _. ⌜ now (columns .exit) ≡ back (chosenWords (now (words .entry)) (cell (now (row .entry))) (length (now (words .entry)))) (now (columns .entry)) ⌝ }
-{
-    let chains = words.len();
-    let mut place = columns.len();
-    let mut i = chains / 64 + (chains % 64 + 63) / 64;
-    while 0 < i {
-        i -= 1;
-        let first = 64 * i;
-        let mask = word::low_mask((chains - first) as u64);
-        let marks = numbers::read_word(row, 8 * i) & mask;
-        place = list_word(&mut columns[..place], &words[first..], marks);
-    }
-    place
-}
-
 // Advances each word by one clock with all cells 0.
 fn advance_words(m: u64, taps: u64, words: &mut [u64])
     ensures { λ _. ⌜ now (words .exit) ≡ map (advanced (min m 64) taps) (now (words .entry)) ⌝ }
@@ -166,19 +85,6 @@ fn advance_words(m: u64, taps: u64, words: &mut [u64])
         words[c] = next_state(m, taps, words[c], 0);
         c += 1;
     }
-}
-
-// The number of cells among the first 256 of a row that are 1, by words of 64 cells.
-fn count_row(row: &[u8]) -> u64
-    ensures { λ r. ⌜ r ≡ total 256 (cell (now (row .entry))) ⌝ }
-{
-    let mut found = 0u64;
-    let mut i = 0;
-    while i < 4 {
-        found += u64::count_ones(numbers::read_word(row, 8 * i)) as u64;
-        i += 1;
-    }
-    found
 }
 
 // The signature of the response of s slices whose rows stand in `bytes`, each lent to the register as it stands there. It meets
@@ -235,7 +141,7 @@ pub fn count_unknowns(set: &[u8], n: u64, s: u64) -> u64
     let mut found = 0u64;
     let mut t = 0;
     while t < slices {
-        found += count_row(mark_row(set, chains, t));
+        found += marked_words::count_row(mark_row(set, chains, t));
         t += 1;
     }
     found
@@ -260,7 +166,7 @@ fn fill_swept(
     let mut t = slice_limit(s);
     while 0 < t {
         t -= 1;
-        place = list_row(
+        place = marked_words::list_row(
             &mut columns[..place],
             &words[..chains],
             mark_row(set, chains, t),
@@ -339,7 +245,7 @@ fn fill_sparse(
     while 0 < t {
         t -= 1;
         let row = mark_row(set, chains, t);
-        let start = list_row(&mut columns[..place], &spread[..chains], row);
+        let start = marked_words::list_row(&mut columns[..place], &spread[..chains], row);
         let from = slices - 1 - t;
         let to = from + width;
         power_words(&table[from..to], &mut columns[start..place]);

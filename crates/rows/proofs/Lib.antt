@@ -1,3 +1,5 @@
 pub mod CellLaws
 pub mod SpareLaws
 pub mod RowLaws
+pub mod DigitLaws
+pub mod MarkLaws

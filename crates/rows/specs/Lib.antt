@@ -1,2 +1,3 @@
 pub mod Row
 pub mod Lists
+pub mod Marks

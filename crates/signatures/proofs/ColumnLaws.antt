@@ -15,12 +15,14 @@ use Rattle.word.specs.Some.{anyOf}
 use Rattle.word.proofs.BoolLaws.{or-false, and-off}
 use Rattle.word.proofs.SomeLaws.{any-of-append}
 use Rattle.word.proofs.WordLaws.{not-beyond}
+use Rattle.rows.specs.Marks.{listed, total}
+use Rattle.rows.proofs.MarkLaws.{length-listed}
 use Rattle.register.specs.Circuit.{Circuit, chains, advanced, clocked}
 use Rattle.register.proofs.Laws.{clocked-ext, clocked-zero, advanced-zero}
 use Rattle.chains.proofs.Laws.{driven-ext, driven-unit}
 use Rattle.signatures.specs.Signature.{Response, runs, signature, onlyCell, column}
 use Rattle.signatures.specs.Later.{later}
-use Rattle.signatures.specs.Columns.{listed, sliceColumns, columnsBelow, total}
+use Rattle.signatures.specs.Columns.{sliceColumns, columnsBelow}
 use Rattle.signatures.proofs.SignatureLaws.{signature-ext, signature-zero, signature-lt, runs-suc}
 
 -- ---- the response with one cell
@@ -100,11 +102,6 @@ unfolding column
 column-lt k s t c ht hw = signature-lt k (onlyCell t c) s ht hw
 
 -- ---- how many columns
-
-pub length-listed : (d w : ℕ) → d < 2 → length (listed d w) ≡ d
-length-listed zero w h = refl
-length-listed (suc zero) w h = refl
-length-listed (suc (suc d)) w h = let z : ⊥ = omega arith in absurd z
 
 module _ (k : Circuit) (s : ℕ) (u : Response) where
   pub length-slice-columns : ((t c : ℕ) → u t c < 2) → (t c : ℕ) → length (sliceColumns k s u t c) ≡ total c (u t)

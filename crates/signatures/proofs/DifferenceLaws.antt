@@ -21,10 +21,11 @@ use Rattle.word.specs.Span.{isXorOf}
 use Rattle.word.proofs.BoolLaws.{and-off}
 use Rattle.word.proofs.Laws.{mod2-lt, xor-assoc, xor-cancel, xor-zero-eq}
 use Rattle.word.proofs.SpanLaws.{xor-of-zero, xor-of-head, xor-of-nil, xor-of-join, xor-of-split, xor-of-left, xor-of-one}
+use Rattle.rows.specs.Marks.{listed}
 use Rattle.chains.specs.Driven.{chosen}
 use Rattle.register.specs.Circuit.{Circuit, chains}
 use Rattle.signatures.specs.Signature.{Response, signature, onlyCell, column}
-use Rattle.signatures.specs.Columns.{listed, sliceColumns, columnsBelow}
+use Rattle.signatures.specs.Columns.{sliceColumns, columnsBelow}
 use Rattle.signatures.proofs.SignatureLaws.{signature-ext, signature-xor}
 use Rattle.signatures.proofs.ColumnLaws.{only-cell-lt, only-cell-other-slice, only-cell-other-chain, only-cell-same}
 

@@ -15,9 +15,10 @@ use mathlib.Core.Bool.{cond}
 use mathlib.Core.List.{List}
 use Prim.Native.Nat.{ℕ, _<_}
 use lib.Dec.{eqb}
+use Rattle.rows.specs.Marks.{total}
 use Rattle.register.specs.Circuit.{Circuit, chains}
 use Rattle.signatures.specs.Signature.{Response, signature}
-use Rattle.signatures.specs.Columns.{columnsBelow, total}
+use Rattle.signatures.specs.Columns.{columnsBelow}
 
 pub record Given : Type 0 where
   pub wiring : Circuit

@@ -3,7 +3,7 @@ use mathlib.Core.Path.{_≡_, ap₂, _∙_}
 use Prim.Native.Nat.{ℕ, _-_, _≤_, min}
 use native.Mathlib.Omega.{arith}
 use Rattle.response.specs.Code.{marksBelow}
-use Rattle.response.proofs.CountLaws.{marks-below-none, marks-below-turn, marks-below-le, row-total-le}
+use Rattle.marked_words.proofs.CountLaws.{marks-below-none, marks-below-turn, marks-below-le, row-total-le}
 use borrow.Author.Needs.{needs}
 use Rattle.response.proofs.count_unknowns.Statement.{statement}
 use Rattle.response.proofs.count_unknowns.Tie as tie

@@ -8,7 +8,7 @@ use lib.Seq.{length-take-le, length-front}
 use Rattle.rows.specs.Row.{cell}
 use Rattle.chains.specs.Driven.{badSpread}
 use Rattle.response.specs.Code.{circuit, markCells}
-use Rattle.response.proofs.BackLaws.{back-length}
+use Rattle.marked_words.proofs.BackLaws.{back-length}
 use Rattle.response.proofs.FillLaws.{columns-limited}
 use Rattle.response.proofs.SparseLaws.{Sparse, sparse-room, sparse-starts, sparse-steps, sparse-ends}
 use borrow.Author.Needs.{needs}

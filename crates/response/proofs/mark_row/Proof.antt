@@ -1,6 +1,6 @@
 -- `mark_row` meets its contract: the place fits, since the rows of 512 slices do.
 use native.Mathlib.Omega.{arith}
-use Rattle.response.proofs.CountLaws.{rows-fit}
+use Rattle.marked_words.proofs.CountLaws.{rows-fit}
 use mathlib.Core.Path.{_∙_, ap}
 use Prim.Native.Nat.{ℕ, _+_, _*_, _≤_}
 use Rattle.set_file.specs.Layout.{rowsAt}

@@ -3,7 +3,7 @@ use mathlib.Core.Path.{_≡_, sym}
 use native.Mathlib.Omega.{arith}
 use lib.ListN.{length}
 use lib.Seq.{length-take-le}
-use Rattle.response.proofs.CountLaws.{rows-bytes}
+use Rattle.marked_words.proofs.CountLaws.{rows-bytes}
 use Rattle.response.proofs.SetLaws.{read-words-length}
 use Rattle.response.proofs.CallLaws.{sign-set-refused, sign-wrong-length, sign-spare, sign-answers}
 use borrow.Author.Needs.{needs}

@@ -65,9 +65,6 @@ module _ (l : List ℕ) (bytes : (i : ℕ) → getD l i 0 < 256) where
       let bit : k % 8 ≡ (64 * i + k) % 8 = omega arith in
       let byte : 8 * i + k / 8 ≡ (64 * i + k) / 8 = omega arith in
       number-digit 8 (8 * i) k h ∙ ap₂ (λ (x y : ℕ). digit x (getD l y 0)) bit byte
-
-pub cell-clear : (row : List ℕ) (c : ℕ) → getD row (c / 8) 0 ≡ 0 → cell row c ≡ 0
-cell-clear row c e = omega (arith, shr-le (getD row (c / 8) 0) (c % 8))
 
 -- ---- the lowest bit of a word
 

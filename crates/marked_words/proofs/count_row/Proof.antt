@@ -5,11 +5,11 @@ use native.Mathlib.Omega.{arith}
 use lib.ListN.{getD}
 use lib.Count.{ones}
 use Rattle.rows.specs.Row.{cell}
-use Rattle.signatures.specs.Columns.{total}
-use Rattle.response.proofs.CountLaws.{count-start, count-turns, count-le, ones-word-le}
+use Rattle.rows.specs.Marks.{total}
+use Rattle.marked_words.proofs.CountLaws.{count-start, count-turns, count-le, ones-word-le}
 use borrow.Author.Needs.{needs}
-use Rattle.response.proofs.count_row.Statement.{statement}
-use Rattle.response.proofs.count_row.Tie as tie
+use Rattle.marked_words.proofs.count_row.Statement.{statement}
+use Rattle.marked_words.proofs.count_row.Tie as tie
 
 abbrev Inv-loop : tie.InvT-loop
 Inv-loop row found₀ i₀ found i = (i ≤ 4) × (found ≡ total (64 * i) (cell row))

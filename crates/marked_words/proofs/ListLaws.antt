@@ -19,12 +19,12 @@ use Rattle.numbers.specs.Joined.{joined}
 use Rattle.word.proofs.Laws.{mod2-lt}
 use Rattle.numbers.proofs.JoinLaws.{joined-ext}
 use Rattle.rows.specs.Row.{cell}
-use Rattle.signatures.specs.Columns.{listed, total}
-use Rattle.response.specs.Code.{bits, chosenWords, back}
-use Rattle.response.proofs.BackLaws.{rest, joined-rest, joined-none, rest-ext, rest-none, rest-whole, rest-add, rest-joined, joined-stops, back-fits, back-none, back-length, back-more, back-more-room}
-use Rattle.response.proofs.DigitLaws.{digit-mod, digit-past, word-cell, Lowest, below-lowest, above-lowest, lowest-gone}
-use Rattle.response.proofs.CountLaws.{total-digits}
-use Rattle.signatures.proofs.ColumnLaws.{length-listed}
+use Rattle.rows.specs.Marks.{listed, total, markedWords, bits}
+use Rattle.marked_words.specs.Back.{back}
+use Rattle.marked_words.proofs.BackLaws.{rest, joined-rest, joined-none, rest-ext, rest-none, rest-whole, rest-add, rest-joined, joined-stops, back-fits, back-none, back-length, back-more, back-more-room}
+use Rattle.rows.proofs.DigitLaws.{digit-mod, digit-past, word-cell, Lowest, below-lowest, above-lowest, lowest-gone}
+use Rattle.marked_words.proofs.CountLaws.{total-digits}
+use Rattle.rows.proofs.MarkLaws.{length-listed}
 
 -- ---- the marks of 64 chains
 
@@ -54,11 +54,11 @@ highest-tops w k n h e =
 pub top-power : (w k : ℕ) → Topped w k → (1 * 2 ^ k) % 18446744073709551616 ≡ 2 ^ k
 top-power w k t = let p : k < 64 = t .place in shl-exact {a = 1} 1 k 64 (omega arith) (omega arith) ∙ one-mul (2 ^ k)
 
-length-chosen : (ws : List ℕ) (x : ℕ → ℕ) (n : ℕ) → ((d : ℕ) → x d < 2) → length (chosenWords ws x n) ≡ total n x
+length-chosen : (ws : List ℕ) (x : ℕ → ℕ) (n : ℕ) → ((d : ℕ) → x d < 2) → length (markedWords ws x n) ≡ total n x
 unfolding joined total
 length-chosen ws x zero h = refl
 length-chosen ws x (suc n) h =
-    length-append (chosenWords ws x n) (listed (x n) (getD ws n 0)) ∙ ap₂ _+_ (length-chosen ws x n h) (length-listed (x n) (getD ws n 0) (h n))
+    length-append (markedWords ws x n) (listed (x n) (getD ws n 0)) ∙ ap₂ _+_ (length-chosen ws x n h) (length-listed (x n) (getD ws n 0) (h n))
 
 module _ (ws : List ℕ) where
   abbrev marked : ℕ → ℕ → List ℕ
@@ -66,9 +66,9 @@ module _ (ws : List ℕ) where
 
   -- the words of the chains whose bit is 1
   pub wordsOf : ℕ → List ℕ
-  wordsOf w = chosenWords ws (bits w) 64
+  wordsOf w = markedWords ws (bits w) 64
 
-  pub words-of : (w : ℕ) → wordsOf w ≡ chosenWords ws (bits w) 64
+  pub words-of : (w : ℕ) → wordsOf w ≡ markedWords ws (bits w) 64
   unfolding wordsOf
   words-of w = refl
 
@@ -145,7 +145,7 @@ module _ (ws : List ℕ) where
       )
 
   pub putting-place : (marks : ℕ) (l : List ℕ) (start : ℕ) → marks < 2 ^ 64 → start ≡ length l - ones marks
-      → start ≡ length l - length (chosenWords ws (bits marks) 64)
+      → start ≡ length l - length (markedWords ws (bits marks) 64)
   putting-place marks l start h e = e ∙ ap (λ (x : ℕ). length l - x) (sym (words-of-length marks h) ∙ ap length (words-of marks))
 
   pub putting-room : (marks : ℕ) (l₀ l : List ℕ) (place left low : ℕ) → Putting marks l₀ l place left → Lowest left low → place < length l
@@ -171,7 +171,7 @@ module _ (ws : List ℕ) where
       )
 
   pub putting-ends : (marks : ℕ) (l₀ l : List ℕ) (place left : ℕ) → Putting marks l₀ l place left → left ≡ 0
-      → l ≡ back (chosenWords ws (bits marks) 64) l₀
+      → l ≡ back (markedWords ws (bits marks) 64) l₀
   unfolding Putting
   putting-ends marks l₀ l place left p e =
       let none : wordsOf left ≡ [] = ap wordsOf e ∙ words-of-none in
@@ -237,7 +237,7 @@ module _ (ws : List ℕ) where
       room = omega (arith, ep, here, k .2, ap length words ∙ length-append (wordsOf left′) (w ∷ []))
 
   pub taking-ends : (marks : ℕ) (l₀ l : List ℕ) (place left : ℕ) → Taking marks l₀ l place left → left ≡ 0
-      → (place ≡ length l₀ - length (chosenWords ws (bits marks) 64)) × (l ≡ back (chosenWords ws (bits marks) 64) l₀)
+      → (place ≡ length l₀ - length (markedWords ws (bits marks) 64)) × (l ≡ back (markedWords ws (bits marks) 64) l₀)
   unfolding Taking
   taking-ends marks l₀ l place left k e =
       let none : wordsOf left ≡ [] = ap wordsOf e ∙ words-of-none in (
@@ -261,7 +261,7 @@ module _ (ws row : List ℕ) where
   unfolding wordsFrom
   words-from-end c h = let none : length ws - c ≡ 0 = omega arith in ap (rest word c) none ∙ rest-none word c
 
-  words-from-start : wordsFrom 0 ≡ chosenWords ws (cell row) (length ws)
+  words-from-start : wordsFrom 0 ≡ markedWords ws (cell row) (length ws)
   unfolding wordsFrom
   words-from-start = let all : length ws - 0 ≡ length ws = omega arith in ap (rest word 0) all ∙ rest-whole word (length ws)
 
@@ -287,7 +287,7 @@ module _ (ws row : List ℕ) where
     marked-word d l =
         ap₂ listed (ap (digit d) masked ∙ digit-mod many (wordAt row (8 * i)) d l ∙ word-cell row bytes i d (omega arith)) (getD-drop (64 * i) ws d 0)
 
-    word-first : chosenWords (drop (64 * i) ws) (bits marks) 64 ≡ joined (λ d. word (64 * i + d)) many
+    word-first : markedWords (drop (64 * i) ws) (bits marks) 64 ≡ joined (λ d. word (64 * i + d)) many
     unfolding many
     word-first =
         sym (words-of (drop (64 * i) ws) marks)
@@ -301,7 +301,7 @@ module _ (ws row : List ℕ) where
         (λ (l : 64 ≤ length ws - 64 * i). let full : 64 * i + min (length ws - 64 * i) 64 ≡ 64 * i + 64 = omega arith in ap wordsFrom full)
         (λ (l : 64 ≤ length ws - 64 * i → ⊥). words-from-end (64 * i + min (length ws - 64 * i) 64) (omega arith) ∙ sym (words-from-end (64 * i + 64) (omega arith)))
 
-    words-from-word : wordsFrom (64 * i) ≡ chosenWords (drop (64 * i) ws) (bits marks) 64 ++ wordsFrom (64 * i + 64)
+    words-from-word : wordsFrom (64 * i) ≡ markedWords (drop (64 * i) ws) (bits marks) 64 ++ wordsFrom (64 * i + 64)
     unfolding many
     words-from-word = words-from-parts (64 * i) many (omega arith) ∙ ap₂ (λ (x y : List ℕ). x ++ y) (sym word-first) word-rest
 
@@ -321,8 +321,8 @@ module _ (ws row : List ℕ) where
   pub listing-turns : ((i : ℕ) → getD row i 0 < 256) → (l₀ l l′ vs : List ℕ) (place place′ i mask marks : ℕ) → Listing l₀ l place (64 * i) → 0 < i
       → 64 * (i - 1) < length ws → mask ≡ lowMask (length ws - 64 * (i - 1)) → marks ≡ bitAnd (wordAt row (8 * (i - 1))) mask
       → vs ≡ take (length ws - 64 * (i - 1)) (drop (64 * (i - 1)) ws)
-      → place′ ≡ length (take place l) - length (chosenWords vs (bits marks) 64)
-      → l′ ≡ back (chosenWords vs (bits marks) 64) (take place l) ++ drop place l
+      → place′ ≡ length (take place l) - length (markedWords vs (bits marks) 64)
+      → l′ ≡ back (markedWords vs (bits marks) 64) (take place l) ++ drop place l
       → Listing l₀ l′ place′ (64 * (i - 1))
   unfolding Listing
   listing-turns bytes l₀ l l′ vs place place′ i mask marks k h m em ek ev ep el = (
@@ -333,7 +333,7 @@ module _ (ws row : List ℕ) where
   )
     where
       mine : List ℕ
-      mine = chosenWords vs (bits marks) 64
+      mine = markedWords vs (bits marks) 64
 
       lent : drop (64 * (i - 1)) ws ≡ vs
       lent = sym (ev ∙ take-all (length ws - 64 * (i - 1)) (drop (64 * (i - 1)) ws) (omega (arith, length-drop (64 * (i - 1)) ws)))
@@ -342,9 +342,9 @@ module _ (ws row : List ℕ) where
       words =
           let next : 64 * (i - 1) + 64 ≡ 64 * i = omega arith in
           words-from-word bytes (i - 1) mask marks m em ek
-          ∙ ap₂ (λ (x : List ℕ) (y : ℕ). chosenWords x (bits marks) 64 ++ wordsFrom y) lent next
+          ∙ ap₂ (λ (x : List ℕ) (y : ℕ). markedWords x (bits marks) 64 ++ wordsFrom y) lent next
 
   pub listing-ends : (l₀ l : List ℕ) (place c : ℕ) → Listing l₀ l place c → c ≡ 0
-      → (place ≡ length l₀ - length (chosenWords ws (cell row) (length ws))) × (l ≡ back (chosenWords ws (cell row) (length ws)) l₀)
+      → (place ≡ length l₀ - length (markedWords ws (cell row) (length ws))) × (l ≡ back (markedWords ws (cell row) (length ws)) l₀)
   unfolding Listing
-  listing-ends l₀ l place c k e = let whole : wordsFrom c ≡ chosenWords ws (cell row) (length ws) = ap wordsFrom e ∙ words-from-start in rw (← whole) k
+  listing-ends l₀ l place c k e = let whole : wordsFrom c ≡ markedWords ws (cell row) (length ws) = ap wordsFrom e ∙ words-from-start in rw (← whole) k

@@ -1,9 +1,9 @@
 -- `put_last` meets its contract, by whether the list has a place.
 use mathlib.Core.Path.{refl}
-use Rattle.response.proofs.PlaceLaws.{put-full, put-one}
+use Rattle.marked_words.proofs.PlaceLaws.{put-full, put-one}
 use borrow.Author.Needs.{needs}
-use Rattle.response.proofs.put_last.Statement.{statement}
-use Rattle.response.proofs.put_last.Tie as tie
+use Rattle.marked_words.proofs.put_last.Statement.{statement}
+use Rattle.marked_words.proofs.put_last.Tie as tie
 
 returns : tie.Need-returns
 returns c = put-full (c .before .args .columns .now) (c .before .args .word) (c .if1 .taken)

@@ -6,10 +6,10 @@ use native.Mathlib.Omega.{arith}
 use lib.Bits.{bitAnd}
 use lib.ListN.{length, drop}
 use lib.Seq.{length-take-le}
-use Rattle.response.proofs.ListLaws.{Listing, listing-room, listing-starts, listing-turns, listing-ends}
+use Rattle.marked_words.proofs.ListLaws.{Listing, listing-room, listing-starts, listing-turns, listing-ends}
 use borrow.Author.Needs.{needs}
-use Rattle.response.proofs.list_row.Statement.{statement}
-use Rattle.response.proofs.list_row.Tie as tie
+use Rattle.marked_words.proofs.list_row.Statement.{statement}
+use Rattle.marked_words.proofs.list_row.Tie as tie
 
 abbrev Inv-loop : tie.InvT-loop
 Inv-loop columns₀ words row chains place₀ i₀ columns place i = (64 * i < length words + 64) × (place ≤ length columns) × Listing words row columns₀ columns place (64 * i)

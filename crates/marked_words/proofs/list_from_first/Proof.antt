@@ -5,11 +5,11 @@ use Prim.Native.Nat.{_^_, _<_}
 use native.Mathlib.Omega.{arith}
 use lib.Count.{trailingZeros, ones-le, trailing-le}
 use lib.ListN.{length}
-use Rattle.response.proofs.DigitLaws.{Lowest, trailing-lowest, lowest-less}
-use Rattle.response.proofs.ListLaws.{Putting, putting-starts, putting-place, putting-room, putting-long, putting-turns, putting-ends}
+use Rattle.rows.proofs.DigitLaws.{Lowest, trailing-lowest, lowest-less}
+use Rattle.marked_words.proofs.ListLaws.{Putting, putting-starts, putting-place, putting-room, putting-long, putting-turns, putting-ends}
 use borrow.Author.Needs.{needs}
-use Rattle.response.proofs.list_from_first.Statement.{statement}
-use Rattle.response.proofs.list_from_first.Tie as tie
+use Rattle.marked_words.proofs.list_from_first.Statement.{statement}
+use Rattle.marked_words.proofs.list_from_first.Tie as tie
 
 abbrev Inv-loop : tie.InvT-loop
 Inv-loop columns₀ words marks start place₀ left₀ columns place left = (left < 2 ^ 64) × (length columns ≡ length columns₀) × Putting words marks columns₀ columns place left

@@ -9,7 +9,7 @@ use native.Mathlib.Omega.{arith}
 use lib.ListN.{length, take, drop, length-append, length-take, length-drop}
 use lib.Seq.{take-all, take-take, take-at, drop-at, drop-append-le, drop-append-add, length-take-le, drop-length}
 use Rattle.numbers.specs.Joined.{joined}
-use Rattle.response.specs.Code.{back}
+use Rattle.marked_words.specs.Back.{back}
 
 -- ---- a list written from the end
 

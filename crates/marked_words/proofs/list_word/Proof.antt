@@ -1,10 +1,10 @@
 -- `list_word` meets its contract: without a mark nothing is written, and both ways to write the words meet it.
 use native.Mathlib.Omega.{arith}
 use lib.Count.{ones-le}
-use Rattle.response.proofs.ListLaws.{taking-starts, taking-ends}
+use Rattle.marked_words.proofs.ListLaws.{taking-starts, taking-ends}
 use borrow.Author.Needs.{needs}
-use Rattle.response.proofs.list_word.Statement.{statement}
-use Rattle.response.proofs.list_word.Tie as tie
+use Rattle.marked_words.proofs.list_word.Statement.{statement}
+use Rattle.marked_words.proofs.list_word.Tie as tie
 
 returns : tie.Need-returns
 returns c =

@@ -7,10 +7,10 @@ use native.Mathlib.Omega.{arith}
 use lib.ListN.{length, drop}
 use lib.Pow.{pow-pos}
 use lib.Seq.{length-take-le}
-use Rattle.response.proofs.ListLaws.{Topped, highest-tops, top-power, Taking, taking-room, taking-starts, taking-turns, taking-ends}
+use Rattle.marked_words.proofs.ListLaws.{Topped, highest-tops, top-power, Taking, taking-room, taking-starts, taking-turns, taking-ends}
 use borrow.Author.Needs.{needs}
-use Rattle.response.proofs.list_from_last.Statement.{statement}
-use Rattle.response.proofs.list_from_last.Tie as tie
+use Rattle.marked_words.proofs.list_from_last.Statement.{statement}
+use Rattle.marked_words.proofs.list_from_last.Tie as tie
 
 abbrev Inv-loop : tie.InvT-loop
 Inv-loop columns₀ words marks place₀ left₀ columns place left = (left < 2 ^ 64) × (place ≤ length columns) × Taking words marks columns₀ columns place left

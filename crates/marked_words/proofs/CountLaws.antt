@@ -1,0 +1,84 @@
+-- The marked cells of rows counted by words of 64. Assumes nothing.
+use mathlib.Core.Path.{_≡_, refl, sym, ap, ap₂, _∙_}
+use mathlib.Core.List.{List}
+use Prim.Native.Nat.{ℕ, zero, suc, _+_, _*_, _/_, _%_, _^_, _≤_, _<_}
+use native.Mathlib.Nat.{div-one, pow-suc}
+use native.Mathlib.Numerals.{one-add, add-one}
+use native.Mathlib.Omega.{arith}
+use lib.Count.{ones, ones-step, ones-le}
+use lib.ListN.{getD}
+use lib.Pow.{shr-shr}
+use Rattle.word.specs.Word.{digit}
+use Rattle.numbers.specs.Bytes.{wordAt}
+use Rattle.numbers.proofs.ByteLaws.{number-at-lt}
+use Rattle.rows.specs.Row.{cell}
+use Rattle.rows.specs.Lists.{rowOf, cellsOf}
+use Rattle.rows.specs.Marks.{total}
+use Rattle.rows.specs.declared.Rows.{Rows}
+use Rattle.rows.proofs.CellLaws.{cell-lt}
+use Rattle.rows.proofs.DigitLaws.{word-cell}
+use Rattle.rows.proofs.MarkLaws.{total-none, total-suc, total-ext, total-le, total-add, total-front}
+
+-- ---- the digits of a number
+
+pub total-digits : (k b : ℕ) → b < 2 ^ k → total k (λ i. digit i b) ≡ ones b
+total-digits zero b h = omega (arith, total-none (λ (i : ℕ). digit i b), ones-le 0 b h)
+total-digits (suc k) b h =
+    total-front k (λ i. digit i b)
+    ∙ ap₂ _+_ (ap (λ (x : ℕ). x % 2) (div-one b))
+    (total-ext k (λ i. digit (suc i) b) (λ i. digit i (b / 2)) (λ i l. ap (λ (x : ℕ). x % 2) (sym (shr-shr b 1 i ∙ ap (λ (x : ℕ). b / 2 ^ x) (one-add i))))
+    ∙ total-digits k (b / 2) (omega (arith, pow-suc 2 k)))
+    ∙ sym (ones-step b)
+
+pub ones-word-le : (w : ℕ) (l : List ℕ) (i : ℕ) → ((j : ℕ) → getD l j 0 < 256) → w ≡ wordAt l (8 * i) → ones w ≤ 64
+ones-word-le w l i bytes e = ones-le 64 w (rw e (number-at-lt 8 l (8 * i) bytes))
+
+-- ---- a row
+
+module _ (row : List ℕ) where
+  pub count-start : 0 ≡ total (64 * 0) (cell row)
+  count-start = sym (total-none (cell row))
+
+  count-turn : ((j : ℕ) → getD row j 0 < 256) → (i : ℕ) → total (64 * (i + 1)) (cell row) ≡ total (64 * i) (cell row) + ones (wordAt row (8 * i))
+  count-turn bytes i =
+      let next : 64 * (i + 1) ≡ 64 * i + 64 = omega arith in
+      ap (λ (k : ℕ). total k (cell row)) next ∙ total-add (64 * i) 64 (cell row)
+      ∙ ap (λ (x : ℕ). total (64 * i) (cell row) + x)
+      (total-ext 64 (λ k. cell row (64 * i + k)) (λ k. digit k (wordAt row (8 * i))) (λ k l. sym (word-cell row bytes i k l))
+      ∙ total-digits 64 (wordAt row (8 * i)) (number-at-lt 8 row (8 * i) bytes))
+
+  pub count-turns : ((j : ℕ) → getD row j 0 < 256) → (i found w : ℕ) → found ≡ total (64 * i) (cell row) → w ≡ wordAt row (8 * i)
+      → found + ones w ≡ total (64 * (i + 1)) (cell row)
+  count-turns bytes i found w ef ew = ap₂ (λ (x y : ℕ). x + ones y) ef ew ∙ sym (count-turn bytes i)
+
+  pub count-le : (i : ℕ) → total (64 * i) (cell row) ≤ 64 * i
+  count-le i = omega (arith, total-le (64 * i) 1 (cell row) (λ c. omega (arith, cell-lt row c)))
+
+pub row-total-le : (r : ℕ) (row : List ℕ) → r ≡ total 256 (cell row) → r ≤ 256
+row-total-le r row e = omega (arith, total-le 256 1 (cell row) (λ c. omega (arith, cell-lt row c)))
+
+-- ---- the slices
+
+module _ (l : List ℕ) (r : Rows) where
+  -- the marks of the slices below t
+  pub Counted : ℕ → ℕ → Type 0
+  Counted found t = found ≡ total t (λ v. total 256 (cellsOf l r v))
+
+  pub counted-none : Counted 0 0
+  unfolding Counted total
+  counted-none = refl
+
+  pub counted-turn : (t found n : ℕ) (row : List ℕ) → Counted found t → n ≡ total 256 (cell row) → row ≡ rowOf l r t → Counted (found + n) (t + 1)
+  unfolding Counted
+  counted-turn t found n row ef en ew =
+      ap₂ _+_ ef (en ∙ ap (λ (x : List ℕ). total 256 (cell x)) ew)
+      ∙ sym (total-suc t (λ v. total 256 (cellsOf l r v))) ∙ ap (λ (k : ℕ). total k (λ v. total 256 (cellsOf l r v))) (sym (add-one t))
+
+  pub counted-le : (t found : ℕ) → Counted found t → found ≤ t * 256
+  unfolding Counted
+  counted-le t found e =
+      omega (arith, e, total-le t 256 (λ v. total 256 (cellsOf l r v)) (λ v. row-total-le (total 256 (cellsOf l r v)) (rowOf l r v) refl))
+
+  pub counted-ends : (t found s : ℕ) → Counted found t → t ≡ s → found ≡ total s (λ v. total 256 (cellsOf l r v))
+  unfolding Counted
+  counted-ends t found s e z = e ∙ ap (λ (k : ℕ). total k (λ v. total 256 (cellsOf l r v))) z

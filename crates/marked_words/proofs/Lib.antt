@@ -1,0 +1,4 @@
+pub mod BackLaws
+pub mod PlaceLaws
+pub mod CountLaws
+pub mod ListLaws

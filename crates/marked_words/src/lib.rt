@@ -1,0 +1,118 @@
+// The marked cells of rows: how many there are, and the words of their chains, written over the end of a list. It sees words,
+// numbers and rows; it knows no register and no file. Every function is total.
+ghost use mathlib.Core.Path.{_≡_};
+ghost use mathlib.Core.List.{[], _∷_};
+ghost use Prim.Native.Nat.{_-_, _≤_};
+ghost use lib.Count.{ones};
+ghost use lib.ListN.{length};
+ghost use Rattle.rows.specs.Row.{cell};
+ghost use Rattle.rows.specs.Lists.{cellsOf};
+ghost use Rattle.rows.specs.Marks.{total, markedWords, bits};
+ghost use Rattle.marked_words.specs.Back.{back};
+use rows::Rows;
+
+// Writes the word over the list's last place, and answers with how many places stand before it.
+fn put_last(columns: &mut [u64], word: u64) -> usize
+    ensures { λ r. ⌜ r ≡ length (now (columns .entry)) - 1 ⌝ }
+    ensures { λ _. ⌜ now (columns .exit) ≡ back (word ∷ []) (now (columns .entry)) ⌝ }
+{
+    let room = columns.len();
+    if room == 0 {
+        return 0;
+    }
+    columns[room - 1] = word;
+    room - 1
+}
+
+// Writes the words of the chains whose bit in `marks` is 1 over the list's end, from the last chain on, and answers with how many
+// places stand before them. The list may be too short for them.
+fn list_from_last(columns: &mut [u64], words: &[u64], marks: u64) -> usize
+    ensures { λ r. ⌜ r ≡ length (now (columns .entry)) - length (markedWords (now (words .entry)) (bits marks) 64) ⌝ }
+    ensures { λ _. ⌜ now (columns .exit) ≡ back (markedWords (now (words .entry)) (bits marks) 64) (now (columns .entry)) ⌝ }
+{
+    let mut place = columns.len();
+    let mut left = marks;
+    while left != 0 {
+        let top = word::highest_bit(left);
+        place = put_last(&mut columns[..place], word::word_at(words, top as usize));
+        left -= 1u64 << top;
+    }
+    place
+}
+
+// The same for a list that is long enough, from the first chain on: the next bit then doesn't wait for the one before it.
+fn list_from_first(columns: &mut [u64], words: &[u64], marks: u64) -> usize
+    requires { ⌜ ones marks ≤ length (now columns) ⌝ }
+    ensures { λ r. ⌜ r ≡ length (now (columns .entry)) - length (markedWords (now (words .entry)) (bits marks) 64) ⌝ }
+    ensures { λ _. ⌜ now (columns .exit) ≡ back (markedWords (now (words .entry)) (bits marks) 64) (now (columns .entry)) ⌝ }
+{
+    let start = columns.len() - u64::count_ones(marks) as usize;
+    let mut place = start;
+    let mut left = marks;
+    while left != 0 {
+        let low = u64::trailing_zeros(left) as usize;
+        columns[place] = word::word_at(words, low);
+        left = left & (left - 1);
+        place += 1;
+    }
+    start
+}
+
+// Writes the words of the chains whose bit in `marks` is 1 over the list's end, and answers with how many places stand before them.
+fn list_word(columns: &mut [u64], words: &[u64], marks: u64) -> usize
+    ensures { λ r. ⌜ r ≡ length (now (columns .entry)) - length (markedWords (now (words .entry)) (bits marks) 64) ⌝ }
+    ensures { λ _. ⌜ now (columns .exit) ≡ back (markedWords (now (words .entry)) (bits marks) 64) (now (columns .entry)) ⌝ }
+{
+    if marks == 0 {
+        return columns.len();
+    }
+    if columns.len() < u64::count_ones(marks) as usize {
+        return list_from_last(columns, words, marks);
+    }
+    list_from_first(columns, words, marks)
+}
+
+// Writes the words of the chains whose cell in the row is 1 over the list's end, and answers with how many places stand before
+// them. It goes by words of 64 cells; a row may have bits past the last chain.
+pub fn list_row(columns: &mut [u64], words: &[u64], row: &[u8]) -> usize
+    ensures { λ r. ⌜ r ≡ length (now (columns .entry)) - length (markedWords (now (words .entry)) (cell (now (row .entry))) (length (now (words .entry)))) ⌝ }
+    ensures { λ _. ⌜ now (columns .exit) ≡ back (markedWords (now (words .entry)) (cell (now (row .entry))) (length (now (words .entry)))) (now (columns .entry)) ⌝ }
+{
+    let chains = words.len();
+    let mut place = columns.len();
+    let mut i = chains / 64 + (chains % 64 + 63) / 64;
+    while 0 < i {
+        i -= 1;
+        let first = 64 * i;
+        let mask = word::low_mask((chains - first) as u64);
+        let marks = numbers::read_word(row, 8 * i) & mask;
+        place = list_word(&mut columns[..place], &words[first..], marks);
+    }
+    place
+}
+
+// The number of cells among the first 256 of a row that are 1, by words of 64 cells.
+fn count_row(row: &[u8]) -> u64
+    ensures { λ r. ⌜ r ≡ total 256 (cell (now (row .entry))) ⌝ }
+{
+    let mut found = 0u64;
+    let mut i = 0;
+    while i < 4 {
+        found += u64::count_ones(numbers::read_word(row, 8 * i)) as u64;
+        i += 1;
+    }
+    found
+}
+
+// The number of marked cells among the first 256 of each of s rows. It meets no number: a row past the end has no mark.
+pub fn count_marks(list: &[u8], rows: Rows, s: u16) -> u64
+    ensures { λ r. ⌜ r ≡ total s (λ t. total 256 (cellsOf (now (list .entry)) rows t)) ⌝ }
+{
+    let mut found = 0u64;
+    let mut t: u16 = 0;
+    while t < s {
+        found += count_row(rows::row_of(list, rows, t));
+        t += 1;
+    }
+    found
+}
