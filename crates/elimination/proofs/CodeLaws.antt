@@ -13,9 +13,9 @@ use lib.Bits.{bitXor}
 use Rattle.word.specs.Word.{parity}
 use Rattle.word.specs.Reply.{front}
 use Rattle.word.proofs.Laws.{parity-cases}
-use Rattle.elimination.specs.Step.{byParity, cleared, step, steps}
+use Rattle.combinations.specs.Step.{byParity, cleared, step, steps}
 use Rattle.elimination.specs.Code.{firstOdd}
-use Rattle.elimination.proofs.StepLaws.{step-even, step-odd, length-cleared}
+use Rattle.combinations.proofs.StepLaws.{step-even, step-odd, length-cleared}
 
 -- ---- the first odd word
 

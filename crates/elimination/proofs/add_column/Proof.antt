@@ -3,10 +3,6 @@ use Rattle.elimination.proofs.CodeLaws.{added-none, added-one}
 use borrow.Author.Needs.{needs}
 use Rattle.elimination.proofs.add_column.Statement.{statement}
 use Rattle.elimination.proofs.add_column.Tie as tie
-use Rattle.elimination.proofs.add_column.Reads as reads
-use Rattle.elimination.proofs.add_column.Lts as lts
-use Rattle.elimination.proofs.drop_pivot.Reads as drop-pivot-reads
-use Rattle.elimination.proofs.first_odd.Reads as first-odd-reads
 
 first-odd-requires : tie.Need-first-odd-requires
 first-odd-requires c κs = search needs

@@ -5,14 +5,11 @@ use Prim.Native.Nat.{ℕ}
 use lib.Bits.{bitXor}
 use Rattle.word.specs.Word.{parity}
 use Rattle.word.proofs.Laws.{parity-cases}
-use Rattle.elimination.specs.Step.{byParity}
+use Rattle.combinations.specs.Step.{byParity}
 use Rattle.elimination.proofs.CodeLaws.{clear-even, clear-odd}
 use borrow.Author.Needs.{needs}
 use Rattle.elimination.proofs.cleared_word.Statement.{statement}
 use Rattle.elimination.proofs.cleared_word.Tie as tie
-use Rattle.elimination.proofs.cleared_word.Reads as reads
-use Rattle.elimination.proofs.cleared_word.Lts as lts
-use Rattle.word.proofs.shared_parity.Reads as shared-parity-reads
 
 shared-parity-requires : tie.Need-shared-parity-requires
 shared-parity-requires c κs = search needs

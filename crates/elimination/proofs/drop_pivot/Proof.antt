@@ -7,9 +7,6 @@ use lib.ListN.{length, length-set}
 use Rattle.elimination.proofs.CodeLaws.{Dropping, dropping-start, dropping-turn, dropping-end}
 use Rattle.elimination.proofs.drop_pivot.Statement.{statement}
 use Rattle.elimination.proofs.drop_pivot.Tie as tie
-use Rattle.elimination.proofs.drop_pivot.Reads as reads
-use Rattle.elimination.proofs.drop_pivot.Lts as lts
-use Rattle.elimination.proofs.cleared_word.Reads as cleared-word-reads
 
 abbrev Inv-loop : tie.InvT-loop
 Inv-loop words₀ column at pivot i₀ words i = Dropping column at words₀ words i

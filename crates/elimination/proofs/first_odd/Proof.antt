@@ -7,9 +7,6 @@ use lib.ListN.{length}
 use Rattle.elimination.proofs.CodeLaws.{Passed, passed-start, passed-even, passed-odd, passed-all}
 use Rattle.elimination.proofs.first_odd.Statement.{statement}
 use Rattle.elimination.proofs.first_odd.Tie as tie
-use Rattle.elimination.proofs.first_odd.Reads as reads
-use Rattle.elimination.proofs.first_odd.Lts as lts
-use Rattle.word.proofs.shared_parity.Reads as shared-parity-reads
 
 abbrev Inv-loop : tie.InvT-loop
 Inv-loop words column i₀ i = (i ≤ length words) × Passed column words i

@@ -9,8 +9,6 @@ use Rattle.elimination.proofs.LoopLaws.{written-start, written-turn, wr
 use borrow.Author.Needs.{needs}
 use Rattle.elimination.proofs.write_front.Statement.{statement}
 use Rattle.elimination.proofs.write_front.Tie as tie
-use Rattle.elimination.proofs.write_front.Reads as reads
-use Rattle.elimination.proofs.write_front.Lts as lts
 
 abbrev Inv-loop : tie.InvT-loop
 Inv-loop words₀ from i₀ words i = (i ≤ length from) × (length words ≡ length words₀) × (words ≡ front (take i from) words₀)
