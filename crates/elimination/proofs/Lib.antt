@@ -1,5 +1,4 @@
 pub mod Worked
 pub mod Theorems
-pub mod CodeLaws
 pub mod LoopLaws
 pub mod CallLaws

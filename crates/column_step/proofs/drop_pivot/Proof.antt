@@ -4,9 +4,9 @@ use Prim.Native.Nat.{_-_}
 use native.Mathlib.Omega.{arith}
 use borrow.Author.Needs.{needs}
 use lib.ListN.{length, length-set}
-use Rattle.elimination.proofs.CodeLaws.{Dropping, dropping-start, dropping-turn, dropping-end}
-use Rattle.elimination.proofs.drop_pivot.Statement.{statement}
-use Rattle.elimination.proofs.drop_pivot.Tie as tie
+use Rattle.column_step.proofs.PivotLaws.{Dropping, dropping-start, dropping-turn, dropping-end}
+use Rattle.column_step.proofs.drop_pivot.Statement.{statement}
+use Rattle.column_step.proofs.drop_pivot.Tie as tie
 
 abbrev Inv-loop : tie.InvT-loop
 Inv-loop words₀ column at pivot i₀ words i = Dropping column at words₀ words i

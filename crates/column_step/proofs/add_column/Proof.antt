@@ -1,8 +1,8 @@
 -- `add_column` meets its contract, with a pivot and without.
-use Rattle.elimination.proofs.CodeLaws.{added-none, added-one}
+use Rattle.column_step.proofs.PivotLaws.{added-none, added-one}
 use borrow.Author.Needs.{needs}
-use Rattle.elimination.proofs.add_column.Statement.{statement}
-use Rattle.elimination.proofs.add_column.Tie as tie
+use Rattle.column_step.proofs.add_column.Statement.{statement}
+use Rattle.column_step.proofs.add_column.Tie as tie
 
 first-odd-requires : tie.Need-first-odd-requires
 first-odd-requires c κs = search needs

@@ -6,10 +6,10 @@ use lib.Bits.{bitXor}
 use Rattle.word.specs.Word.{parity}
 use Rattle.word.proofs.Laws.{parity-cases}
 use Rattle.combinations.specs.Step.{byParity}
-use Rattle.elimination.proofs.CodeLaws.{clear-even, clear-odd}
+use Rattle.column_step.proofs.PivotLaws.{clear-even, clear-odd}
 use borrow.Author.Needs.{needs}
-use Rattle.elimination.proofs.cleared_word.Statement.{statement}
-use Rattle.elimination.proofs.cleared_word.Tie as tie
+use Rattle.column_step.proofs.cleared_word.Statement.{statement}
+use Rattle.column_step.proofs.cleared_word.Tie as tie
 
 shared-parity-requires : tie.Need-shared-parity-requires
 shared-parity-requires c κs = search needs

@@ -1,4 +1,4 @@
--- The start, turn and end of the loops of the elimination's inner functions. Assumes nothing.
+-- The first odd word and the step by its place: the start, turn and end of the loops, and each way out of the step. Assumes nothing.
 use mathlib.Core.Path.{_≡_, refl, sym, ap, ap₂, _∙_, subst}
 use mathlib.Core.Bool.{Bool, true, false, _||_}
 use mathlib.Core.Logic.{_⊎_, inl, inr, ⊎-elim}
@@ -14,7 +14,7 @@ use Rattle.word.specs.Word.{parity}
 use Rattle.word.specs.Reply.{front}
 use Rattle.word.proofs.Laws.{parity-cases}
 use Rattle.combinations.specs.Step.{byParity, cleared, step, steps}
-use Rattle.elimination.specs.Code.{firstOdd}
+use Rattle.column_step.specs.Pivot.{firstOdd}
 use Rattle.combinations.proofs.StepLaws.{step-even, step-odd, length-cleared}
 
 -- ---- the first odd word

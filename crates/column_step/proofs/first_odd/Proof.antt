@@ -4,9 +4,9 @@ use Prim.Native.Nat.{_≤_, _-_}
 use native.Mathlib.Omega.{arith}
 use borrow.Author.Needs.{needs}
 use lib.ListN.{length}
-use Rattle.elimination.proofs.CodeLaws.{Passed, passed-start, passed-even, passed-odd, passed-all}
-use Rattle.elimination.proofs.first_odd.Statement.{statement}
-use Rattle.elimination.proofs.first_odd.Tie as tie
+use Rattle.column_step.proofs.PivotLaws.{Passed, passed-start, passed-even, passed-odd, passed-all}
+use Rattle.column_step.proofs.first_odd.Statement.{statement}
+use Rattle.column_step.proofs.first_odd.Tie as tie
 
 abbrev Inv-loop : tie.InvT-loop
 Inv-loop words column i₀ i = (i ≤ length words) × Passed column words i
