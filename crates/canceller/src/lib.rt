@@ -3,7 +3,7 @@
 ghost use mathlib.Core.Path.{_≡_};
 ghost use lib.ListN.{length};
 ghost use Rattle.word.specs.Reply.{lent};
-ghost use Rattle.elimination.specs.Reduced.{reducedList};
+ghost use Rattle.combinations.specs.Reduced.{reducedList};
 ghost use Rattle.elimination.specs.Elimination.{eliminationReply, said as saidEliminated};
 ghost use Rattle.register.specs.Clock.{clockReply, said as saidClocked};
 ghost use Rattle.set_file.specs.Reading.{setReply, spreadBeside, said as saidSet};

@@ -35,8 +35,8 @@ use Rattle.word.specs.Span.{isXorOf}
 use Rattle.word.specs.Reply.{answer, refusal, firstOf}
 use Rattle.word.proofs.Laws.{parities-lt, parities-digit}
 use Rattle.word.proofs.TestLaws.{first-of-none, replied-answer}
-use Rattle.elimination.specs.Combination.{xFree, rank}
-use Rattle.elimination.proofs.Theorems.{words-and-rank, x-free-listed, only-empty-explains, explains-only-empty}
+use Rattle.combinations.specs.Combination.{xFree, rank}
+use Rattle.combinations.proofs.Theorems.{words-and-rank, x-free-listed, only-empty-explains, explains-only-empty}
 use Rattle.set_file.specs.Layout.{widthOf, chainsOf, slicesOf, circuitOf}
 use Rattle.set_file.specs.Reading.{setTests}
 use Rattle.set_file.proofs.Laws.{Accepted, accepted}

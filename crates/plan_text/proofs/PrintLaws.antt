@@ -8,7 +8,7 @@ use lib.ListN.{length, take, drop, length-append}
 use lib.Seq.{take-append-seam}
 use Rattle.word.specs.Reply.{Reply, answer, refusal, replied, firstOf, numberOf, front, lent}
 use Rattle.word.proofs.TestLaws.{first-of-none, replied-answer}
-use Rattle.elimination.proofs.Theorems.{words-and-rank}
+use Rattle.combinations.proofs.Theorems.{words-and-rank}
 use Rattle.set_file.specs.Layout.{widthOf, chainsOf, slicesOf}
 use Rattle.set_file.specs.Reading.{setTests, setReply, said as setSaid}
 use Rattle.set_file.specs.declared.SetAnswer.{SetAnswer}

@@ -10,9 +10,8 @@ use Rattle.word.specs.Bytes.{number, numberAt, wordsAt}
 use Rattle.word.specs.Parities.{parities}
 use Rattle.word.specs.Span.{isXorOf}
 use Rattle.word.specs.Worked.{sameList}
-use Rattle.elimination.specs.Combination.{rank, rankAfter, grown, xFree}
-use Rattle.elimination.specs.Reduced.{reducedList, wordsBelow, independent, made, xorRows}
-use Rattle.elimination.specs.Elimination.{onlyEmpty}
+use Rattle.combinations.specs.Combination.{rank, rankAfter, grown, xFree, onlyEmpty}
+use Rattle.combinations.specs.Reduced.{reducedList, wordsBelow, independent, made, xorRows}
 use Rattle.register.specs.Row.{spareSet}
 use Rattle.register.specs.Circuit.{advanced, driven, clocked, badTaps, badChains, badSpread}
 use Rattle.set_file.specs.Layout.{valueRow, markRow}

@@ -9,7 +9,7 @@ use Rattle.word.specs.Some.{anyOf, allOf, anyBelow}
 use Rattle.word.specs.Bytes.{number, numberAt, wordsAt}
 use Rattle.word.specs.Parities.{parities}
 use Rattle.word.specs.Worked.{Line, agrees}
-use Rattle.elimination.specs.Reduced.{reducedList, wordsBelow, independent, made, xorRows}
+use Rattle.combinations.specs.Reduced.{reducedList, wordsBelow, independent, made, xorRows}
 use Rattle.register.specs.Circuit.{advanced, driven, clocked}
 use Rattle.set_file.specs.Layout.{valueRow, markRow}
 use Rattle.response.specs.Signature.{runs, column}
