@@ -1,19 +1,18 @@
 -- The first odd word and the step by its place: the start, turn and end of the loops, and each way out of the step. Assumes nothing.
 use mathlib.Core.Path.{_≡_, refl, sym, ap, ap₂, _∙_, subst}
-use mathlib.Core.Bool.{Bool, true, false, _||_}
-use mathlib.Core.Logic.{_⊎_, inl, inr, ⊎-elim}
-use mathlib.Core.List.{List, [], _∷_, _++_, append-assoc, append-nil}
-use Prim.Native.Nat.{ℕ, zero, suc, _+_, _-_, _<_, _≤_}
+use mathlib.Core.Logic.{_⊎_, ⊎-elim}
+use mathlib.Core.List.{List, [], _∷_, _++_, append-nil}
+use Prim.Native.Nat.{ℕ, suc, _+_, _-_, _<_, _≤_}
 use native.Mathlib.Nat.{zero-add, le-refl, le-of-eq, le-antisymm, le-of-suc-le-suc, not-suc-le-zero}
 use native.Mathlib.Numerals.{add-one}
 use native.Mathlib.Omega.{arith}
-use lib.ListN.{length, getD, take, drop, set, length-append, length-take, length-drop, length-set, take-append-drop, drop-of-length-le}
+use lib.ListN.{length, getD, take, drop, set, length-append, length-drop, length-set, take-append-drop, drop-of-length-le}
 use lib.Seq.{drop-cons, take-suc-set, drop-set-lt, drop-drop, getD-drop, append-snoc, length-take-le}
 use lib.Bits.{bitXor}
 use Rattle.word.specs.Word.{parity}
 use Rattle.word.specs.Reply.{front}
 use Rattle.word.proofs.Laws.{parity-cases}
-use Rattle.combinations.specs.Step.{byParity, cleared, step, steps}
+use Rattle.combinations.specs.Step.{byParity, cleared, step}
 use Rattle.column_step.specs.Pivot.{firstOdd}
 use Rattle.combinations.proofs.StepLaws.{step-even, step-odd, length-cleared}
 

@@ -5,14 +5,14 @@ use mathlib.Core.Bool.{Bool, true, false, cond, _&&_}
 use mathlib.Core.Logic.{_⊎_, inl, inr, ⊎-elim}
 use mathlib.Core.List.{List, [], _∷_, _++_, map}
 use mathlib.Core.Option.{Option, none, some}
-use Prim.Native.Nat.{ℕ, zero, suc, _+_, _/_, _%_, _^_, _<_, _≤_, zero-le}
+use Prim.Native.Nat.{ℕ, zero, suc, _+_, _/_, _%_, _^_, _<_, zero-le}
 use native.Mathlib.Nat.{lt-of-lt-of-le, le-suc, le-refl, not-suc-le-zero}
 use lib.Arith.{lt-one}
 use native.Mathlib.Omega.{arith}
-use lib.Bits.{bitXor, xor-comm, xor-zero-r, xor-lt, xor-shr}
+use lib.Bits.{bitXor, xor-comm, xor-lt, xor-shr}
 use lib.Dec.{eqb}
 use lib.Pow.{pow-pos, pow-mono, pow-lt}
-use Rattle.word.specs.Word.{parity, digit}
+use Rattle.word.specs.Word.{parity}
 use Rattle.word.specs.Some.{allOf}
 use Rattle.word.proofs.Laws.{xor-cancel, xor-cancel-right, xor-assoc, xor-left-comm, xor-zero-eq, parity-xor, parity-pow, digit-xor}
 use Rattle.combinations.specs.Combination.{xFree}
@@ -20,7 +20,7 @@ use Rattle.word.specs.Span.{isXorOf}
 use Rattle.combinations.specs.Reduced.{row, xorRows, withBit, orElse, made, keptBit, independent, keptWord, wordsBelow, reducedList}
 use Rattle.combinations.proofs.XFree.{x-free-xor, x-free-zero}
 use Rattle.word.proofs.BoolLaws.{iff-eq, true-not-false}
-use Rattle.word.proofs.SpanLaws.{both-with, xor-of-cases, xor-of-nil, xor-of-tail, xor-of-with, xor-of-zero, xor-of-head, xor-of-xor, xor-of-join, xor-of-split, xor-of-left, xor-of-right, xor-of-one}
+use Rattle.word.proofs.SpanLaws.{both-with, xor-of-cases, xor-of-nil, xor-of-tail, xor-of-with, xor-of-zero, xor-of-head, xor-of-join, xor-of-split, xor-of-left, xor-of-right, xor-of-one}
 use Rattle.combinations.proofs.Tops.{ClearIn, clear-nil, clear-cons, clear-append, Tops, tops-nil, tops-snoc, tops-wider, IsTop, top-here, top-later, top-under, one-top, below-shr, span-clear}
 use Rattle.combinations.proofs.Units.{power-top, power-digit, by-top-bit}
 

@@ -1,14 +1,13 @@
 -- Document 01's test for a reduced list says the same as the highest bits of Tops. Assumes nothing.
-use mathlib.Core.Path.{_≡_, refl, sym, ap, ap₂, _∙_, subst}
-use mathlib.Core.Bool.{Bool, true, false, not, _&&_}
-use mathlib.Core.Logic.{_⊎_, inl, inr, ⊎-elim}
+use mathlib.Core.Path.{_≡_, refl, sym, ap, _∙_, subst}
+use mathlib.Core.Bool.{true, not, _&&_}
 use mathlib.Core.List.{List, [], _∷_}
 use Prim.Native.Nat.{ℕ, zero, suc, _+_, _-_, _*_, _/_, _%_, _^_, _<_, _≤_}
-use native.Mathlib.Nat.{lt-of-lt-of-le, lt-of-le-of-lt, le-trans, le-refl, le-step, le-of-suc-le-suc, div-eq-of-lt-le, lt-of-not-le, not-le-of-lt, pos-of-ne-zero, one-mul, le-div-iff-mul-le}
+use native.Mathlib.Nat.{lt-of-lt-of-le, le-trans, le-refl, le-step, div-eq-of-lt-le, lt-of-not-le, not-le-of-lt, pos-of-ne-zero, one-mul, le-div-iff-mul-le}
 use native.Mathlib.Decide.{decLe}
 use native.Mathlib.Omega.{arith}
 use borrow.Author.Tests.{eqb-true, eq-eqb, ne-eqb, eqb-false, lt-ltb, ltb-true, lt-leb, leb-false, not-true}
-use lib.Dec.{eqb, ltb, leb}
+use lib.Dec.{eqb, leb}
 use lib.ListN.{getD}
 use lib.Pow.{pow-pos, pow-mono, split}
 use lib.Count.{leadingZeros, leading-top, leading-unique}
@@ -16,7 +15,7 @@ use Rattle.word.specs.Word.{digit, beyond, highestBit}
 use Rattle.word.specs.Some.{allOf}
 use Rattle.word.proofs.BoolLaws.{and-left, and-right, and-intro}
 use Rattle.combinations.specs.Reduced.{belowHead, ascending, topClear, topsClear, isReduced}
-use Rattle.combinations.proofs.Tops.{ClearIn, clear-nil, clear-cons, Tops, tops-nil, tops-cons, top-below, top-least, top-digit, top-positive, below-shr}
+use Rattle.combinations.proofs.Tops.{ClearIn, clear-nil, clear-cons, Tops, tops-nil, tops-cons, top-below, top-least, top-positive, below-shr}
 
 -- ---- the highest bit of a word
 

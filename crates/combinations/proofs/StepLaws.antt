@@ -2,9 +2,9 @@
 -- Assumes nothing.
 use mathlib.Core.Path.{_≡_, refl, sym, ap, ap₂, _∙_}
 use mathlib.Core.Bool.{Bool, true, false, _&&_, _||_, and-comm, and-assoc, and-true, or-comm, or-false}
-use mathlib.Core.Logic.{_⊎_, inl, inr, ⊎-elim}
-use mathlib.Core.List.{List, [], _∷_, _++_}
-use Prim.Native.Nat.{ℕ, zero, suc, _+_, _%_, _<_}
+use mathlib.Core.Logic.{_⊎_, ⊎-elim}
+use mathlib.Core.List.{List, [], _∷_}
+use Prim.Native.Nat.{ℕ, suc, _+_, _%_, _<_}
 use native.Mathlib.Omega.{arith}
 use borrow.Author.Tests.{eqb-true, eq-eqb}
 use lib.Bits.{bitXor, xor-comm}
@@ -15,9 +15,9 @@ use Rattle.word.proofs.Laws.{xor-assoc, xor-cancel, xor-left-comm, xor-zero-eq,
 use Rattle.word.proofs.BoolLaws.{and-left, and-right, or-cases, and-intro, iff-eq, true-not-false}
 use Rattle.combinations.specs.Combination.{xFree}
 use Rattle.word.specs.Span.{isXorOf}
-use Rattle.combinations.specs.Step.{byParity, cleared, step, steps}
-use Rattle.combinations.proofs.XFree.{x-free-cons, x-free-head, x-free-tail}
-use Rattle.word.proofs.SpanLaws.{xor-of-cons, xor-of-nil}
+use Rattle.combinations.specs.Step.{cleared, step, steps}
+use Rattle.combinations.proofs.XFree.{x-free-head, x-free-tail}
+use Rattle.word.proofs.SpanLaws.{xor-of-cons}
 
 abbrev even : ℕ → ℕ → Bool
 even c y = eqb (parity y c) 0

@@ -18,26 +18,25 @@
 --                          (passed-stop: no reduced list) and ends (passed-end: a reduced list)
 --   same-parities          two signatures have the same parities with the words exactly when each word is even with their XOR
 -- Assumes nothing.
-use mathlib.Core.Path.{_≡_, refl, sym, ap, ap₂, _∙_, subst}
+use mathlib.Core.Path.{_≡_, refl, sym, ap, ap₂, _∙_}
 use mathlib.Core.Bool.{Bool, true, false, cond, not, _&&_, _||_, or-false, not-and-self}
-use mathlib.Core.Logic.{_⊎_, inl, inr, ⊎-elim}
 use mathlib.Core.List.{List, [], _∷_, _++_, map}
-use Prim.Native.Nat.{ℕ, zero, suc, _+_, _^_, _<_, _≤_}
+use Prim.Native.Nat.{ℕ, suc, _+_, _^_, _<_, _≤_}
 use native.Mathlib.Nat.{add-zero}
 use native.Mathlib.Numerals.{add-one}
 use native.Mathlib.Omega.{arith}
 use borrow.Author.Tests.{eqb-true, eq-eqb, ne-eqb, leb-false, not-true, not-false}
-use lib.Bits.{bitXor, xor-comm, xor-lt}
+use lib.Bits.{bitXor, xor-lt}
 use lib.Dec.{eqb, eqb·suc-zero}
 use lib.ListN.{length, getD, drop, drop-of-length-le}
 use lib.Pow.{pow-lt}
 use lib.Seq.{drop-cons}
 use Rattle.word.specs.Word.{beyond, parity, digit}
-use Rattle.word.specs.Some.{anyOf, anyBelow}
+use Rattle.word.specs.Some.{anyOf}
 use Rattle.word.specs.Parities.{parities}
 use Rattle.word.proofs.Laws.{xor-cancel, xor-left-comm, parity-pow}
 use Rattle.word.proofs.SomeLaws.{any-below-none, any-below-true, any-of-append}
-use Rattle.word.proofs.BoolLaws.{or-false-left, or-false-right, and-left, and-right, and-intro, iff-eq, true-not-false}
+use Rattle.word.proofs.BoolLaws.{or-false-left, or-false-right, and-right, and-intro, iff-eq}
 use Rattle.combinations.specs.Combination.{xFree, member, grown, rankAfter, rank, onlyEmpty}
 use Rattle.word.specs.Span.{isXorOf}
 use Rattle.combinations.specs.Reduced.{reducedList, isReduced}
@@ -46,7 +45,7 @@ use Rattle.combinations.specs.Step.{step, steps, units}
 use Rattle.combinations.proofs.XFree.{x-free-zero, x-free-head}
 use Rattle.word.proofs.SpanLaws.{xor-of-head}
 use Rattle.combinations.proofs.StepLaws.{steps-span, step-dual, step-same, step-less}
-use Rattle.combinations.proofs.Tops.{Tops, tops-nil, tops-cons, tops-steps, tops-unique, span-below, top-positive, top-digit}
+use Rattle.combinations.proofs.Tops.{Tops, tops-cons, tops-steps, tops-unique, span-below, top-positive, top-digit}
 use Rattle.combinations.proofs.Units.{units-tops, units-span, units-dual, length-units}
 use Rattle.combinations.proofs.Listed.{listed-tops, listed-span}
 use Rattle.combinations.proofs.Reducing.{reduced-of-tops, tops-of-reduced, words-below}

@@ -1,20 +1,20 @@
 -- Lists of words by their highest bits: each word's highest bit lies above that of the word before it and is clear in every
 -- later word. Such a list is found again from its XORs alone. Assumes nothing.
 use mathlib.Core.Path.{_≡_, refl, sym, ap, ap₂, _∙_, subst}
-use mathlib.Core.Bool.{Bool, true, false, _&&_, _||_}
-use mathlib.Core.Logic.{_⊎_, inl, inr, ⊎-elim}
+use mathlib.Core.Bool.{true}
+use mathlib.Core.Logic.{_⊎_, ⊎-elim}
 use mathlib.Core.List.{List, [], _∷_, _++_}
-use Prim.Native.Nat.{ℕ, zero, suc, _+_, _*_, _/_, _%_, _^_, _<_, _≤_}
+use Prim.Native.Nat.{ℕ, suc, _+_, _*_, _/_, _%_, _^_, _<_, _≤_}
 use native.Mathlib.Nat.{div-eq-of-lt, zero-div, mod-lt, le-trans, le-refl, le-step, lt-of-lt-of-le, lt-of-not-le, le-antisymm}
 use native.Mathlib.Decide.{decLe}
 use native.Mathlib.Omega.{arith}
-use lib.Pow.{pow-pos, pow-mono, split, shr-lt}
-use lib.Bits.{bitXor, xor-shr, xor-lt, xor-comm}
+use lib.Pow.{pow-pos, pow-mono, split}
+use lib.Bits.{bitXor, xor-shr, xor-lt}
 use Rattle.word.specs.Word.{parity, digit}
-use Rattle.word.proofs.Laws.{xor-assoc, xor-cancel, xor-zero-eq, digit-xor, mod2-lt, parity-cases}
+use Rattle.word.proofs.Laws.{xor-cancel, xor-zero-eq, digit-xor, mod2-lt, parity-cases}
 use Rattle.word.specs.Span.{isXorOf}
-use Rattle.combinations.specs.Step.{byParity, cleared, step, steps}
-use Rattle.word.proofs.SpanLaws.{xor-of-nil, xor-of-cases, xor-of-head, xor-of-tail, xor-of-with, xor-of-zero}
+use Rattle.combinations.specs.Step.{cleared, step, steps}
+use Rattle.word.proofs.SpanLaws.{xor-of-nil, xor-of-cases, xor-of-head, xor-of-tail}
 use Rattle.word.proofs.BoolLaws.{iff-eq}
 use Rattle.combinations.proofs.StepLaws.{step-even, step-odd, cleared-even, cleared-odd}
 

@@ -1,28 +1,26 @@
 -- The words of single bits: their XORs are all combinations, and only 0 is even with all of them. Assumes nothing.
 use mathlib.Core.Path.{_≡_, refl, sym, ap, ap₂, _∙_, subst}
-use mathlib.Core.Bool.{Bool, true, false, _&&_, and-assoc}
-use mathlib.Core.Logic.{_⊎_, inl, inr, ⊎-elim}
+use mathlib.Core.Bool.{true, _&&_}
+use mathlib.Core.Logic.{_⊎_, ⊎-elim}
 use mathlib.Core.List.{List, [], _∷_, _++_}
 use Prim.Native.Nat.{ℕ, zero, suc, _+_, _*_, _/_, _%_, _^_, _<_, _≤_}
 use native.Mathlib.Nat.{div-self, mul-div-cancel-left, le-dest, lt-of-not-le, div-eq-of-lt-le, not-suc-le-zero, le-of-suc-le-suc, eq-or-lt-of-le, one-mul}
 use native.Mathlib.Numerals.{add-one}
 use native.Mathlib.Decide.{decLe}
 use native.Mathlib.Omega.{arith}
-use borrow.Author.Tests.{eqb-true, eq-eqb}
-use lib.Dec.{eqb}
 use lib.ListN.{length, getD, take, set, length-append, List·getD-append}
 use lib.Seq.{getD-at, take-suc-set}
-use lib.Pow.{pow-pos, pow-lt, pow-add, shl-exact}
-use lib.Bits.{bitXor, xor-shr, xor-comm}
-use Rattle.word.specs.Word.{parity, digit}
-use Rattle.word.proofs.Laws.{xor-cancel, xor-assoc, xor-zero-eq, parity-pow, parity-comm}
-use Rattle.word.proofs.BoolLaws.{or-true-left, or-true-right, and-left, and-right, iff-eq}
+use lib.Pow.{pow-pos, pow-add, shl-exact}
+use lib.Bits.{bitXor, xor-shr}
+use Rattle.word.specs.Word.{digit}
+use Rattle.word.proofs.Laws.{xor-cancel, parity-pow, parity-comm}
+use Rattle.word.proofs.BoolLaws.{and-left, and-right}
 use Rattle.combinations.specs.Combination.{xFree}
 use Rattle.word.specs.Span.{isXorOf}
 use Rattle.combinations.specs.Step.{units}
-use Rattle.combinations.proofs.XFree.{x-free-zero, x-free-head, x-free-append}
-use Rattle.word.proofs.SpanLaws.{xor-of-cases, xor-of-nil, xor-of-tail, xor-of-with, xor-of-zero, xor-of-head, xor-of-xor, xor-of-left, xor-of-right}
-use Rattle.combinations.proofs.Tops.{Tops, tops-nil, tops-snoc, IsTop, top-under, below-shr, shr-below}
+use Rattle.combinations.proofs.XFree.{x-free-head, x-free-append}
+use Rattle.word.proofs.SpanLaws.{xor-of-zero, xor-of-head, xor-of-xor, xor-of-left, xor-of-right}
+use Rattle.combinations.proofs.Tops.{Tops, tops-nil, tops-snoc, top-under, shr-below}
 
 -- ---- the digits of a power of 2
 

@@ -1,28 +1,25 @@
 -- The start, turn and end of the loops over columns and over words. Assumes nothing.
-use mathlib.Core.Path.{_≡_, refl, sym, ap, ap₂, _∙_, subst}
-use mathlib.Core.Bool.{Bool, true, false, not, _&&_, _||_}
-use mathlib.Core.Logic.{_⊎_, inl, inr, ⊎-elim}
+use mathlib.Core.Path.{_≡_, refl, sym, ap, _∙_, subst}
+use mathlib.Core.Bool.{Bool, true, false, _||_}
 use mathlib.Core.List.{List, [], _∷_, _++_}
 use Prim.Native.Nat.{ℕ, zero, suc, _+_, _-_, _*_, _%_, _^_, _<_, _≤_}
-use native.Mathlib.Nat.{le-refl, lt-of-lt-of-le, le-add-left, one-mul, zero-add, suc-add, sub-add-cancel}
+use native.Mathlib.Nat.{le-refl, lt-of-lt-of-le, le-add-left, zero-add, suc-add, sub-add-cancel}
 use native.Mathlib.Numerals.{add-one}
 use native.Mathlib.Omega.{arith}
-use borrow.Author.Tests.{lt-leb, leb-false, le-leb, leb-true, lt-ltb, le-ltb, not-true, not-false}
-use lib.Bits.{bitAnd, bitOr, or-lt, or-add-and, and-le-l, and-le-r}
-use lib.Dec.{eqb, ltb, leb}
+use borrow.Author.Tests.{lt-leb, leb-false, le-leb, leb-true}
+use lib.Bits.{bitOr, or-lt, or-add-and, and-le-l, and-le-r}
+use lib.Dec.{leb}
 use lib.ListN.{length, getD, take, drop, set, length-append, length-drop, drop-of-length-le}
-use lib.Pow.{pow-pos, pow-mono, shl-exact}
-use lib.Seq.{drop-cons, take-suc-set, take-all, take-length, take-append-le, take-append-seam, drop-length, length-take-le, take-take, take-at}
-use Rattle.word.specs.Word.{beyond, highestBit}
+use lib.Pow.{pow-pos, pow-mono}
+use lib.Seq.{drop-cons, take-all, take-length, take-append-le, take-append-seam, length-take-le}
+use Rattle.word.specs.Word.{beyond}
 use Rattle.word.specs.Some.{anyOf, anyBelow}
 use Rattle.word.specs.Reply.{front}
-use Rattle.word.proofs.FrontLaws.{front-nothing, front-next, front-whole, front-length, front-take-length}
+use Rattle.word.proofs.FrontLaws.{front-nothing, front-next, front-whole}
 use Rattle.word.proofs.SomeLaws.{any-of-below, any-of-none}
 use Rattle.word.proofs.WordLaws.{not-beyond}
-use Rattle.combinations.specs.Pass.{follows, withTop, onePass}
 use Rattle.combinations.specs.Step.{step, steps, units}
 use Rattle.elimination.specs.Code.{orBelow}
-use Rattle.word.proofs.BoolLaws.{iff-eq, or-cases}
 use Rattle.combinations.proofs.Units.{length-units, one-bit, next-taken}
 
 -- ---- the OR of the columns

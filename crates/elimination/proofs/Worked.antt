@@ -2,8 +2,7 @@
 use mathlib.Core.Path.{_≡_, refl}
 use mathlib.Core.Bool.{true}
 use mathlib.Core.List.{List, [], _∷_}
-use Prim.Native.Nat.{ℕ, _^_}
-use lib.Count.{ones, onesIn, leadingZeros}
+use lib.Count.{ones, onesIn}
 use lib.ListN.{replicate}
 use Rattle.word.specs.Word.{parity, beyond, badWidth}
 use Rattle.word.specs.Some.{anyOf, allOf, anyBelow}

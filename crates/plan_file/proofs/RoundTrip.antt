@@ -9,21 +9,19 @@
 --   plan-of-content    a plan that meets no number is the plan file of its m, its words and its expected bits
 -- Assumes nothing.
 use mathlib.Core.Path.{_≡_, refl, sym, ap, ap₂, _∙_, subst}
-use mathlib.Core.Bool.{true, false, not, _&&_}
-use mathlib.Core.List.{List, [], _∷_, _++_, append-assoc, append-nil}
-use Prim.Native.Nat.{ℕ, zero, suc, _*_, _^_, _<_, _≤_}
+use mathlib.Core.Bool.{true, false}
+use mathlib.Core.List.{List, [], _++_, append-assoc, append-nil}
+use Prim.Native.Nat.{ℕ, _*_, _^_, _<_, _≤_}
 use native.Mathlib.Nat.{lt-of-lt-of-le}
 use native.Mathlib.Omega.{arith}
-use borrow.Author.Tests.{ltb-false, le-ltb, eq-eqb, not-true, not-false}
-use lib.Dec.{eqb, ltb, lit<}
+use borrow.Author.Tests.{le-ltb, eq-eqb, not-false}
+use lib.Dec.{eqb, ltb}
 use lib.ListN.{length, take, drop, getD, length-append, length-drop}
 use lib.Pow.{pow-mono}
 use lib.Seq.{take-all, take-at}
 use Rattle.word.specs.Word.{badWidth, beyond}
-use Rattle.word.specs.Some.{allOf}
 use Rattle.word.specs.Bytes.{numberAt, countAt, wordsAt, bytesOf, wordBytes}
 use Rattle.word.specs.Reply.{Reply, answer, firstOf, front, lent}
-use Rattle.word.proofs.BoolLaws.{and-left, and-right, or-false-left, or-false-right}
 use Rattle.word.proofs.ByteLaws.{bytes-of-length, length-word-bytes}
 use Rattle.word.proofs.FileLaws.{number-back, words-back, pow-bytes, number-bytes, words-bytes, part-joins}
 use Rattle.word.proofs.TestLaws.{replied-answer}

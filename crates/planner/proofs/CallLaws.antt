@@ -1,14 +1,12 @@
 -- Each way out of planning, and what it answers and leaves in the two lent lists. Assumes nothing.
 use mathlib.Core.Path.{_≡_, refl, sym, ap, ap₂, _∙_, subst}
-use mathlib.Core.Bool.{Bool, true, false}
-use mathlib.Core.List.{List, [], _∷_, _++_}
-use Prim.Native.Nat.{ℕ, zero, suc, _≤_, _<_}
+use mathlib.Core.Bool.{true}
+use mathlib.Core.List.{List, [], _∷_}
+use Prim.Native.Nat.{ℕ, zero, suc, _≤_}
 use native.Mathlib.Omega.{arith}
 use lib.Dec.{ltb}
 use lib.ListN.{length, take, drop, length-append}
 use lib.Seq.{take-append-seam, take-all}
-use Rattle.word.specs.Word.{beyond, badWidth}
-use Rattle.word.specs.Some.{anyOf}
 use Rattle.word.specs.Parities.{parities}
 use Rattle.word.specs.Reply.{Test, _when_, Reply, answer, refusal, reply, replied, firstOf, numberOf, front, lent}
 use Rattle.word.proofs.TestLaws.{numbered, first-of-later, first-of-sooner, replied-answer, replied-number, replied-alike}

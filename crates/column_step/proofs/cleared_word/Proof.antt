@@ -1,11 +1,4 @@
 -- `cleared_word` meets its contract, by the parity.
-use mathlib.Core.Path.{_≡_, sym, ap, _∙_}
-use mathlib.Core.Logic.{⊎-elim}
-use Prim.Native.Nat.{ℕ}
-use lib.Bits.{bitXor}
-use Rattle.word.specs.Word.{parity}
-use Rattle.word.proofs.Laws.{parity-cases}
-use Rattle.combinations.specs.Step.{byParity}
 use Rattle.column_step.proofs.PivotLaws.{clear-even, clear-odd}
 use borrow.Author.Needs.{needs}
 use Rattle.column_step.proofs.cleared_word.Statement.{statement}

@@ -1,9 +1,8 @@
 -- `drop_pivot` meets its contract: the words before place i are done, and those from i on are as they were.
-use mathlib.Core.Path.{_≡_}
 use Prim.Native.Nat.{_-_}
 use native.Mathlib.Omega.{arith}
 use borrow.Author.Needs.{needs}
-use lib.ListN.{length, length-set}
+use lib.ListN.{length}
 use Rattle.column_step.proofs.PivotLaws.{Dropping, dropping-start, dropping-turn, dropping-end}
 use Rattle.column_step.proofs.drop_pivot.Statement.{statement}
 use Rattle.column_step.proofs.drop_pivot.Tie as tie

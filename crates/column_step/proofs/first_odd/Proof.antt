@@ -1,7 +1,5 @@
 -- `first_odd` meets its contract: the words passed are not odd.
-use mathlib.Core.Path.{_≡_}
 use Prim.Native.Nat.{_≤_, _-_}
-use native.Mathlib.Omega.{arith}
 use borrow.Author.Needs.{needs}
 use lib.ListN.{length}
 use Rattle.column_step.proofs.PivotLaws.{Passed, passed-start, passed-even, passed-odd, passed-all}

@@ -77,7 +77,7 @@ write-front-requires : tie.Need-write-front-requires
 write-front-requires c κs = search needs
 
 sub-t12 : tie.Need-sub-t12
-sub-t12 c = kept-most _ _ _ (kept (c .before .before .before .before .before .before .before .before))
+sub-t12 c = omega (arith, kept-most _ _ _ (kept (c .before .before .before .before .before .before .before .before)))
 
 same-length : tie.Need-same-length
 same-length c = search needs

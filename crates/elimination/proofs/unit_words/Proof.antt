@@ -1,7 +1,7 @@
 -- `unit_words` meets its contract: the places passed hold their bits.
 use mathlib.Core.Path.{_≡_}
 use Prim.Native.Nat.{_≤_, _-_}
-use lib.ListN.{length, take, length-set}
+use lib.ListN.{length, take}
 use Rattle.combinations.specs.Step.{units}
 use Rattle.elimination.proofs.LoopLaws.{units-start, units-turn, units-end}
 use borrow.Author.Needs.{needs}

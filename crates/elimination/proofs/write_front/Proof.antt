@@ -2,9 +2,8 @@
 use mathlib.Core.Path.{_≡_}
 use Prim.Native.Nat.{_≤_, _-_}
 use native.Mathlib.Omega.{arith}
-use lib.ListN.{length, take, length-set}
+use lib.ListN.{length, take}
 use Rattle.word.specs.Reply.{front}
-use Rattle.word.proofs.FrontLaws.{front-nothing}
 use Rattle.elimination.proofs.LoopLaws.{written-start, written-turn, written-end}
 use borrow.Author.Needs.{needs}
 use Rattle.elimination.proofs.write_front.Statement.{statement}
