@@ -3,13 +3,13 @@
 ghost use mathlib.Core.Path.{_≡_};
 ghost use lib.ListN.{length};
 ghost use Rattle.word.specs.Reply.{lent};
-ghost use Rattle.elimination.specs.Reduced.{reducedList};
+ghost use Rattle.combinations.specs.Reduced.{reducedList};
 ghost use Rattle.elimination.specs.Elimination.{eliminationReply, said as saidEliminated};
 ghost use Rattle.register.specs.Clock.{clockReply, said as saidClocked};
 ghost use Rattle.set_file.specs.Reading.{setReply, spreadBeside, said as saidSet};
 ghost use Rattle.set_file.specs.Rows.{valueReply, markReply, saidPlace};
 ghost use Rattle.set_file.specs.Writing.{contentOf as setContent, writeReply as setWriteReply, setBytes, saidWritten as saidSetWritten};
-ghost use Rattle.signatures.specs.Columns.{columnsOf};
+ghost use Rattle.signatures.specs.Sets.{columnsOf};
 ghost use Rattle.response.specs.Signing.{signReply, saidSigned};
 ghost use Rattle.response.specs.Listing.{listReply, saidListed};
 ghost use Rattle.plan_file.specs.Layout.{wordsOf as planWords};

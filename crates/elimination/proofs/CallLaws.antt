@@ -1,55 +1,26 @@
 -- Each way out of the elimination call, and what it answers and leaves in the lent list. Assumes nothing.
 use mathlib.Core.Path.{_≡_, refl, sym, ap, ap₂, _∙_, subst}
-use mathlib.Core.Bool.{Bool, true, false, _||_}
-use mathlib.Core.List.{List, [], _∷_, _++_}
-use Prim.Native.Nat.{ℕ, zero, suc, _+_, _-_, _<_, _≤_}
+use mathlib.Core.Bool.{Bool, true, false}
+use mathlib.Core.List.{List, _++_}
+use Prim.Native.Nat.{ℕ, _+_, _-_, _<_, _≤_}
 use native.Mathlib.Omega.{arith}
 use borrow.Author.Tests.{le-ltb, lt-ltb, eq-eqb, ne-eqb}
-use lib.Dec.{eqb, ltb}
 use lib.ListN.{length, take, drop, length-append}
 use lib.Seq.{take-append-le, length-take-le}
 use Rattle.word.specs.Word.{beyond, badWidth}
 use Rattle.word.specs.Some.{anyOf}
 use Rattle.word.specs.Reply.{Reply, answer, refusal, front, lent}
 use Rattle.word.proofs.WordLaws.{good-width}
-use Rattle.elimination.specs.Combination.{rank}
-use Rattle.elimination.specs.Reduced.{reducedList}
-use Rattle.elimination.specs.Step.{steps, units}
-use Rattle.elimination.specs.Elimination.{Counts, onlyEmpty, eliminationTests, eliminationReply, said}
+use Rattle.combinations.specs.Combination.{rank, onlyEmpty}
+use Rattle.combinations.specs.Reduced.{reducedList}
+use Rattle.combinations.specs.Step.{steps, units}
+use Rattle.elimination.specs.Elimination.{Counts, eliminationReply, said}
 use Rattle.elimination.specs.declared.Eliminated.{Eliminated}
 use Rattle.elimination.specs.declared.Eliminated.the-variants.{Done, Refused}
-use Rattle.elimination.proofs.Theorems.{kept-list, words-and-rank, only-empty-list}
-use Rattle.elimination.proofs.Units.{length-units}
+use Rattle.combinations.proofs.Theorems.{kept-list, words-and-rank, only-empty-list}
+use Rattle.elimination.proofs.Theorems.{reply-2, reply-15, reply-17, reply-18, reply-done}
+use Rattle.combinations.proofs.Units.{length-units}
 use Rattle.elimination.proofs.LoopLaws.{units-front}
-
-module _ (m : ℕ) (cs : List ℕ) (k : ℕ) where
-  reply-2 : badWidth m ≡ true → eliminationReply m cs k ≡ refusal 2
-  unfolding eliminationReply eliminationTests
-  reply-2 a = rw a
-
-  reply-15 : badWidth m ≡ false → anyOf (beyond m) cs ≡ true → eliminationReply m cs k ≡ refusal 15
-  unfolding eliminationReply eliminationTests
-  reply-15 a b = rw (a, b)
-
-  reply-17 : badWidth m ≡ false → anyOf (beyond m) cs ≡ false → ltb m (rank cs) ≡ false → onlyEmpty m cs ≡ true
-      → eliminationReply m cs k ≡ refusal 17
-  unfolding eliminationReply eliminationTests
-  reply-17 a b c d = rw (a, b, c, d)
-
-  reply-18 : badWidth m ≡ false → anyOf (beyond m) cs ≡ false → ltb m (rank cs) ≡ false → onlyEmpty m cs ≡ false
-      → ltb k (length (reducedList m cs)) ≡ true → eliminationReply m cs k ≡ refusal 18
-  unfolding eliminationReply eliminationTests
-  reply-18 a b c d e = rw (a, b, c, d, e)
-
-  reply-done : badWidth m ≡ false → anyOf (beyond m) cs ≡ false → ltb m (rank cs) ≡ false → onlyEmpty m cs ≡ false
-      → ltb k (length (reducedList m cs)) ≡ false
-      → eliminationReply m cs k ≡ answer (record { rank = rank cs; q = length (reducedList m cs) })
-  unfolding eliminationReply eliminationTests
-  reply-done a b c d e = rw (a, b, c, d, e)
-
--- 16 never applies
-pub rank-most : (m : ℕ) (cs : List ℕ) → anyOf (beyond m) cs ≡ false → ltb m (rank cs) ≡ false
-rank-most m cs b = le-ltb m (rank cs) (omega (arith, words-and-rank m cs b))
 
 -- what the call answers, e, and leaves in the list l, l′
 abbrev pub Ends : ℕ → List ℕ → List ℕ → Eliminated → List ℕ → Type 0
@@ -74,7 +45,7 @@ pub record Kept (m : ℕ) (cs : List ℕ) (q : ℕ) : Type 0 where
 pub ends-17 : (m : ℕ) (cs l : List ℕ) (e : Eliminated) (q : ℕ) → Kept m cs q → q ≡ 0 → e ≡ Refused 17 → Ends m cs l e l
 ends-17 m cs l e q g z r =
     ends-refused m cs l e 17 r
-    (reply-17 m cs (length l) (g .width) (g .columns) (rank-most m cs (g .columns))
+    (reply-17 m cs (length l) (g .width) (g .columns)
     (only-empty-list m cs ∙ eq-eqb (length (reducedList m cs)) 0 (sym (g .count) ∙ z)))
 
 some-word : (m : ℕ) (cs : List ℕ) (q : ℕ) → Kept m cs q → (q ≡ 0 → ⊥) → onlyEmpty m cs ≡ false
@@ -83,13 +54,13 @@ some-word m cs q g n = only-empty-list m cs ∙ ne-eqb (length (reducedList m cs
 pub ends-18 : (m : ℕ) (cs l : List ℕ) (e : Eliminated) (q : ℕ) → Kept m cs q → (q ≡ 0 → ⊥) → length l < q → e ≡ Refused 18 → Ends m cs l e l
 ends-18 m cs l e q g n h r =
     ends-refused m cs l e 18 r
-    (reply-18 m cs (length l) (g .width) (g .columns) (rank-most m cs (g .columns)) (some-word m cs q g n)
+    (reply-18 m cs (length l) (g .width) (g .columns) (some-word m cs q g n)
     (lt-ltb (length l) (length (reducedList m cs)) (subst (λ (x : ℕ). length l < x) (g .count) h)))
 
 done-reply : (m : ℕ) (cs l : List ℕ) (q : ℕ) → Kept m cs q → (q ≡ 0 → ⊥) → q ≤ length l
     → eliminationReply m cs (length l) ≡ answer (record { rank = rank cs; q = length (reducedList m cs) })
 done-reply m cs l q g n h =
-    reply-done m cs (length l) (g .width) (g .columns) (rank-most m cs (g .columns)) (some-word m cs q g n)
+    reply-done m cs (length l) (g .width) (g .columns) (some-word m cs q g n)
     (le-ltb (length l) (length (reducedList m cs)) (subst (λ (x : ℕ). x ≤ length l) (g .count) h))
 
 -- `from` is what was written over the front

@@ -1,15 +1,4 @@
 pub mod Worked
-pub mod XFree
-pub mod Agreeing
-pub mod StepLaws
-pub mod Tops
-pub mod Units
-pub mod Listed
-pub mod Reducing
-pub mod Passing
 pub mod Theorems
-pub mod CodeLaws
 pub mod LoopLaws
 pub mod CallLaws
-pub mod TableLaws
-pub mod SkipLaws

@@ -1,29 +1,26 @@
 -- The start, turn and end of the loops over columns and over words. Assumes nothing.
-use mathlib.Core.Path.{_≡_, refl, sym, ap, ap₂, _∙_, subst}
-use mathlib.Core.Bool.{Bool, true, false, not, _&&_, _||_}
-use mathlib.Core.Logic.{_⊎_, inl, inr, ⊎-elim}
+use mathlib.Core.Path.{_≡_, refl, sym, ap, _∙_, subst}
+use mathlib.Core.Bool.{Bool, true, false, _||_}
 use mathlib.Core.List.{List, [], _∷_, _++_}
 use Prim.Native.Nat.{ℕ, zero, suc, _+_, _-_, _*_, _%_, _^_, _<_, _≤_}
-use native.Mathlib.Nat.{le-refl, lt-of-lt-of-le, le-add-left, one-mul, zero-add, suc-add, sub-add-cancel}
+use native.Mathlib.Nat.{le-refl, lt-of-lt-of-le, le-add-left, zero-add, suc-add, sub-add-cancel}
 use native.Mathlib.Numerals.{add-one}
 use native.Mathlib.Omega.{arith}
-use borrow.Author.Tests.{lt-leb, leb-false, le-leb, leb-true, lt-ltb, le-ltb, not-true, not-false}
-use lib.Bits.{bitAnd, bitOr, or-lt, or-add-and, and-le-l, and-le-r}
-use lib.Dec.{eqb, ltb, leb}
+use borrow.Author.Tests.{lt-leb, leb-false, le-leb, leb-true}
+use lib.Bits.{bitOr, or-lt, or-add-and, and-le-l, and-le-r}
+use lib.Dec.{leb}
 use lib.ListN.{length, getD, take, drop, set, length-append, length-drop, drop-of-length-le}
-use lib.Pow.{pow-pos, pow-mono, shl-exact}
-use lib.Seq.{drop-cons, take-suc-set, take-all, take-length, take-append-le, take-append-seam, drop-length, length-take-le, take-take, take-at}
-use Rattle.word.specs.Word.{beyond, highestBit}
+use lib.Pow.{pow-pos, pow-mono}
+use lib.Seq.{drop-cons, take-all, take-length, take-append-le, take-append-seam, length-take-le}
+use Rattle.word.specs.Word.{beyond}
 use Rattle.word.specs.Some.{anyOf, anyBelow}
 use Rattle.word.specs.Reply.{front}
-use Rattle.word.proofs.FrontLaws.{front-nothing, front-next, front-whole, front-length, front-take-length}
+use Rattle.word.proofs.FrontLaws.{front-nothing, front-next, front-whole}
 use Rattle.word.proofs.SomeLaws.{any-of-below, any-of-none}
 use Rattle.word.proofs.WordLaws.{not-beyond}
-use Rattle.elimination.specs.Pass.{follows, withTop, onePass}
-use Rattle.elimination.specs.Step.{step, steps, units}
+use Rattle.combinations.specs.Step.{step, steps, units}
 use Rattle.elimination.specs.Code.{orBelow}
-use Rattle.word.proofs.BoolLaws.{iff-eq, or-cases}
-use Rattle.elimination.proofs.Units.{length-units}
+use Rattle.combinations.proofs.Units.{length-units, one-bit, next-taken}
 
 -- ---- the OR of the columns
 
@@ -71,14 +68,6 @@ pub units-start : (ws : List ℕ) → take 0 ws ≡ units 0
 unfolding units
 units-start ws = refl
 
-pub one-bit : (i : ℕ) → i < 64 → (1 * 2 ^ i) % 18446744073709551616 ≡ 2 ^ i
-one-bit i h = shl-exact {a = 1} 1 i 64 (omega arith) (omega arith) ∙ one-mul (2 ^ i)
-
--- one more place of a list is written
-pub next-taken : (l us : List ℕ) (i v u : ℕ) → i < length l → take i l ≡ us → v ≡ u → take (i + 1) (set l i v) ≡ us ++ u ∷ []
-next-taken l us i v u h e ev =
-    ap (λ (n : ℕ). take n (set l i v)) (add-one i) ∙ take-suc-set l i v h ∙ ap₂ (λ (x : List ℕ) (y : ℕ). x ++ y ∷ []) e ev
-
 pub units-turn : (ws : List ℕ) (i : ℕ) → length ws ≡ 64 → i < 64 → take i ws ≡ units i → take (i + 1) (set ws i ((1 * 2 ^ i) % 18446744073709551616)) ≡ units (i + 1)
 unfolding units
 units-turn ws i long h e =
@@ -114,56 +103,6 @@ pub written-end : (vs l ws : List ℕ) (i : ℕ) → ws ≡ front (take i vs) l 
 written-end vs l ws i e a b =
     let all : i ≡ length vs = omega arith in
     e ∙ ap (λ (n : ℕ). front (take n vs) l) all ∙ front-whole vs l
-
--- ---- one pass over the words
-
-pub follows-not-above : (m last seen w : ℕ) → w ≤ last → false ≡ follows m last seen w
-unfolding follows
-follows-not-above m last seen w h = sym (ap (λ (b : Bool). b && (not (beyond m w) && eqb (bitAnd seen w) 0)) (le-ltb last w h))
-
-pub follows-beyond : (m last seen w : ℕ) (b : Bool) → b ≡ beyond m w → b ≡ true → last < w → false ≡ follows m last seen w
-unfolding follows
-follows-beyond m last seen w b e t h =
-    sym (ap₂ (λ (x y : Bool). x && (not y && eqb (bitAnd seen w) 0)) (lt-ltb last w h) (sym e ∙ t))
-
-pub follows-rest : (m last seen w : ℕ) (b : Bool) → b ≡ beyond m w → b ≡ false → last < w → eqb (bitAnd seen w) 0 ≡ follows m last seen w
-unfolding follows
-follows-rest m last seen w b e f h =
-    sym (ap₂ (λ (x y : Bool). x && (not y && eqb (bitAnd seen w) 0)) (lt-ltb last w h) (sym e ∙ f))
-
-pub pass-next : (m last seen : ℕ) (ws : List ℕ) (i : ℕ) → i < length ws
-    → onePass m last seen (drop i ws) ≡ (follows m last seen (getD ws i 0) && onePass m (getD ws i 0) (withTop seen (getD ws i 0)) (drop (i + 1) ws))
-unfolding onePass
-pass-next m last seen ws i h =
-    ap (onePass m last seen) (drop-cons ws i 0 h)
-    ∙ ap (λ (n : ℕ). follows m last seen (getD ws i 0) && onePass m (getD ws i 0) (withTop seen (getD ws i 0)) (drop n ws)) (sym (add-one i))
-
-pub pass-stop : (m last seen : ℕ) (ws : List ℕ) (i : ℕ) (b : Bool) → i < length ws → onePass m 0 0 ws ≡ onePass m last seen (drop i ws)
-    → b ≡ follows m last seen (getD ws i 0) → not b ≡ true → false ≡ onePass m 0 0 ws
-pass-stop m last seen ws i b h inv e n =
-    let stop : follows m last seen (getD ws i 0) ≡ false = sym e ∙ not-true b n in
-    sym (inv ∙ pass-next m last seen ws i h ∙ ap (λ (x : Bool). x && onePass m (getD ws i 0) (withTop seen (getD ws i 0)) (drop (i + 1) ws)) stop)
-
-pub pass-turn : (m last seen seen′ : ℕ) (ws : List ℕ) (i : ℕ) (b : Bool) → i < length ws → onePass m 0 0 ws ≡ onePass m last seen (drop i ws)
-    → b ≡ follows m last seen (getD ws i 0) → not b ≡ false → seen′ ≡ withTop seen (getD ws i 0)
-    → onePass m 0 0 ws ≡ onePass m (getD ws i 0) seen′ (drop (i + 1) ws)
-pass-turn m last seen seen′ ws i b h inv e n t =
-    let go-on : follows m last seen (getD ws i 0) ≡ true = sym e ∙ not-false b n in
-    inv ∙ pass-next m last seen ws i h
-    ∙ ap₂ (λ (x : Bool) (y : ℕ). x && onePass m (getD ws i 0) y (drop (i + 1) ws)) go-on (sym t)
-
-pub pass-end : (m last seen : ℕ) (ws : List ℕ) (i : ℕ) → onePass m 0 0 ws ≡ onePass m last seen (drop i ws) → length ws ≤ i → true ≡ onePass m 0 0 ws
-unfolding onePass
-pass-end m last seen ws i inv h = sym (inv ∙ ap (onePass m last seen) (drop-of-length-le ws h))
-
-pub with-top-bit : (seen w h : ℕ) → h ≡ highestBit w → bitOr seen ((1 * 2 ^ h) % 18446744073709551616) ≡ withTop seen w
-unfolding withTop highestBit
-with-top-bit seen w h e =
-    ap (bitOr seen) (one-bit h (omega arith) ∙ ap (λ (x : ℕ). 2 ^ x) e)
-
-pub highest-small : (w h : ℕ) → h ≡ highestBit w → h < 64
-unfolding highestBit
-highest-small w h e = omega arith
 
 -- ---- the columns one after the other
 

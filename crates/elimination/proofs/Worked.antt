@@ -2,16 +2,15 @@
 use mathlib.Core.Path.{_≡_, refl}
 use mathlib.Core.Bool.{true}
 use mathlib.Core.List.{List, [], _∷_}
-use Prim.Native.Nat.{ℕ, _^_}
-use lib.Count.{ones, onesIn, leadingZeros}
+use lib.Count.{ones, onesIn}
 use lib.ListN.{replicate}
 use Rattle.word.specs.Word.{parity, beyond, badWidth}
 use Rattle.word.specs.Some.{anyOf, allOf, anyBelow}
 use Rattle.word.specs.Reply.{firstOf}
 use Rattle.word.specs.Worked.{Line, agrees}
-use Rattle.elimination.specs.Combination.{rank, rankAfter, grown, xFree}
-use Rattle.elimination.specs.Reduced.{reducedList, wordsBelow, independent, made, xorRows}
-use Rattle.elimination.specs.Elimination.{eliminationTests, onlyEmpty}
+use Rattle.combinations.specs.Combination.{rank, rankAfter, grown, xFree, onlyEmpty}
+use Rattle.combinations.specs.Reduced.{reducedList, wordsBelow, independent, made, xorRows}
+use Rattle.elimination.specs.Elimination.{eliminationTests}
 
 pub worked : List Line
 worked =

@@ -1,29 +1,24 @@
 -- The elimination call. Document 01: "The elimination meets 2 and 15 to 18 and answers with the rank and q."
 --
 --   Counts               what it answers: the rank and q
---   onlyEmpty m cs       document 01, 17: no X-free combination but the empty one exists
 --   eliminationTests     the numbers that the call meets, in order, for width m, columns cs and a lent list of k places
 --   eliminationReply     its reply
 --   said e               the paper's reading of what the function hands back
-use mathlib.Core.Bool.{Bool, not, _&&_}
 use mathlib.Core.List.{List, [], _∷_}
-use Prim.Native.Nat.{ℕ, _^_}
-use lib.Dec.{eqb, ltb}
+use Prim.Native.Nat.{ℕ}
+use lib.Dec.{ltb}
 use lib.ListN.{length}
 use Rattle.word.specs.Word.{beyond, badWidth}
-use Rattle.word.specs.Some.{anyBelow, anyOf}
+use Rattle.word.specs.Some.{anyOf}
 use Rattle.word.specs.Reply.{Test, _when_, Reply, answer, refusal, reply}
-use Rattle.elimination.specs.Combination.{xFree, rank}
-use Rattle.elimination.specs.Reduced.{reducedList}
+use Rattle.combinations.specs.Combination.{rank, onlyEmpty}
+use Rattle.combinations.specs.Reduced.{reducedList}
 use Rattle.elimination.specs.declared.Eliminated.{Eliminated}
 use Rattle.elimination.specs.declared.Eliminated.the-variants.{Done, Refused}
 
 pub record Counts : Type 0 where
   pub rank : ℕ
   pub q : ℕ
-
-unfoldable pub onlyEmpty : ℕ → List ℕ → Bool
-onlyEmpty m cs = not (anyBelow (2 ^ m) (λ w. not (eqb w 0) && xFree cs w))
 
 unfoldable pub eliminationTests : ℕ → List ℕ → ℕ → List Test
 eliminationTests m cs k =

@@ -1,6 +1,2 @@
-pub mod Combination
-pub mod Reduced
-pub mod Pass
-pub mod Step
 pub mod Elimination
 pub mod Code

@@ -14,6 +14,8 @@ use Rattle.word.specs.Word.{badWidth, beyond}
 use Rattle.word.specs.Parities.{parities}
 use Rattle.word.specs.Reply.{_when_, answer, replied, firstOf}
 use Rattle.word.proofs.WordLaws.{not-beyond}
+use Rattle.reduced_list.specs.WordCount.{badWordCount}
+use Rattle.reduced_list.proofs.CountLaws.{not-bad-count}
 use Rattle.plan_file.specs.Layout.{planLength, widthOf, countOf, wordsOf, expectedOf}
 use Rattle.plan_file.specs.Reading.{readTests, PlanParts, partsOf, planReply}
 use Rattle.plan_file.specs.Writing.{PlanContent, wordCount, planBytes, writeTests, writeReply}
@@ -29,11 +31,10 @@ module _ (k : PlanContent) (c : Content k) where
   content-written room h =
       let a1 : ltb (k .m) 1 ≡ false = le-ltb (k .m) 1 (c .width-positive) in
       let a2 : ltb 64 (k .m) ≡ false = le-ltb 64 (k .m) (c .width-most) in
-      let b1 : ltb (wordCount k) 1 ≡ false = le-ltb (wordCount k) 1 (c .count-positive) in
-      let b2 : ltb (k .m) (wordCount k) ≡ false = le-ltb (k .m) (wordCount k) (c .count-most) in
+      let b1 : badWordCount (k .m) (wordCount k) ≡ false = not-bad-count (k .m) (wordCount k) (c .count-positive) (c .count-most) in
       let e1 : beyond (wordCount k) (k .expected) ≡ false = not-beyond (wordCount k) (k .expected) (c .expected-inside) in
       let r1 : ltb room (planLength (wordCount k)) ≡ false = le-ltb room (planLength (wordCount k)) h in
-      rw (a1, a2, b1, b2, c .reduced, e1, r1)
+      rw (a1, a2, b1, c .reduced, e1, r1)
 
   -- the reader answers with its parts
   pub content-read : (room : ℕ) → wordCount k ≤ room

@@ -4,13 +4,13 @@ use mathlib.Core.Path.{_≡_, sym, ap, _∙_, subst}
 use mathlib.Core.Bool.{true}
 use mathlib.Core.List.{List}
 use Prim.Native.Nat.{ℕ, _^_, _<_}
+use borrow.Author.Tests.{eqb-true, eq-eqb}
 use lib.Bits.{bitXor, xor-lt}
 use Rattle.word.specs.Parities.{parities}
 use Rattle.word.specs.Span.{isXorOf}
 use Rattle.word.proofs.Laws.{xor-cancel}
-use Rattle.elimination.specs.Combination.{xFree}
-use Rattle.elimination.proofs.Theorems.{explained-listed}
-use Rattle.elimination.proofs.Agreeing.{parities-even, even-parities}
+use Rattle.combinations.specs.Combination.{xFree}
+use Rattle.combinations.proofs.Theorems.{explained-listed, same-parities}
 use Rattle.register.specs.Circuit.{chains}
 use Rattle.register.proofs.Laws.{good-taps}
 use Rattle.chains.proofs.Laws.{good-spread}
@@ -19,7 +19,7 @@ use Rattle.set_file.specs.Layout.{widthOf, tapsOf, spreadOf, circuitOf, chainsO
 use Rattle.rows.specs.Lists.{listRow}
 use Rattle.set_file.proofs.Laws.{Accepted, spread-length}
 use Rattle.signatures.specs.Signature.{Response, signature}
-use Rattle.signatures.specs.Columns.{columnsOf, zeroSignature, recordCells}
+use Rattle.signatures.specs.Sets.{columnsOf, zeroSignature, recordCells}
 use Rattle.signatures.proofs.SignatureLaws.{signature-lt}
 use Rattle.signatures.proofs.FillingLaws.{filling-differs, filling-of, alike-differ}
 use Rattle.response.proofs.SetLaws.{columns-of-within}
@@ -81,10 +81,10 @@ module _ (set : List ℕ) (a : Accepted set) where
         explained-listed (widthOf set) (columnsOf set) (columns-of-within set a) (bitXor y z) (xor-lt (widthOf set) y z hy hz)
 
     pub xor-parities : isXorOf (columnsOf set) (bitXor y z) ≡ true → parities (wordsOf set) y ≡ parities (wordsOf set) z
-    xor-parities h = even-parities (wordsOf set) y z (sym words-even ∙ h)
+    xor-parities h = eqb-true _ _ (sym (same-parities (wordsOf set) y z) ∙ sym words-even ∙ h)
 
     pub parities-xor : parities (wordsOf set) y ≡ parities (wordsOf set) z → isXorOf (columnsOf set) (bitXor y z) ≡ true
-    parities-xor h = words-even ∙ parities-even (wordsOf set) y z h
+    parities-xor h = words-even ∙ same-parities (wordsOf set) y z ∙ eq-eqb _ _ h
 
   -- an explained signature has the expected parities
   pub explained-expected : (y : ℕ) → Explained set y → parities (wordsOf set) y ≡ expectedOf set

@@ -13,13 +13,12 @@ use Rattle.word.specs.Reply.{Test, _when_, answer, refusal, replied, firstOf}
 use Rattle.word.proofs.BoolLaws.{and-left, and-right}
 use Rattle.word.proofs.Laws.{parities-lt}
 use Rattle.word.proofs.TestLaws.{none-and-rest, first-of-later, first-of-sooner, first-of-none, replied-answer, replied-number}
-use Rattle.elimination.specs.Combination.{rank}
-use Rattle.elimination.specs.Elimination.{onlyEmpty}
-use Rattle.elimination.proofs.Theorems.{words-and-rank, reduced-list-reduced, only-empty-list}
+use Rattle.combinations.specs.Combination.{rank, onlyEmpty}
+use Rattle.combinations.proofs.Theorems.{words-and-rank, reduced-list-reduced, only-empty-list}
 use Rattle.set_file.specs.Layout.{widthOf}
 use Rattle.set_file.specs.Reading.{setTests}
 use Rattle.set_file.proofs.Laws.{Accepted, accepted, accepted-width}
-use Rattle.signatures.specs.Columns.{columnsOf, zeroSignature}
+use Rattle.signatures.specs.Sets.{columnsOf, zeroSignature}
 use Rattle.response.specs.Listing.{listTests}
 use Rattle.response.proofs.SetLaws.{columns-of-within}
 use Rattle.planner.specs.Planning.{wordsOf, expectedOf, planTests, PlanParts, partsOf, planReply}

@@ -35,13 +35,13 @@ use Rattle.word.specs.Span.{isXorOf}
 use Rattle.word.specs.Reply.{answer, refusal, firstOf}
 use Rattle.word.proofs.Laws.{parities-lt, parities-digit}
 use Rattle.word.proofs.TestLaws.{first-of-none, replied-answer}
-use Rattle.elimination.specs.Combination.{xFree, rank}
-use Rattle.elimination.proofs.Theorems.{words-and-rank, x-free-listed, only-empty-explains, explains-only-empty}
+use Rattle.combinations.specs.Combination.{xFree, rank}
+use Rattle.combinations.proofs.Theorems.{words-and-rank, x-free-listed, only-empty-explains, explains-only-empty}
 use Rattle.set_file.specs.Layout.{widthOf, chainsOf, slicesOf, circuitOf}
 use Rattle.set_file.specs.Reading.{setTests}
 use Rattle.set_file.proofs.Laws.{Accepted, accepted}
 use Rattle.signatures.specs.Signature.{signature}
-use Rattle.signatures.specs.Columns.{columnsOf, zeroSignature, recordCells}
+use Rattle.signatures.specs.Sets.{columnsOf, zeroSignature, recordCells}
 use Rattle.response.specs.Signing.{signTests, signReply}
 use Rattle.response.specs.Listing.{listTests}
 use Rattle.response.proofs.SetLaws.{columns-of-within}

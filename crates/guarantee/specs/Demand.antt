@@ -16,7 +16,7 @@ use lib.ListN.{length, getD}
 use Rattle.word.specs.Word.{parity}
 use Rattle.set_file.specs.Layout.{circuitOf, chainsOf, slicesOf, values, marks}
 use Rattle.signatures.specs.Signature.{Response, signature}
-use Rattle.signatures.specs.Columns.{recordCells, zeroSignature}
+use Rattle.signatures.specs.Sets.{recordCells, zeroSignature}
 use Rattle.planner.specs.Planning.{PlanParts, wordsOf}
 use Rattle.plan_file.specs.Writing.{contentOf, planBytes}
 

@@ -1,8 +1,9 @@
 -- Each way out of the plan reader, and what it answers and leaves in the lent list. Assumes nothing.
-use mathlib.Core.Path.{_≡_, sym, ap, _∙_}
+use mathlib.Core.Path.{_≡_, sym, ap, ap₂, _∙_}
 use mathlib.Core.Bool.{Bool, cond}
 use mathlib.Core.List.{List, [], _∷_}
 use Prim.Native.Nat.{ℕ, _+_, _*_, _<_, _≤_}
+use native.Mathlib.Numerals.{add-one}
 use native.Mathlib.Omega.{arith}
 use borrow.Author.Tests.{lt-ltb, le-ltb, ltb-false}
 use lib.Dec.{ltb}
@@ -16,7 +17,7 @@ use Rattle.plan_file.specs.declared.PlanAnswer.{PlanAnswer}
 use Rattle.plan_file.specs.declared.PlanAnswer.the-variants.{Read, Refused}
 use Rattle.plan_file.proofs.Laws.{first-after-plan, taken-bits}
 use Rattle.plan_file.proofs.WordPlaces.{plan-words-length, word-of-plan}
-use Rattle.elimination.proofs.LoopLaws.{written-turn, written-end}
+use Rattle.word.proofs.FrontLaws.{front-next, front-whole}
 use Rattle.word.proofs.TestLaws.{first-of-sooner, first-of-none}
 
 -- ---- the reader's numbers
@@ -87,9 +88,11 @@ pub copy-turn : (plan l ws : List ℕ) (q i w : ℕ) → ws ≡ front (take i (w
 copy-turn plan l ws q i w h c a b e =
     let inside : i < countOf plan = omega arith in
     let below : i < length (wordsOf plan) = omega (arith, plan-words-length plan) in
-    ap (set ws i) (e ∙ sym (word-of-plan plan i inside)) ∙ written-turn (wordsOf plan) l ws i h below b
+    ap₂ (λ (x : List ℕ) (v : ℕ). set x i v) h (e ∙ sym (word-of-plan plan i inside)) ∙ front-next i (wordsOf plan) l below b
+    ∙ ap (λ (n : ℕ). front (take n (wordsOf plan)) l) (sym (add-one i))
 
 pub copy-end : (plan l ws : List ℕ) (q i : ℕ) → ws ≡ front (take i (wordsOf plan)) l → q ≡ countOf plan → i ≤ q → q ≤ i
     → ws ≡ front (wordsOf plan) l
 copy-end plan l ws q i h c a b =
-    written-end (wordsOf plan) l ws i h (omega (arith, plan-words-length plan)) (omega (arith, plan-words-length plan))
+    let all : i ≡ length (wordsOf plan) = omega (arith, plan-words-length plan) in
+    h ∙ ap (λ (n : ℕ). front (take n (wordsOf plan)) l) all ∙ front-whole (wordsOf plan) l

@@ -17,7 +17,7 @@ use Rattle.word.specs.Reply.{Test, firstOf}
 use Rattle.word.proofs.BoolLaws.{or-false-left, or-false-right}
 use Rattle.word.proofs.ReplyLaws.{none-applies}
 use Rattle.word.proofs.WordLaws.{within}
-use Rattle.elimination.specs.Reduced.{isReduced}
+use Rattle.combinations.specs.Reduced.{isReduced}
 use Rattle.plan_file.specs.Layout.{bitsAt, planLength, widthOf, countOf, wordsOf, againOf, expectedOf}
 use Rattle.plan_file.specs.Reading.{badPlanWidth, badPlanCount, badPlanEnd, planTests}
 use Rattle.plan_file.proofs.TestLaws.{width-good, count-good, bits-to-end}

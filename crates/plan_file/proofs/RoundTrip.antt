@@ -9,26 +9,27 @@
 --   plan-of-content    a plan that meets no number is the plan file of its m, its words and its expected bits
 -- Assumes nothing.
 use mathlib.Core.Path.{_≡_, refl, sym, ap, ap₂, _∙_, subst}
-use mathlib.Core.Bool.{true, false, not, _&&_}
-use mathlib.Core.List.{List, [], _∷_, _++_, append-assoc, append-nil}
-use Prim.Native.Nat.{ℕ, zero, suc, _*_, _^_, _<_, _≤_}
+use mathlib.Core.Bool.{true, false}
+use mathlib.Core.List.{List, [], _++_, append-assoc, append-nil}
+use Prim.Native.Nat.{ℕ, _*_, _^_, _<_, _≤_}
 use native.Mathlib.Nat.{lt-of-lt-of-le}
 use native.Mathlib.Omega.{arith}
-use borrow.Author.Tests.{ltb-false, le-ltb, eq-eqb, not-true, not-false}
-use lib.Dec.{eqb, ltb, lit<}
+use borrow.Author.Tests.{le-ltb, eq-eqb, not-false}
+use lib.Dec.{eqb, ltb}
 use lib.ListN.{length, take, drop, getD, length-append, length-drop}
 use lib.Pow.{pow-mono}
 use lib.Seq.{take-all, take-at}
 use Rattle.word.specs.Word.{badWidth, beyond}
-use Rattle.word.specs.Some.{allOf}
 use Rattle.numbers.specs.Bytes.{numberAt, countAt, wordsAt, bytesOf, wordBytes}
 use Rattle.word.specs.Reply.{Reply, answer, firstOf, front, lent}
-use Rattle.word.proofs.BoolLaws.{and-left, and-right, or-false-left, or-false-right}
 use Rattle.numbers.proofs.ByteLaws.{bytes-of-length, length-word-bytes}
 use Rattle.numbers.proofs.FileLaws.{number-back, words-back, pow-bytes, number-bytes, words-bytes, part-joins}
 use Rattle.word.proofs.TestLaws.{replied-answer}
 use Rattle.word.proofs.WordLaws.{good-width, within, not-beyond}
-use Rattle.elimination.specs.Reduced.{isReduced, ascending, topsClear}
+use Rattle.combinations.specs.Reduced.{isReduced}
+use Rattle.combinations.proofs.Theorems.{reduced-below}
+use Rattle.reduced_list.specs.WordCount.{badWordCount}
+use Rattle.reduced_list.proofs.CountLaws.{good-count, not-bad-count}
 use Rattle.plan_file.specs.Layout.{againAt, bitBytes, bitsAt, planLength, widthOf, countOf, wordsOf, againOf, expectedOf}
 use Rattle.plan_file.specs.Reading.{badPlanWidth, badPlanCount, badPlanEnd, planTests}
 use Rattle.plan_file.specs.Writing.{PlanContent, contentOf, wordCount, planBytes, writeTests, writeReply}
@@ -52,8 +53,8 @@ content k room h =
     record {
       width-positive = good-width (k .m) (none .width) .0;
       width-most = good-width (k .m) (none .width) .1;
-      count-positive = ltb-false (wordCount k) 1 (or-false-left (ltb (wordCount k) 1) (ltb (k .m) (wordCount k)) (none .count));
-      count-most = ltb-false (k .m) (wordCount k) (or-false-right (ltb (wordCount k) 1) (ltb (k .m) (wordCount k)) (none .count));
+      count-positive = good-count (k .m) (wordCount k) (none .count) .0;
+      count-most = good-count (k .m) (wordCount k) (none .count) .1;
       reduced = not-false _ (none .words);
       expected-inside = within (wordCount k) (k .expected) (none .bits);
     }
@@ -68,28 +69,15 @@ taken-back plan t =
     let a2 : ltb (widthOf plan) 1 ≡ false = le-ltb (widthOf plan) 1 (t .width-positive) in
     let a3 : ltb 64 (widthOf plan) ≡ false = le-ltb 64 (widthOf plan) (t .width-most) in
     let b1 : ltb (length plan) 4 ≡ false = le-ltb (length plan) 4 (omega (arith, t .exact)) in
-    let b2 : ltb q 1 ≡ false = le-ltb q 1 (t .count-positive) in
-    let b3 : ltb (widthOf plan) q ≡ false = le-ltb (widthOf plan) q (t .count-most) in
-    let b4 : ltb (length plan) (againAt q) ≡ false = le-ltb (length plan) (againAt q) (omega (arith, t .exact)) in
+    let b2 : badWordCount (widthOf plan) q ≡ false = not-bad-count (widthOf plan) q (t .count-positive) (t .count-most) in
+    let b3 : ltb (length plan) (againAt q) ≡ false = le-ltb (length plan) (againAt q) (omega (arith, t .exact)) in
     let d1 : ltb (length plan) (bitsAt q) ≡ false = le-ltb (length plan) (bitsAt q) (omega (arith, t .exact)) in
     let d2 : eqb (againOf plan) q ≡ true = eq-eqb (againOf plan) q (t .again) in
     let d3 : eqb (length plan) (planLength q) ≡ true = eq-eqb (length plan) (planLength q) (t .exact) in
     let d4 : beyond q (expectedOf plan) ≡ false = not-beyond q (expectedOf plan) (t .expected-inside) in
-    rw (a1, a2, a3, b1, b2, b3, b4, t .reduced, d1, d2, d3, d4)
+    rw (a1, a2, a3, b1, b2, b3, t .reduced, d1, d2, d3, d4)
 
 -- ---- the parts of the file that was written
-
-listed-below : (m : ℕ) (ws : List ℕ) → m ≤ 64 → allOf (λ w. not (eqb w 0) && not (beyond m w)) ws ≡ true → (j : ℕ) → getD ws j 0 < 256 ^ 8
-unfolding allOf
-listed-below m [] h e j = lit< tt
-listed-below m (w ∷ ws) h e zero =
-    let here = and-left (not (eqb w 0) && not (beyond m w)) _ e in
-    lt-of-lt-of-le (within m w (not-true _ (and-right (not (eqb w 0)) _ here))) (pow-mono h)
-listed-below m (w ∷ ws) h e (suc j) = listed-below m ws h (and-right (not (eqb w 0) && not (beyond m w)) _ e) j
-
-reduced-below : (m : ℕ) (ws : List ℕ) → m ≤ 64 → isReduced m ws ≡ true → (j : ℕ) → getD ws j 0 < 256 ^ 8
-unfolding isReduced
-reduced-below m ws h e = listed-below m ws h (and-left _ (ascending ws && topsClear ws) e)
 
 -- q bits fit their bytes
 bits-fit : (q e : ℕ) → e < 2 ^ q → e < 256 ^ bitBytes q
@@ -106,6 +94,9 @@ module _ (k : PlanContent) (c : Content k) where
 
   count-fits : q < 256 ^ 2
   count-fits = omega (arith, c .count-most, c .width-most)
+
+  words-fit : (i : ℕ) → getD (k .words) i 0 < 256 ^ 8
+  words-fit i = lt-of-lt-of-le (reduced-below (k .m) (k .words) (c .reduced) i) (pow-mono (c .width-most))
 
   pub written-width : widthOf (planBytes k) ≡ k .m
   unfolding planBytes
@@ -131,7 +122,7 @@ module _ (k : PlanContent) (c : Content k) where
   written-words =
       ap (wordsAt (planBytes k) 4) written-count
       ∙ ap (λ (s : List ℕ). wordsAt s 4 q) (sym (append-assoc (bytesOf 2 (k .m)) (bytesOf 2 q) _))
-      ∙ words-back (k .words) (bytesOf 2 (k .m) ++ bytesOf 2 q) _ 4 start-long (reduced-below (k .m) (k .words) (c .width-most) (c .reduced))
+      ∙ words-back (k .words) (bytesOf 2 (k .m) ++ bytesOf 2 q) _ 4 start-long words-fit
 
   written-again : againOf (planBytes k) ≡ q
   unfolding planBytes

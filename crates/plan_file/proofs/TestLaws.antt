@@ -4,7 +4,7 @@ use mathlib.Core.Bool.{Bool, true, false, not, _||_}
 use mathlib.Core.List.{List}
 use Prim.Native.Nat.{ℕ, _+_, _*_, _/_, _≤_}
 use native.Mathlib.Omega.{arith}
-use borrow.Author.Tests.{ltb-false, le-ltb, eq-eqb, ne-eqb}
+use borrow.Author.Tests.{le-ltb, eq-eqb, ne-eqb}
 use lib.Dec.{eqb, ltb}
 use lib.ListN.{length}
 use Rattle.word.specs.Word.{badWidth, beyond}
@@ -12,6 +12,8 @@ use Rattle.numbers.specs.Bytes.{countAt, wordAt}
 use Rattle.word.proofs.BoolLaws.{or-false-left, or-false-right, or-true-left, or-true-right}
 use Rattle.numbers.proofs.FileLaws.{number-to-end}
 use Rattle.word.proofs.WordLaws.{good-width}
+use Rattle.reduced_list.specs.WordCount.{badWordCount}
+use Rattle.reduced_list.proofs.CountLaws.{good-count}
 use Rattle.plan_file.specs.Layout.{againAt, bitsAt, bitBytes, planLength, widthOf, countOf, againOf, expectedOf}
 use Rattle.plan_file.specs.Reading.{badPlanWidth, badPlanCount, badPlanEnd}
 
@@ -25,10 +27,10 @@ pub width-test : (plan : List ℕ) (m : ℕ) (b : Bool) → m ≡ widthOf plan �
 unfolding badPlanWidth
 width-test plan m b e h = rw (h, e)
 
-pub count-test : (plan : List ℕ) (m q : ℕ) → m ≡ widthOf plan → q ≡ countOf plan
-    → (ltb (length plan) 4 || ltb q 1 || ltb m q || ltb (length plan) (4 + 8 * q)) ≡ badPlanCount plan
+pub count-test : (plan : List ℕ) (m q : ℕ) (b : Bool) → m ≡ widthOf plan → q ≡ countOf plan → b ≡ badWordCount m q
+    → (ltb (length plan) 4 || b || ltb (length plan) (4 + 8 * q)) ≡ badPlanCount plan
 unfolding badPlanCount
-count-test plan m q e h = rw (h, e)
+count-test plan m q b e h w = rw (w, h, e)
 
 -- a plan of another length is refused, whatever its end holds
 pub end-inexact : (plan : List ℕ) (q : ℕ) → q ≡ countOf plan → (length plan ≡ 6 + 8 * q + (q + 7) / 8 → ⊥) → true ≡ badPlanEnd plan
@@ -73,11 +75,8 @@ pub count-good : (plan : List ℕ) → badPlanCount plan ≡ false → (1 ≤ co
 unfolding badPlanCount
 count-good plan h =
     let q = countOf plan in
-    let start = or-false-left (ltb (length plan) 4 || ltb q 1 || ltb (widthOf plan) q) (ltb (length plan) (againAt q)) h in
-    let first = or-false-left (ltb (length plan) 4 || ltb q 1) (ltb (widthOf plan) q) start in (
-      ltb-false q 1 (or-false-right (ltb (length plan) 4) (ltb q 1) first),
-      ltb-false (widthOf plan) q (or-false-right (ltb (length plan) 4 || ltb q 1) (ltb (widthOf plan) q) start),
-    )
+    good-count (widthOf plan) q
+    (or-false-right (ltb (length plan) 4) _ (or-false-left (ltb (length plan) 4 || badWordCount (widthOf plan) q) (ltb (length plan) (againAt q)) h))
 
 -- past 19 and 20 there are at most 64 words
 pub few-words : (plan : List ℕ) → badPlanWidth plan ≡ false → badPlanCount plan ≡ false → countOf plan ≤ 64

@@ -1,6 +1,6 @@
 -- The plan file as it is written, part after part, and each way out of the plan writer. Assumes nothing.
 use mathlib.Core.Path.{_≡_, sym, ap, ap₂, _∙_}
-use mathlib.Core.Bool.{Bool, true, false, not, _||_}
+use mathlib.Core.Bool.{true, false, not}
 use mathlib.Core.List.{List}
 use Prim.Native.Nat.{ℕ, suc, _+_, _-_, _*_, _/_, _%_, _<_, _≤_}
 use native.Mathlib.Nat.{add-zero}
@@ -15,10 +15,8 @@ use Rattle.word.specs.Reply.{Reply, answer, refusal, replied, firstOf, front, l
 use Rattle.numbers.proofs.ByteLaws.{bytes-of-length, length-word-bytes}
 use Rattle.numbers.proofs.FileLaws.{sets-parts, front-sets}
 use Rattle.word.proofs.ReplyLaws.{replied-refusal, none-applies}
-use Rattle.word.proofs.WordLaws.{good-width}
-use Rattle.elimination.specs.Reduced.{isReduced}
-use Rattle.elimination.specs.Pass.{onePass}
-use Rattle.elimination.proofs.Theorems.{reduced-exactly}
+use Rattle.combinations.specs.Reduced.{isReduced}
+use Rattle.reduced_list.specs.WordCount.{badWordCount}
 use Rattle.plan_file.specs.Layout.{planLength}
 use Rattle.plan_file.specs.Writing.{PlanContent, contentOf, wordCount, planBytes, writeTests, writeReply, saidWritten}
 use Rattle.plan_file.specs.declared.Written.{Written}
@@ -83,12 +81,6 @@ parts-written m ws e l l1 l2 l3 l4 l5 e1 e2 e3 e4 e5 h =
 
 -- ---- the writer's numbers
 
-pub list-test : (m : ℕ) (ws : List ℕ) (b : Bool) → b ≡ onePass m 0 0 ws → m ≤ 64 → not b ≡ not (isReduced m ws)
-list-test m ws b e h = ap not (e ∙ sym (reduced-exactly m ws h))
-
-pub width-most : (m : ℕ) (b : Bool) → b ≡ badWidth m → b ≡ false → m ≤ 64
-width-most m b e h = good-width m (sym e ∙ h) .1
-
 pub room-short : (room x p : ℕ) → x ≡ p → room < x → ltb room p ≡ true
 room-short room x p e h = lt-ltb room p (omega arith)
 
@@ -98,7 +90,7 @@ room-enough room x p e h = le-ltb room p (omega arith)
 -- none of the writer's tests applies
 pub record NoneApplies (k : PlanContent) (room : ℕ) : Type 0 where
   pub width : badWidth (k .m) ≡ false
-  pub count : (ltb (wordCount k) 1 || ltb (k .m) (wordCount k)) ≡ false
+  pub count : badWordCount (k .m) (wordCount k) ≡ false
   pub words : not (isReduced (k .m) (k .words)) ≡ false
   pub bits : beyond (wordCount k) (k .expected) ≡ false
   pub room-left : ltb room (planLength (wordCount k)) ≡ false
@@ -108,7 +100,7 @@ unfolding writeTests
 none-of-write k room h =
     let a = none-applies (badWidth (k .m)) 18 _ h in
     let h1 = rw a at h in
-    let b = none-applies (ltb (wordCount k) 1 || ltb (k .m) (wordCount k)) 19 _ h1 in
+    let b = none-applies (badWordCount (k .m) (wordCount k)) 19 _ h1 in
     let h2 = rw b at h1 in
     let c = none-applies (not (isReduced (k .m) (k .words))) 20 _ h2 in
     let h3 = rw c at h2 in

@@ -17,7 +17,8 @@ use lib.Dec.{eqb, ltb}
 use lib.ListN.{length}
 use Rattle.word.specs.Word.{badWidth, beyond}
 use Rattle.word.specs.Reply.{Test, _when_, Reply, answer, refusal, reply}
-use Rattle.elimination.specs.Reduced.{isReduced}
+use Rattle.combinations.specs.Reduced.{isReduced}
+use Rattle.reduced_list.specs.WordCount.{badWordCount}
 use Rattle.plan_file.specs.Layout.{againAt, bitsAt, planLength, widthOf, countOf, wordsOf, againOf, expectedOf}
 use Rattle.plan_file.specs.declared.PlanAnswer.{PlanAnswer}
 use Rattle.plan_file.specs.declared.PlanAnswer.the-variants.{Read, Refused}
@@ -27,7 +28,7 @@ badPlanWidth plan = ltb (length plan) 2 || badWidth (widthOf plan)
 
 unfoldable pub badPlanCount : List ℕ → Bool
 badPlanCount plan =
-    ltb (length plan) 4 || ltb (countOf plan) 1 || ltb (widthOf plan) (countOf plan) || ltb (length plan) (againAt (countOf plan))
+    ltb (length plan) 4 || badWordCount (widthOf plan) (countOf plan) || ltb (length plan) (againAt (countOf plan))
 
 unfoldable pub badPlanEnd : List ℕ → Bool
 badPlanEnd plan =

@@ -8,7 +8,7 @@
 --   writeTests k room    the numbers that the writer meets, in order, for an output of `room` bytes
 --   writeReply k room    its reply: the length of the file
 --   saidWritten w        the paper's reading of what the writer hands back
-use mathlib.Core.Bool.{not, _||_}
+use mathlib.Core.Bool.{not}
 use mathlib.Core.List.{List, [], _∷_, _++_}
 use Prim.Native.Nat.{ℕ}
 use lib.Dec.{ltb}
@@ -16,7 +16,8 @@ use lib.ListN.{length}
 use Rattle.word.specs.Word.{badWidth, beyond}
 use Rattle.numbers.specs.Bytes.{bytesOf, wordBytes}
 use Rattle.word.specs.Reply.{Test, _when_, Reply, answer, refusal, reply}
-use Rattle.elimination.specs.Reduced.{isReduced}
+use Rattle.combinations.specs.Reduced.{isReduced}
+use Rattle.reduced_list.specs.WordCount.{badWordCount}
 use Rattle.plan_file.specs.Layout.{bitBytes, planLength}
 use Rattle.plan_file.specs.declared.Written.{Written}
 use Rattle.plan_file.specs.declared.Written.the-variants.{Done, Refused}
@@ -41,7 +42,7 @@ planBytes k =
 unfoldable pub writeTests : PlanContent → ℕ → List Test
 writeTests k room =
     19 when badWidth (k .m)
-    ∷ 20 when (ltb (wordCount k) 1 || ltb (k .m) (wordCount k))
+    ∷ 20 when badWordCount (k .m) (wordCount k)
     ∷ 21 when not (isReduced (k .m) (k .words))
     ∷ 22 when beyond (wordCount k) (k .expected)
     ∷ 24 when ltb room (planLength (wordCount k))

@@ -1,13 +1,12 @@
 // The plan file of document 01: its reader and its writer.
 ghost use mathlib.Core.Path.{_≡_};
-ghost use mathlib.Core.Bool.{not, _||_};
+ghost use mathlib.Core.Bool.{not};
 ghost use Prim.Native.Nat.{_+_, _*_, _<_, _≤_};
-ghost use lib.Dec.{ltb};
 ghost use lib.ListN.{length};
 ghost use lib.Seq.{sets};
 ghost use Rattle.numbers.specs.Bytes.{wordAt, bytesOf};
 ghost use Rattle.word.specs.Reply.{firstOf, front, lent};
-ghost use Rattle.elimination.specs.Reduced.{isReduced};
+ghost use Rattle.combinations.specs.Reduced.{isReduced};
 ghost use Rattle.plan_file.specs.Layout.{wordsPlace, bitsAt, planLength, widthOf, countOf, wordsOf};
 ghost use Rattle.plan_file.specs.Reading.{badPlanWidth, badPlanCount, badPlanEnd, planTests, readTests, planReply, said};
 ghost use Rattle.plan_file.specs.Writing.{contentOf, planBytes, writeTests, writeReply, saidWritten};
@@ -68,13 +67,12 @@ fn is_bad_plan_count(plan: &[u8]) -> bool
 {
     let m = width(plan);
     let q = count(plan);
-    (plan.len() < 4) | (q < 1) | (m < q) | (plan.len() < 4 + 8 * (q as usize))
+    (plan.len() < 4) | reduced_list::is_bad_word_count(m, q) | (plan.len() < 4 + 8 * (q as usize))
 }
 
-// Number 21, for a plan that doesn't meet 19: whether its words aren't a reduced list for m, by one pass over them where
-// they stand in the plan.
+// Number 21: whether the plan's words aren't a reduced list for m, by one pass over them where they stand in the plan.
 fn is_bad_word_list(plan: &[u8]) -> bool
-    ensures { λ r. ⌜ (widthOf (now (plan .entry)) ≤ 64 → r ≡ not (isReduced (widthOf (now (plan .entry))) (wordsOf (now (plan .entry))))) ⌝ }
+    ensures { λ r. ⌜ r ≡ not (isReduced (widthOf (now (plan .entry))) (wordsOf (now (plan .entry)))) ⌝ }
 {
     let m = width(plan);
     let q = count(plan) as u16;
@@ -83,10 +81,10 @@ fn is_bad_word_list(plan: &[u8]) -> bool
     let mut i: u16 = 0;
     while i < q {
         let w = plan_word(plan, i);
-        if !elimination::is_next(m, last, seen, w) {
+        if !reduced_list::is_next(m, last, seen, w) {
             return true;
         }
-        seen = elimination::with_highest(seen, w);
+        seen = reduced_list::with_highest(seen, w);
         last = w;
         i += 1;
     }
@@ -180,21 +178,6 @@ pub fn plan_length(words: &[u64]) -> usize
     6 + 8 * q + (q + 7) / 8
 }
 
-// Number 20 in the writer: whether there are no words, or more than m.
-fn is_bad_word_count(m: u64, words: &[u64]) -> bool
-    ensures { λ r. ⌜ r ≡ (ltb (length (now (words .entry))) 1 || ltb m (length (now (words .entry)))) ⌝ }
-{
-    let q = words.len() as u64;
-    (q < 1) | (m < q)
-}
-
-// Number 21 in the writer, for m up to 64: whether the words aren't a reduced list for m.
-fn is_no_reduced_list(m: u64, words: &[u64]) -> bool
-    ensures { λ r. ⌜ (m ≤ 64 → r ≡ not (isReduced m (now (words .entry)))) ⌝ }
-{
-    !elimination::is_reduced(m, words)
-}
-
 // The first number that the plan writer meets, with an output of `room` bytes; 0 where none applies.
 fn write_refusal(m: u64, words: &[u64], expected: u64, room: usize) -> u64
     ensures { λ r. ⌜ r ≡ firstOf (writeTests (contentOf m (now (words .entry)) expected) room) ⌝ }
@@ -202,10 +185,10 @@ fn write_refusal(m: u64, words: &[u64], expected: u64, room: usize) -> u64
     if word::is_bad_width(m) {
         return 19;
     }
-    if is_bad_word_count(m, words) {
+    if reduced_list::is_bad_word_count(m, words.len() as u64) {
         return 20;
     }
-    if is_no_reduced_list(m, words) {
+    if !reduced_list::is_reduced(m, words) {
         return 21;
     }
     if word::is_beyond(words.len() as u64, expected) {

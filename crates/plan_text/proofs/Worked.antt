@@ -10,16 +10,17 @@ use Rattle.numbers.specs.Bytes.{number, numberAt, wordsAt}
 use Rattle.word.specs.Parities.{parities}
 use Rattle.word.specs.Span.{isXorOf}
 use Rattle.word.specs.Worked.{sameList}
-use Rattle.elimination.specs.Combination.{rank, rankAfter, grown, xFree}
-use Rattle.elimination.specs.Reduced.{reducedList, wordsBelow, independent, made, xorRows}
-use Rattle.elimination.specs.Elimination.{onlyEmpty}
+use Rattle.combinations.specs.Combination.{rank, rankAfter, grown, xFree, onlyEmpty}
+use Rattle.combinations.specs.Reduced.{reducedList, wordsBelow, independent, made, xorRows}
 use Rattle.rows.specs.Row.{spareSet}
 use Rattle.register.specs.Circuit.{advanced, clocked, badTaps, badChains}
 use Rattle.chains.specs.Driven.{driven, badSpread}
 use Rattle.set_file.specs.Layout.{valueRow, markRow}
 use Rattle.set_file.specs.Reading.{badSlices, spareInRows, valuedUnknown, setTests}
 use Rattle.signatures.specs.Signature.{runs, column}
-use Rattle.signatures.specs.Columns.{sliceColumns, columnsBelow, columnsOf, total, unknownsOf, zeroSignature}
+use Rattle.signatures.specs.Columns.{sliceColumns, columnsBelow}
+use Rattle.signatures.specs.Sets.{columnsOf, unknownsOf, zeroSignature}
+use Rattle.rows.specs.Marks.{total}
 use Rattle.response.specs.Listing.{listTests}
 use Rattle.planner.specs.Planning.{wordsOf, expectedOf, planTests, planReply}
 use Rattle.text.specs.Text.{digitsIn, decimal}

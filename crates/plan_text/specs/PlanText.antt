@@ -14,7 +14,7 @@ use Prim.Native.Nat.{ℕ, suc}
 use Rattle.word.specs.Word.{digit}
 use Rattle.word.specs.Reply.{Reply, answer, refusal}
 use Rattle.set_file.specs.Layout.{widthOf, chainsOf, slicesOf}
-use Rattle.signatures.specs.Columns.{unknownsOf}
+use Rattle.signatures.specs.Sets.{unknownsOf}
 use Rattle.planner.specs.Planning.{PlanParts, wordsOf, planReply}
 use Rattle.text.specs.Text.{decimal}
 

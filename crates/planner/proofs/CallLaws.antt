@@ -1,26 +1,25 @@
 -- Each way out of planning, and what it answers and leaves in the two lent lists. Assumes nothing.
 use mathlib.Core.Path.{_≡_, refl, sym, ap, ap₂, _∙_, subst}
-use mathlib.Core.Bool.{Bool, true, false}
-use mathlib.Core.List.{List, [], _∷_, _++_}
-use Prim.Native.Nat.{ℕ, zero, suc, _≤_, _<_}
+use mathlib.Core.Bool.{true}
+use mathlib.Core.List.{List, [], _∷_}
+use Prim.Native.Nat.{ℕ, zero, suc, _≤_}
 use native.Mathlib.Omega.{arith}
 use lib.Dec.{ltb}
 use lib.ListN.{length, take, drop, length-append}
 use lib.Seq.{take-append-seam, take-all}
-use Rattle.word.specs.Word.{beyond, badWidth}
-use Rattle.word.specs.Some.{anyOf}
 use Rattle.word.specs.Parities.{parities}
-use Rattle.word.specs.Reply.{Test, _when_, Reply, answer, refusal, replied, firstOf, numberOf, front, lent}
+use Rattle.word.specs.Reply.{Test, _when_, Reply, answer, refusal, reply, replied, firstOf, numberOf, front, lent}
 use Rattle.word.proofs.TestLaws.{numbered, first-of-later, first-of-sooner, replied-answer, replied-number, replied-alike}
-use Rattle.elimination.specs.Combination.{rank}
-use Rattle.elimination.specs.Reduced.{reducedList}
-use Rattle.elimination.specs.Elimination.{Counts, onlyEmpty, eliminationTests, eliminationReply, said as eliminated}
+use Rattle.combinations.specs.Combination.{rank, onlyEmpty}
+use Rattle.combinations.specs.Reduced.{reducedList}
+use Rattle.elimination.specs.Elimination.{Counts, eliminationReply, said as eliminated}
 use Rattle.elimination.specs.declared.Eliminated.{Eliminated}
-use Rattle.elimination.proofs.Theorems.{words-and-rank}
+use Rattle.combinations.proofs.Theorems.{words-and-rank}
+use Rattle.elimination.proofs.Theorems.{later-numbers}
 use Rattle.set_file.specs.Layout.{widthOf}
 use Rattle.set_file.specs.Reading.{setTests}
 use Rattle.set_file.proofs.Laws.{Accepted, accepted-width}
-use Rattle.signatures.specs.Columns.{columnsOf, unknownsOf, zeroSignature}
+use Rattle.signatures.specs.Sets.{columnsOf, unknownsOf, zeroSignature}
 use Rattle.response.specs.Listing.{listTests, listReply}
 use Rattle.response.proofs.SetLaws.{length-columns, columns-of-within}
 use Rattle.planner.specs.Planning.{wordsOf, expectedOf, planTests, PlanParts, partsOf, planReply, columnsAfter, said}
@@ -98,12 +97,9 @@ module _ (set cs cs′ ws : List ℕ) (a : Accepted set) (u : ℕ) (l : Listed s
       first-of-later (listTests set (length cs)) _ (list-numbered set (length cs))
       (replied-answer (firstOf (listTests set (length cs))) (unknownsOf set) u (sym (l .0)) .0)
 
-  elimination-later : firstOf (eliminationTests (widthOf set) (columnsOf set) (length ws)) ≡ firstOf (later set (length ws))
-  unfolding eliminationTests wordsOf
-  elimination-later = rw (a .width, columns-of-within set a)
-
-  same-first : firstOf (eliminationTests (widthOf set) (columnsOf set) (length ws)) ≡ firstOf (planTests set (length cs) (length ws))
-  same-first = elimination-later ∙ sym plan-later
+  elimination-later : eliminationReply (widthOf set) (columnsOf set) (length ws) ≡ reply (later set (length ws)) (counted set)
+  unfolding wordsOf counted
+  elimination-later = later-numbers (widthOf set) (columnsOf set) (length ws) (a .width) (columns-of-within set a)
 
   unknown-count : u ≡ unknownsOf set
   unfolding listReply
@@ -123,8 +119,8 @@ module _ (set cs cs′ ws : List ℕ) (a : Accepted set) (u : ℕ) (l : Listed s
   columns-kept = l .1
 
   module _ (m : ℕ) (em : m ≡ widthOf set) where
-    reply-of : eliminationReply m (take u cs′) (length ws) ≡ eliminationReply (widthOf set) (columnsOf set) (length ws)
-    reply-of = ap₂ (λ (x : ℕ) (y : List ℕ). eliminationReply x y (length ws)) em listed-columns
+    reply-of : eliminationReply m (take u cs′) (length ws) ≡ reply (later set (length ws)) (counted set)
+    reply-of = ap₂ (λ (x : ℕ) (y : List ℕ). eliminationReply x y (length ws)) em listed-columns ∙ elimination-later
 
     words-of : reducedList m (take u cs′) ≡ wordsOf set
     unfolding wordsOf
@@ -132,11 +128,11 @@ module _ (set cs cs′ ws : List ℕ) (a : Accepted set) (u : ℕ) (l : Listed s
 
     pub ends-unplanned : (k : ℕ) (ws′ : List ℕ) → refusal k ≡ eliminationReply m (take u cs′) (length ws)
         → ws′ ≡ lent (eliminationReply m (take u cs′) (length ws)) (reducedList m (take u cs′)) ws → Ends set cs ws (Refused k) cs′ ws′
-    unfolding planReply eliminationReply counted
+    unfolding planReply
     ends-unplanned k ws′ h w =
-        let there : replied (firstOf (eliminationTests (widthOf set) (columnsOf set) (length ws))) (counted set) ≡ refusal k = sym (h ∙ reply-of) in
+        let there : replied (firstOf (later set (length ws))) (counted set) ≡ refusal k = sym (h ∙ reply-of) in
         let refused : planReply set (length cs) (length ws) ≡ refusal k =
-        replied-alike (firstOf (planTests set (length cs) (length ws))) (counted set) (partsOf set) k (ap (λ (x : ℕ). replied x (counted set)) (sym same-first) ∙ there)
+        replied-alike (firstOf (planTests set (length cs) (length ws))) (counted set) (partsOf set) k (ap (λ (x : ℕ). replied x (counted set)) plan-later ∙ there)
         in
         let untouched : ws′ ≡ ws = w ∙ sym (ap (λ (x : Reply Counts). lent x (reducedList m (take u cs′)) ws) h) in
         subst (Ends set cs ws (Refused k) cs′) (sym untouched) (ends-refused set cs ws cs′ k refused columns-kept)
@@ -144,10 +140,9 @@ module _ (set cs cs′ ws : List ℕ) (a : Accepted set) (u : ℕ) (l : Listed s
     -- the elimination answered with r and q, and left ws′
     module _ (r q : ℕ) (ws′ : List ℕ) (h : answer (record { rank = r; q = q }) ≡ eliminationReply m (take u cs′) (length ws))
         (w : ws′ ≡ lent (eliminationReply m (take u cs′) (length ws)) (reducedList m (take u cs′)) ws) where
-      planned-both : (firstOf (eliminationTests (widthOf set) (columnsOf set) (length ws)) ≡ 0) × (record { rank = r; q = q } ≡ counted set)
-      unfolding eliminationReply counted
+      planned-both : (firstOf (later set (length ws)) ≡ 0) × (record { rank = r; q = q } ≡ counted set)
       planned-both =
-          replied-answer (firstOf (eliminationTests (widthOf set) (columnsOf set) (length ws))) (counted set) (record { rank = r; q = q }) (sym (h ∙ reply-of))
+          replied-answer (firstOf (later set (length ws))) (counted set) (record { rank = r; q = q }) (sym (h ∙ reply-of))
 
       planned-count : q ≡ length (wordsOf set)
       unfolding wordsOf counted
@@ -175,7 +170,7 @@ module _ (set cs cs′ ws : List ℕ) (a : Accepted set) (u : ℕ) (l : Listed s
 
       planned-reply : planReply set (length cs) (length ws) ≡ answer (partsOf set)
       unfolding planReply
-      planned-reply = ap (λ (x : ℕ). replied x (partsOf set)) (sym same-first ∙ planned-both .0)
+      planned-reply = ap (λ (x : ℕ). replied x (partsOf set)) (plan-later ∙ planned-both .0)
 
       pub ends-planned : (y : ℕ) → y ≡ parities (take 64 (take q ws′)) (zeroSignature set) → Ends set cs ws (Plan m q y) cs′ ws′
       unfolding expectedOf

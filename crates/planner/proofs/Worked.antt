@@ -9,12 +9,13 @@ use Rattle.word.specs.Some.{anyOf, allOf, anyBelow}
 use Rattle.numbers.specs.Bytes.{number, numberAt, wordsAt}
 use Rattle.word.specs.Parities.{parities}
 use Rattle.word.specs.Worked.{Line, agrees}
-use Rattle.elimination.specs.Reduced.{reducedList, wordsBelow, independent, made, xorRows}
+use Rattle.combinations.specs.Reduced.{reducedList, wordsBelow, independent, made, xorRows}
 use Rattle.register.specs.Circuit.{advanced, clocked}
 use Rattle.chains.specs.Driven.{driven}
 use Rattle.set_file.specs.Layout.{valueRow, markRow}
 use Rattle.signatures.specs.Signature.{runs, column}
-use Rattle.signatures.specs.Columns.{sliceColumns, columnsBelow, columnsOf, zeroSignature}
+use Rattle.signatures.specs.Columns.{sliceColumns, columnsBelow}
+use Rattle.signatures.specs.Sets.{columnsOf, zeroSignature}
 use Rattle.planner.specs.Planning.{wordsOf, expectedOf}
 
 -- the sample of document 01, 34 bytes

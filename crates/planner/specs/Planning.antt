@@ -15,11 +15,10 @@ use lib.Dec.{ltb}
 use lib.ListN.{length}
 use Rattle.word.specs.Parities.{parities}
 use Rattle.word.specs.Reply.{Test, _when_, Reply, answer, refusal, reply, lent}
-use Rattle.elimination.specs.Combination.{rank}
-use Rattle.elimination.specs.Reduced.{reducedList}
-use Rattle.elimination.specs.Elimination.{onlyEmpty}
+use Rattle.combinations.specs.Combination.{rank, onlyEmpty}
+use Rattle.combinations.specs.Reduced.{reducedList}
 use Rattle.set_file.specs.Layout.{widthOf}
-use Rattle.signatures.specs.Columns.{columnsOf, zeroSignature}
+use Rattle.signatures.specs.Sets.{columnsOf, zeroSignature}
 use Rattle.response.specs.Listing.{listTests, listReply}
 use Rattle.planner.specs.declared.Planned.{Planned}
 use Rattle.planner.specs.declared.Planned.the-variants.{Plan, Refused}

@@ -19,7 +19,8 @@ use Rattle.rows.specs.Lists.{listRow}
 use Rattle.set_file.specs.declared.SetAnswer.{SetAnswer}
 use Rattle.set_file.specs.declared.SetAnswer.the-variants.{Read, Refused}
 use Rattle.signatures.specs.Signature.{signature}
-use Rattle.signatures.specs.Columns.{columnsBelow, columnsOf, unknownsOf, recordCells}
+use Rattle.signatures.specs.Columns.{columnsBelow}
+use Rattle.signatures.specs.Sets.{columnsOf, unknownsOf, recordCells}
 use Rattle.response.specs.Signing.{spareInRecord, signTests, signReply}
 use Rattle.response.specs.Listing.{listTests, listReply}
 use Rattle.response.specs.Code.{circuit, markCells, marksBelow, rowsFrom, back}

@@ -11,7 +11,8 @@ use Rattle.rows.specs.Row.{cell}
 use Rattle.register.specs.Circuit.{Circuit, chains, advanced}
 use Rattle.signatures.specs.Signature.{Response, column}
 use Rattle.signatures.specs.Later.{later}
-use Rattle.signatures.specs.Columns.{listed, sliceColumns, columnsBelow}
+use Rattle.rows.specs.Marks.{listed}
+use Rattle.signatures.specs.Columns.{sliceColumns, columnsBelow}
 use Rattle.response.specs.Code.{circuit, markCells, chosenWords, back}
 use Rattle.signatures.proofs.ColumnLaws.{column-closed}
 use Rattle.response.proofs.PowerLaws.{later-zero}

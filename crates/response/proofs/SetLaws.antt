@@ -28,7 +28,9 @@ use Rattle.set_file.specs.declared.SetAnswer.{SetAnswer}
 use Rattle.set_file.specs.declared.SetAnswer.the-variants.{Read, Refused}
 use Rattle.set_file.proofs.Laws.{Accepted, accepted, accepted-width, accepted-chains, spread-length, mark-row-length, mark-row-clean, set-answer-none, set-answer-parts, set-refusal-first, set-answers}
 use Rattle.signatures.specs.Signature.{signature}
-use Rattle.signatures.specs.Columns.{columnsBelow, columnsOf, total, unknownsOf, zeroSignature}
+use Rattle.signatures.specs.Columns.{columnsBelow}
+use Rattle.signatures.specs.Sets.{columnsOf, unknownsOf, zeroSignature}
+use Rattle.rows.specs.Marks.{total}
 use Rattle.response.specs.Code.{circuit, valueCells, markCells, marksBelow}
 use Rattle.signatures.proofs.ColumnLaws.{length-columns-below, columns-within}
 use Rattle.marked_words.proofs.CountLaws.{total-ext, total-stops, cell-past}

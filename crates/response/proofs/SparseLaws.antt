@@ -14,7 +14,8 @@ use Rattle.chains.specs.Driven.{badSpread}
 use Rattle.chains.proofs.Laws.{good-spread}
 use Rattle.signatures.specs.Signature.{Response}
 use Rattle.signatures.specs.Later.{later}
-use Rattle.signatures.specs.Columns.{listed, columnsBelow}
+use Rattle.rows.specs.Marks.{listed}
+use Rattle.signatures.specs.Columns.{columnsBelow}
 use Rattle.response.specs.Code.{circuit, chosenWords, back, fromPowers}
 use Rattle.marked_words.proofs.BackLaws.{back-length}
 use Rattle.response.proofs.PowerLaws.{from-powers, powers-part, later-same}

@@ -29,7 +29,7 @@ use Rattle.register.specs.Circuit.{Circuit}
 use Rattle.chains.specs.Driven.{driven}
 use Rattle.set_file.specs.Layout.{valueAt, markAt}
 use Rattle.signatures.specs.Signature.{Response}
-use Rattle.signatures.specs.Columns.{listed, total}
+use Rattle.rows.specs.Marks.{listed, total}
 
 abbrev pub circuit : ℕ → ℕ → List ℕ → Circuit
 circuit m t ws = record { width = m; taps = t; spread = ws }

@@ -9,7 +9,7 @@ use Prim.Native.Nat.{ℕ}
 use lib.Dec.{ltb}
 use Rattle.word.specs.Reply.{Test, _when_, Reply, answer, refusal, reply}
 use Rattle.set_file.specs.Reading.{setTests}
-use Rattle.signatures.specs.Columns.{unknownsOf}
+use Rattle.signatures.specs.Sets.{unknownsOf}
 use Rattle.response.specs.declared.Listed.{Listed}
 use Rattle.response.specs.declared.Listed.the-variants.{Count, Declined}
 

@@ -17,7 +17,7 @@ use Rattle.set_file.specs.Layout.{circuitOf, chainsOf, slicesOf}
 use Rattle.set_file.specs.Reading.{setTests}
 use Rattle.rows.specs.Lists.{listRow}
 use Rattle.signatures.specs.Signature.{signature}
-use Rattle.signatures.specs.Columns.{recordCells}
+use Rattle.signatures.specs.Sets.{recordCells}
 use Rattle.response.specs.declared.Signed.{Signed}
 use Rattle.response.specs.declared.Signed.the-variants.{Signature, Refused}
 

@@ -7,14 +7,6 @@ use Rattle.elimination.proofs.CallLaws.{Kept, kept-of, kept-most, kept-
 use borrow.Author.Needs.{needs}
 use Rattle.elimination.proofs.eliminate.Statement.{statement}
 use Rattle.elimination.proofs.eliminate.Tie as tie
-use Rattle.elimination.proofs.eliminate.Reads as reads
-use Rattle.elimination.proofs.eliminate.Lts as lts
-use Rattle.elimination.proofs.has_column_beyond.Reads as has-column-beyond-reads
-use Rattle.elimination.proofs.reduce.Reads as reduce-reads
-use Rattle.elimination.proofs.refused.Reads as refused-reads
-use Rattle.elimination.proofs.unit_words.Reads as unit-words-reads
-use Rattle.elimination.proofs.write_front.Reads as write-front-reads
-use Rattle.word.proofs.is_bad_width.Reads as is-bad-width-reads
 
 kept : (c : tie.After-held2) → Kept (c .before .before .before .before .before .before .before .before .before .before .args .m) (now (c .before .before .before .before .before .before .before .before .before .before .args .columns)) (c .before .reduce .result)
 kept c =
@@ -85,7 +77,7 @@ write-front-requires : tie.Need-write-front-requires
 write-front-requires c κs = search needs
 
 sub-t12 : tie.Need-sub-t12
-sub-t12 c = kept-most _ _ _ (kept (c .before .before .before .before .before .before .before .before))
+sub-t12 c = omega (arith, kept-most _ _ _ (kept (c .before .before .before .before .before .before .before .before)))
 
 same-length : tie.Need-same-length
 same-length c = search needs

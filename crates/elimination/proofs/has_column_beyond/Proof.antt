@@ -5,10 +5,6 @@ use Rattle.elimination.proofs.LoopLaws.{or-all-beyond, none-beyond}
 use borrow.Author.Needs.{needs}
 use Rattle.elimination.proofs.has_column_beyond.Statement.{statement}
 use Rattle.elimination.proofs.has_column_beyond.Tie as tie
-use Rattle.elimination.proofs.has_column_beyond.Reads as reads
-use Rattle.elimination.proofs.has_column_beyond.Lts as lts
-use Rattle.elimination.proofs.or_all.Reads as or-all-reads
-use Rattle.word.proofs.is_beyond.Reads as is-beyond-reads
 
 returns : tie.Need-returns
 returns c = none-beyond _ _ (c .if1 .taken) (λ i. c .before .shared-slice-known .given i .fits)

@@ -3,13 +3,10 @@ use Prim.Native.Nat.{_-_, _/_}
 use lib.ListN.{length}
 use native.Mathlib.Nat.{mul-le-mul-left}
 use native.Mathlib.Omega.{arith}
-use Rattle.elimination.proofs.SkipLaws.{next-skipped}
+use Rattle.parity_table.proofs.SkipLaws.{next-skipped}
 use borrow.Author.Needs.{needs}
 use Rattle.elimination.proofs.next_place.Statement.{statement}
 use Rattle.elimination.proofs.next_place.Tie as tie
-use Rattle.elimination.proofs.next_place.Reads as reads
-use Rattle.elimination.proofs.next_place.Lts as lts
-use Rattle.elimination.proofs.skip_even.Reads as skip-even-reads
 
 returns : tie.Need-returns
 returns c = search needs

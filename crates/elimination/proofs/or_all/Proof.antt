@@ -7,8 +7,6 @@ use Rattle.elimination.proofs.LoopLaws.{or-start, or-turn, or-end}
 use borrow.Author.Needs.{needs}
 use Rattle.elimination.proofs.or_all.Statement.{statement}
 use Rattle.elimination.proofs.or_all.Tie as tie
-use Rattle.elimination.proofs.or_all.Reads as reads
-use Rattle.elimination.proofs.or_all.Lts as lts
 
 abbrev Inv-loop : tie.InvT-loop
 Inv-loop words all₀ i₀ all i = (i ≤ length words) × (all ≡ orBelow words i)

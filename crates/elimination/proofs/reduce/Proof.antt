@@ -8,10 +8,6 @@ use Rattle.elimination.proofs.LoopLaws.{Reduced, reduced-start, reduced
 use borrow.Author.Needs.{needs}
 use Rattle.elimination.proofs.reduce.Statement.{statement}
 use Rattle.elimination.proofs.reduce.Tie as tie
-use Rattle.elimination.proofs.reduce.Reads as reads
-use Rattle.elimination.proofs.reduce.Lts as lts
-use Rattle.elimination.proofs.add_column.Reads as add-column-reads
-use Rattle.elimination.proofs.next_place.Reads as next-place-reads
 
 abbrev Inv-loop : tie.InvT-loop
 Inv-loop held₀ columns left₀ i₀ held left i = Reduced columns held₀ held left i

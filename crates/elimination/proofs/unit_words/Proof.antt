@@ -1,15 +1,12 @@
 -- `unit_words` meets its contract: the places passed hold their bits.
 use mathlib.Core.Path.{_≡_}
 use Prim.Native.Nat.{_≤_, _-_}
-use lib.ListN.{length, take, length-set}
-use Rattle.elimination.specs.Step.{units}
+use lib.ListN.{length, take}
+use Rattle.combinations.specs.Step.{units}
 use Rattle.elimination.proofs.LoopLaws.{units-start, units-turn, units-end}
 use borrow.Author.Needs.{needs}
 use Rattle.elimination.proofs.unit_words.Statement.{statement}
 use Rattle.elimination.proofs.unit_words.Tie as tie
-use Rattle.elimination.proofs.unit_words.Reads as reads
-use Rattle.elimination.proofs.unit_words.Lts as lts
-use Rattle.elimination.proofs.no_words.Reads as no-words-reads
 
 abbrev Inv-loop : tie.InvT-loop
 Inv-loop words₀ i₀ words i = (i ≤ 64) × (length words ≡ 64) × (take i words ≡ units i)

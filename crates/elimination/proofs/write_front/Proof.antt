@@ -2,15 +2,12 @@
 use mathlib.Core.Path.{_≡_}
 use Prim.Native.Nat.{_≤_, _-_}
 use native.Mathlib.Omega.{arith}
-use lib.ListN.{length, take, length-set}
+use lib.ListN.{length, take}
 use Rattle.word.specs.Reply.{front}
-use Rattle.word.proofs.FrontLaws.{front-nothing}
 use Rattle.elimination.proofs.LoopLaws.{written-start, written-turn, written-end}
 use borrow.Author.Needs.{needs}
 use Rattle.elimination.proofs.write_front.Statement.{statement}
 use Rattle.elimination.proofs.write_front.Tie as tie
-use Rattle.elimination.proofs.write_front.Reads as reads
-use Rattle.elimination.proofs.write_front.Lts as lts
 
 abbrev Inv-loop : tie.InvT-loop
 Inv-loop words₀ from i₀ words i = (i ≤ length from) × (length words ≡ length words₀) × (words ≡ front (take i from) words₀)

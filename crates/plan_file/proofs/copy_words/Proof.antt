@@ -1,10 +1,10 @@
 -- `copy_words` meets its contract: the places passed are written.
-use mathlib.Core.Path.{_≡_}
+use mathlib.Core.Path.{_≡_, sym}
 use Prim.Native.Nat.{_≤_, _-_}
 use native.Mathlib.Omega.{arith}
 use lib.ListN.{length, take}
 use Rattle.word.specs.Reply.{front}
-use Rattle.elimination.proofs.LoopLaws.{written-start}
+use Rattle.word.proofs.FrontLaws.{front-nothing}
 use Rattle.plan_file.specs.Layout.{wordsOf}
 use Rattle.plan_file.proofs.CallLaws.{copy-turn, copy-end}
 use borrow.Author.Needs.{needs}
@@ -21,7 +21,7 @@ count-requires : tie.Need-count-requires Inv-loop μ-loop
 count-requires c κs = search needs
 
 loop-holds : tie.Need-loop-holds Inv-loop μ-loop
-loop-holds c = (search needs, search needs, written-start _)
+loop-holds c = (search needs, search needs, sym (front-nothing _))
 
 same-length : tie.Need-same-length Inv-loop μ-loop
 same-length c = search needs

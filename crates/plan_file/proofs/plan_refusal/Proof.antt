@@ -2,17 +2,14 @@
 use mathlib.Core.Path.{sym, _∙_}
 use Prim.Native.Nat.{_≤_}
 use Rattle.word.proofs.ReplyLaws.{refusals}
-use Rattle.plan_file.specs.Layout.{widthOf, countOf}
+use Rattle.plan_file.specs.Layout.{countOf}
 use Rattle.plan_file.specs.Reading.{planTests}
-use Rattle.plan_file.proofs.TestLaws.{width-good, few-words}
+use Rattle.plan_file.proofs.TestLaws.{few-words}
 use borrow.Author.Needs.{needs}
 use Rattle.plan_file.proofs.plan_refusal.Statement.{statement}
 use Rattle.plan_file.proofs.plan_refusal.Tie as tie
 
--- past 19, and past 20
-narrow : (c : tie.After-is-bad-word-list) → widthOf (c .before .before .before .before .before .before .args .plan .now) ≤ 64
-narrow c = width-good _ (sym (c .before .before .before .before .is-bad-plan-width .ensures) ∙ c .before .before .before .if1 .left) .1
-
+-- past 20
 few : (c : tie.After-is-bad-plan-end) → countOf (c .before .before .before .before .before .before .before .before .args .plan .now) ≤ 64
 few c =
     few-words _ (sym (c .before .before .before .before .before .before .is-bad-plan-width .ensures) ∙ c .before .before .before .before .before .if1 .left)
@@ -37,9 +34,7 @@ is-bad-word-list-requires c κs = search needs
 
 returns-3 : tie.Need-returns-3
 unfolding planTests
-returns-3 c =
-    let listed = c .before .is-bad-word-list .ensures (narrow (c .before)) in
-    search refusals depth 20 fits 20000
+returns-3 c = search refusals depth 20 fits 20000
 
 is-bad-plan-end-requires : tie.Need-is-bad-plan-end-requires
 is-bad-plan-end-requires c κs = search needs
@@ -47,14 +42,12 @@ is-bad-plan-end-requires c κs = search needs
 returns-4 : tie.Need-returns-4
 unfolding planTests
 returns-4 c =
-    let listed = c .before .before .before .is-bad-word-list .ensures (narrow (c .before .before .before)) in
     let ended = c .before .is-bad-plan-end .ensures (few (c .before)) in
     search refusals depth 20 fits 20000
 
 returns-5 : tie.Need-returns-5
 unfolding planTests
 returns-5 c =
-    let listed = c .before .before .before .is-bad-word-list .ensures (narrow (c .before .before .before)) in
     let ended = c .before .is-bad-plan-end .ensures (few (c .before)) in
     search refusals depth 20 fits 20000
 

@@ -1,15 +1,12 @@
 -- `write_refusal` meets its contract: one test for each number, in the order of the list.
-use Prim.Native.Nat.{_≤_}
+use mathlib.Core.Path.{ap}
+use mathlib.Core.Bool.{not}
 use Rattle.word.proofs.ReplyLaws.{refusals}
 use Rattle.plan_file.specs.Writing.{writeTests}
-use Rattle.plan_file.proofs.WriteLaws.{width-most, room-short, room-enough}
+use Rattle.plan_file.proofs.WriteLaws.{room-short, room-enough}
 use borrow.Author.Needs.{needs}
 use Rattle.plan_file.proofs.write_refusal.Statement.{statement}
 use Rattle.plan_file.proofs.write_refusal.Tie as tie
-
--- past 19
-narrow : (c : tie.After-is-no-reduced-list) → c .before .before .before .before .before .before .args .m ≤ 64
-narrow c = width-most _ _ (c .before .before .before .before .is-bad-width .ensures) (c .before .before .before .if1 .left)
 
 is-bad-width-requires : tie.Need-is-bad-width-requires
 is-bad-width-requires c κs = search needs
@@ -25,13 +22,13 @@ returns-2 : tie.Need-returns-2
 unfolding writeTests
 returns-2 c = search refusals depth 20 fits 20000
 
-is-no-reduced-list-requires : tie.Need-is-no-reduced-list-requires
-is-no-reduced-list-requires c κs = search needs
+is-reduced-requires : tie.Need-is-reduced-requires
+is-reduced-requires c κs = search needs
 
 returns-3 : tie.Need-returns-3
 unfolding writeTests
 returns-3 c =
-    let listed = c .before .is-no-reduced-list .ensures (narrow (c .before)) in
+    let listed = ap not (c .before .is-reduced .ensures) in
     search refusals depth 20 fits 20000
 
 is-beyond-requires : tie.Need-is-beyond-requires
@@ -40,7 +37,7 @@ is-beyond-requires c κs = search needs
 returns-4 : tie.Need-returns-4
 unfolding writeTests
 returns-4 c =
-    let listed = c .before .before .before .is-no-reduced-list .ensures (narrow (c .before .before .before)) in
+    let listed = ap not (c .before .before .before .is-reduced .ensures) in
     search refusals depth 20 fits 20000
 
 plan-length-requires : tie.Need-plan-length-requires
@@ -49,14 +46,14 @@ plan-length-requires c κs = search needs
 returns-5 : tie.Need-returns-5
 unfolding writeTests
 returns-5 c =
-    let listed = c .before .before .before .before .before .is-no-reduced-list .ensures (narrow (c .before .before .before .before .before)) in
+    let listed = ap not (c .before .before .before .before .before .is-reduced .ensures) in
     let short = room-short _ _ _ (c .before .plan-length .ensures) (c .if5 .taken) in
     search refusals depth 20 fits 20000
 
 returns-6 : tie.Need-returns-6
 unfolding writeTests
 returns-6 c =
-    let listed = c .before .before .before .before .before .is-no-reduced-list .ensures (narrow (c .before .before .before .before .before)) in
+    let listed = ap not (c .before .before .before .before .before .is-reduced .ensures) in
     let enough = room-enough _ _ _ (c .before .plan-length .ensures) (c .if5 .left) in
     search refusals depth 20 fits 20000
 
@@ -68,7 +65,7 @@ write-refusal-spec =
     returns
     is-bad-word-count-requires
     returns-2
-    is-no-reduced-list-requires
+    is-reduced-requires
     returns-3
     is-beyond-requires
     returns-4

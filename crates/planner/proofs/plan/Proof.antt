@@ -7,16 +7,6 @@ use Rattle.planner.proofs.CallLaws.{told, answered, expected-from, plan
 use borrow.Author.Needs.{needs}
 use Rattle.planner.proofs.plan.Statement.{statement}
 use Rattle.planner.proofs.plan.Tie as tie
-use Rattle.planner.proofs.plan.Reads as reads
-use Rattle.planner.proofs.plan.Lts as lts
-use Rattle.elimination.proofs.eliminate.Reads as eliminate-reads
-use Rattle.elimination.proofs.number_of.Reads as number-of-reads
-use Rattle.response.proofs.count_unknowns.Reads as count-unknowns-reads
-use Rattle.response.proofs.fill_columns.Reads as fill-columns-reads
-use Rattle.response.proofs.zero_signature.Reads as zero-signature-reads
-use Rattle.set_file.proofs.number_of.Reads as number-of-reads′
-use Rattle.set_file.proofs.read_set.Reads as read-set-reads
-use Rattle.word.proofs.word_parities.Reads as word-parities-reads
 
 read-set-requires : tie.Need-read-set-requires
 read-set-requires c κs = search needs

@@ -1,0 +1,9 @@
+pub mod XFree
+pub mod Agreeing
+pub mod StepLaws
+pub mod Tops
+pub mod Units
+pub mod Listed
+pub mod Reducing
+pub mod Passing
+pub mod Theorems

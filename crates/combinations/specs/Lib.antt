@@ -1,0 +1,4 @@
+pub mod Combination
+pub mod Reduced
+pub mod Pass
+pub mod Step

@@ -1,0 +1,60 @@
+-- `is_reduced` meets its contract: what is left of the pass decides.
+use Prim.Native.Nat.{_≤_, _-_}
+use lib.ListN.{length}
+use Rattle.combinations.proofs.Theorems.{Passed, passed-start, passed-turn, passed-stop, passed-end}
+use borrow.Author.Needs.{needs}
+use Rattle.reduced_list.proofs.is_reduced.Statement.{statement}
+use Rattle.reduced_list.proofs.is_reduced.Tie as tie
+
+abbrev Inv-loop : tie.InvT-loop
+Inv-loop m words last₀ seen₀ i₀ last seen i = (i ≤ length words) × Passed m words last seen i
+
+abbrev μ-loop : tie.MeasureT-loop
+μ-loop m words last₀ seen₀ i₀ last seen i = length words - i
+
+loop-holds : tie.Need-loop-holds Inv-loop μ-loop
+loop-holds c = (search needs, passed-start _ _)
+
+mul-w : tie.Need-mul-w Inv-loop μ-loop
+mul-w c = search needs
+
+shared-slice-read-w : tie.Need-shared-slice-read-w Inv-loop μ-loop
+shared-slice-read-w c = search needs
+
+is-next-requires : tie.Need-is-next-requires Inv-loop μ-loop
+is-next-requires c κs = search needs
+
+returns : tie.Need-returns Inv-loop μ-loop
+returns c = passed-stop _ _ (λ i. c .before .before .before .before .before .shared-slice-known .given i .fits) _ _ _ _ (c .before .before .before .before .loop .inv .1) (search needs) (c .before .is-next .ensures) (c .if1 .taken)
+
+with-highest-requires : tie.Need-with-highest-requires Inv-loop μ-loop
+with-highest-requires c κs = search needs
+
+add-i : tie.Need-add-i Inv-loop μ-loop
+add-i c = search needs
+
+loop-less : tie.Need-loop-less Inv-loop μ-loop
+loop-less c = search needs
+
+loop-again : tie.Need-loop-again Inv-loop μ-loop
+loop-again c = (search needs, passed-turn _ _ _ _ _ _ _ (c .before .before .before .before .before .loop .inv .1) (search needs) (c .before .before .is-next .ensures) (c .before .if1 .left) (c .with-highest .ensures))
+
+returns-2 : tie.Need-returns-2 Inv-loop μ-loop
+returns-2 c = passed-end _ _ (λ i. c .before .before .shared-slice-known .given i .fits) _ _ _ (c .before .loop .inv .1) (search needs)
+
+pub is-reduced-spec : {M : Type 1} → statement M
+is-reduced-spec =
+    tie.close
+    (tie.spec
+    Inv-loop
+    μ-loop
+    loop-holds
+    mul-w
+    shared-slice-read-w
+    is-next-requires
+    returns
+    with-highest-requires
+    add-i
+    loop-less
+    loop-again
+    returns-2)

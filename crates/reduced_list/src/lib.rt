@@ -1,0 +1,51 @@
+// Whether some words are a reduced list, and whether they are as many as a plan can have. It sees words and combinations.
+ghost use mathlib.Core.Path.{_≡_};
+ghost use Rattle.combinations.specs.Pass.{follows, withTop};
+ghost use Rattle.combinations.specs.Reduced.{isReduced};
+ghost use Rattle.reduced_list.specs.WordCount.{badWordCount};
+
+// Whether the word w can follow the word `last` in a reduced list for m, where `seen` holds the earlier words' highest bits.
+pub fn is_next(m: u64, last: u64, seen: u64, w: u64) -> bool
+    ensures { λ r. ⌜ r ≡ follows m last seen w ⌝ }
+{
+    if w <= last {
+        return false;
+    }
+    if word::is_beyond(m, w) {
+        return false;
+    }
+    seen & w == 0
+}
+
+// The bits `seen`, with w's highest bit.
+pub fn with_highest(seen: u64, w: u64) -> u64
+    ensures { λ r. ⌜ r ≡ withTop seen w ⌝ }
+{
+    seen | (1u64 << word::highest_bit(w))
+}
+
+// Whether the words are a reduced list for m, by one pass over them (combinations/proofs/Theorems.antt, reduced-exactly).
+pub fn is_reduced(m: u64, words: &[u64]) -> bool
+    ensures { λ r. ⌜ r ≡ isReduced m (now (words .entry)) ⌝ }
+{
+    let mut last: u64 = 0;
+    let mut seen: u64 = 0;
+    let mut i: usize = 0;
+    while i < words.len() {
+        let w = words[i];
+        if !is_next(m, last, seen, w) {
+            return false;
+        }
+        seen = with_highest(seen, w);
+        last = w;
+        i += 1;
+    }
+    true
+}
+
+// Whether a plan for m can't have q words: none, or more than m.
+pub fn is_bad_word_count(m: u64, q: u64) -> bool
+    ensures { λ r. ⌜ r ≡ badWordCount m q ⌝ }
+{
+    (q < 1) | (m < q)
+}
