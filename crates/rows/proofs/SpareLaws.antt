@@ -14,7 +14,7 @@ use Rattle.word.specs.Word.{digit}
 use Rattle.word.specs.Some.{anyBelow}
 use Rattle.word.proofs.Laws.{bit-cases, mod2-lt}
 use Rattle.word.proofs.SomeLaws.{any-below-ext}
-use Rattle.word.proofs.BoolLaws.{or-true-right, or-off}
+use Rattle.word.proofs.BoolLaws.{or-true-right, or-none}
 use Rattle.rows.specs.Row.{rowBytes, cell, spareSet}
 use Rattle.word.proofs.WordLaws.{below-top}
 
@@ -32,7 +32,7 @@ any-digit (suc i) w h =
     (bit-cases (digit i w) (mod2-lt (w / 2 ^ i)))
   where
     clear : anyBelow i (λ k. eqb (digit k w) 1) ≡ not (eqb w 0) → (anyBelow i (λ k. eqb (digit k w) 1) || false) ≡ not (eqb w 0)
-    clear ih = or-off (anyBelow i (λ k. eqb (digit k w) 1)) ∙ ih
+    clear ih = or-none (anyBelow i (λ k. eqb (digit k w) 1)) ∙ ih
 
     set : digit i w ≡ 1 → (anyBelow i (λ k. eqb (digit k w) 1) || true) ≡ not (eqb w 0)
     set d = or-true-right (anyBelow i (λ k. eqb (digit k w) 1)) true refl ∙ sym (ap not (ne-eqb w 0 (λ (z : w ≡ 0). not-clear i w z d)))

@@ -12,7 +12,7 @@ use lib.Dec.{eqb}
 use lib.ListN.{length, getD, length-append}
 use Rattle.word.specs.Word.{beyond}
 use Rattle.word.specs.Some.{anyOf}
-use Rattle.word.proofs.BoolLaws.{or-false, and-off}
+use Rattle.word.proofs.BoolLaws.{or-false, and-none}
 use Rattle.word.proofs.SomeLaws.{any-of-append}
 use Rattle.word.proofs.WordLaws.{not-beyond}
 use Rattle.rows.specs.Marks.{listed, total}
@@ -41,7 +41,7 @@ pub only-cell-other-slice : (t c u d : ℕ) → (u ≡ t → ⊥) → onlyCell t
 only-cell-other-slice t c u d h = rw (ne-eqb u t h)
 
 pub only-cell-other-chain : (t c u d : ℕ) → (d ≡ c → ⊥) → onlyCell t c u d ≡ 0
-only-cell-other-chain t c u d h = rw (ne-eqb d c h, and-off (eqb u t))
+only-cell-other-chain t c u d h = rw (ne-eqb d c h, and-none (eqb u t))
 
 pub only-cell-same : (t c : ℕ) → onlyCell t c t c ≡ 1
 only-cell-same t c = rw (eq-eqb t t refl, eq-eqb c c refl)

@@ -18,7 +18,7 @@ use borrow.Author.Tests.{eq-eqb, ne-eqb, lt-ltb, le-ltb}
 use lib.Bits.{bitXor, xor-zero-r, xor-self}
 use lib.Dec.{eqb, ltb}
 use Rattle.word.specs.Span.{isXorOf}
-use Rattle.word.proofs.BoolLaws.{and-off}
+use Rattle.word.proofs.BoolLaws.{and-none}
 use Rattle.word.proofs.Laws.{mod2-lt, xor-assoc, xor-cancel, xor-zero-eq}
 use Rattle.word.proofs.SpanLaws.{xor-of-zero, xor-of-head, xor-of-nil, xor-of-join, xor-of-split, xor-of-left, xor-of-one}
 use Rattle.rows.specs.Marks.{listed}
@@ -106,7 +106,7 @@ module _ (x y : Response) where
   -- nothing is up to the first place
   up-to-none : (v d : ℕ) → upTo 0 0 x y v d ≡ y v d
   unfolding within
-  up-to-none v d = outside 0 0 v d (rw (le-ltb v 0 (omega arith), le-ltb d 0 (omega arith)) (and-off (eqb v 0)))
+  up-to-none v d = outside 0 0 v d (rw (le-ltb v 0 (omega arith), le-ltb d 0 (omega arith)) (and-none (eqb v 0)))
 
   -- everything is up to the place after the last slice
   up-to-all : (s v d : ℕ) → v < s → upTo s 0 x y v d ≡ x v d

@@ -54,10 +54,10 @@ pub or-true-right : (a b : Bool) → b ≡ true → (a || b) ≡ true
 or-true-right true b h = refl
 or-true-right false b h = h
 
-pub and-off : (b : Bool) → (b && false) ≡ false
-and-off true = refl
-and-off false = refl
+pub or-none : (b : Bool) → (b || false) ≡ b
+or-none true = refl
+or-none false = refl
 
-pub or-off : (b : Bool) → (b || false) ≡ b
-or-off true = refl
-or-off false = refl
+pub and-none : (b : Bool) → (b && false) ≡ false
+and-none true = refl
+and-none false = refl
