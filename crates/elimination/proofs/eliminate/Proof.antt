@@ -44,8 +44,8 @@ slice-aggregate-reduce c = sym (length-take-le _ _ (width-inside _ _ _ (c .befor
 reduce-requires : tie.Need-reduce-requires
 reduce-requires c κs = search needs
 
-sub-if3 : tie.Need-sub-if3
-sub-if3 c = kept-most _ _ _ (kept c)
+sub-rank : tie.Need-sub-rank
+sub-rank c = kept-most _ _ _ (kept c)
 
 refused-requires-3 : tie.Need-refused-requires-3
 refused-requires-3 c κs = search needs
@@ -76,9 +76,6 @@ slice-aggregate-write-front c =
 write-front-requires : tie.Need-write-front-requires
 write-front-requires c κs = search needs
 
-sub-t12 : tie.Need-sub-t12
-sub-t12 c = omega (arith, kept-most _ _ _ (kept (c .before .before .before .before .before .before .before .before)))
-
 same-length : tie.Need-same-length
 same-length c = search needs
 
@@ -102,7 +99,7 @@ eliminate-spec =
     array-borrow-prefix-held
     slice-aggregate-reduce
     reduce-requires
-    sub-if3
+    sub-rank
     refused-requires-3
     returns-3
     refused-requires-4
@@ -112,6 +109,5 @@ eliminate-spec =
     array-share-prefix-held
     slice-aggregate-write-front
     write-front-requires
-    sub-t12
     same-length
     returns-6)
