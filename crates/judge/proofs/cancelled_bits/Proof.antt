@@ -7,22 +7,19 @@ use Rattle.judge.proofs.cancelled_bits.Statement.{statement}
 use Rattle.judge.proofs.cancelled_bits.Tie as tie
 
 abbrev Inv-loop : tie.InvT-loop
-Inv-loop plan signature q bits₀ i₀ bits i = Cancelled plan signature q bits i
+Inv-loop plan q signature bits₀ i₀ bits i = Cancelled plan signature q bits i
 
 abbrev μ-loop : tie.MeasureT-loop
-μ-loop plan signature q bits₀ i₀ bits i = i
-
-count-requires : tie.Need-count-requires Inv-loop μ-loop
-count-requires c κs = search needs
-
-cast-q : tie.Need-cast-q Inv-loop μ-loop
-cast-q c = search needs
+μ-loop plan q signature bits₀ i₀ bits i = i
 
 returns : tie.Need-returns Inv-loop μ-loop
-returns c = λ h. let z : ⊥ = omega (arith, c .before .count .ensures .0) in absurd z
+returns c = λ h. let z : ⊥ = omega arith in absurd z
+
+cast-i : tie.Need-cast-i Inv-loop μ-loop
+cast-i c = search needs
 
 loop-holds : tie.Need-loop-holds Inv-loop μ-loop
-loop-holds c = cancelled-start _ _ _ (c .before .count .ensures .0) (c .if1 .left)
+loop-holds c = cancelled-start _ _ _ (c .if1 .left)
 
 sub-i : tie.Need-sub-i Inv-loop μ-loop
 sub-i c = search needs
@@ -37,7 +34,7 @@ shared-parity-requires : tie.Need-shared-parity-requires Inv-loop μ-loop
 shared-parity-requires c κs = search needs
 
 add-bits : tie.Need-add-bits Inv-loop μ-loop
-add-bits c = omega (arith, cancelled-room _ _ _ _ _ (c .before .before .before .loop .inv) (search needs), c .shared-parity .ensures, parity-lt (c .before .plan-word .result) (c .before .before .before .before .before .before .before .args .signature))
+add-bits c = omega (arith, cancelled-room _ _ _ _ _ (c .before .before .before .loop .inv) (search needs), c .shared-parity .ensures, parity-lt (c .before .plan-word .result) (c .before .before .before .before .before .before .args .signature))
 
 loop-less : tie.Need-loop-less Inv-loop μ-loop
 loop-less c = search needs
@@ -54,9 +51,8 @@ cancelled-bits-spec =
     (tie.spec
     Inv-loop
     μ-loop
-    count-requires
-    cast-q
     returns
+    cast-i
     loop-holds
     sub-i
     mul-bits

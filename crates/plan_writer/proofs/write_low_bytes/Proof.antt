@@ -5,10 +5,10 @@ use native.Mathlib.Omega.{arith}
 use lib.ListN.{length}
 use lib.Seq.{sets}
 use Rattle.word.specs.Bytes.{bytesOf}
-use Rattle.plan_file.proofs.WriteLaws.{bytes-start, bytes-turn, bytes-end}
+use Rattle.plan_writer.proofs.WriteLaws.{bytes-start, bytes-turn, bytes-end}
 use borrow.Author.Needs.{needs}
-use Rattle.plan_file.proofs.write_low_bytes.Statement.{statement}
-use Rattle.plan_file.proofs.write_low_bytes.Tie as tie
+use Rattle.plan_writer.proofs.write_low_bytes.Statement.{statement}
+use Rattle.plan_writer.proofs.write_low_bytes.Tie as tie
 
 abbrev Inv-loop : tie.InvT-loop
 Inv-loop out₀ at n x rest₀ i₀ out rest i = (i ≤ n) × (at + n ≤ length out₀) × (length out ≡ length out₀) × (sets out (at + i) (bytesOf (n - i) rest) ≡ sets out₀ at (bytesOf n x))

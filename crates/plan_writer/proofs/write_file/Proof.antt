@@ -1,8 +1,8 @@
 -- `write_file` meets its contract: the parts one after the other are the file.
-use Rattle.plan_file.proofs.WriteLaws.{parts-written}
+use Rattle.plan_writer.proofs.WriteLaws.{parts-written}
 use borrow.Author.Needs.{needs}
-use Rattle.plan_file.proofs.write_file.Statement.{statement}
-use Rattle.plan_file.proofs.write_file.Tie as tie
+use Rattle.plan_writer.proofs.write_file.Statement.{statement}
+use Rattle.plan_writer.proofs.write_file.Tie as tie
 
 write-count-requires : tie.Need-write-count-requires
 write-count-requires c κs = search needs

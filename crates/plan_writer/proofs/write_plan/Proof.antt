@@ -1,8 +1,8 @@
 -- `write_plan` meets its contract: each way out by its law.
-use Rattle.plan_file.proofs.WriteLaws.{ends-refused, ends-written}
+use Rattle.plan_writer.proofs.WriteLaws.{ends-refused, ends-written}
 use borrow.Author.Needs.{needs}
-use Rattle.plan_file.proofs.write_plan.Statement.{statement}
-use Rattle.plan_file.proofs.write_plan.Tie as tie
+use Rattle.plan_writer.proofs.write_plan.Statement.{statement}
+use Rattle.plan_writer.proofs.write_plan.Tie as tie
 
 write-refusal-requires : tie.Need-write-refusal-requires
 write-refusal-requires c κs = search needs
