@@ -51,8 +51,6 @@ pub fn judge(plan: &[u8], signature: u64) -> Judged
     if differing == 0 {
         return Judged::Passes { cancelled };
     }
-    Judged::Fails {
-        cancelled,
-        index: u64::trailing_zeros(differing) as u64,
-    }
+    let index = u64::trailing_zeros(differing) as u64;
+    Judged::Fails { cancelled, index }
 }

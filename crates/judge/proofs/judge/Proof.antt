@@ -41,8 +41,8 @@ returns-3 c =
     let within = c .before .before .if1 .left in
     judged-passes _ _ _ checked _ _ _ sound _ (c .before .before .before .is-beyond .ensures) within _ (c .before .cancelled-bits .ensures) (c .if2 .taken)
 
-cast-t13 : tie.Need-cast-t13
-cast-t13 c =
+cast-index : tie.Need-cast-index
+cast-index c =
     let expected = c .before .before .before .before .before .checked .given .0 .1 .1 .0 in
     omega (arith, trailing-le 64 (bitXor (c .before .cancelled-bits .result) expected))
 
@@ -66,5 +66,5 @@ judge-spec =
     returns-2
     cancelled-bits-requires
     returns-3
-    cast-t13
+    cast-index
     returns-4)
