@@ -34,7 +34,9 @@ shared-parity-requires : tie.Need-shared-parity-requires Inv-loop μ-loop
 shared-parity-requires c κs = search needs
 
 add-bits : tie.Need-add-bits Inv-loop μ-loop
-add-bits c = omega (arith, cancelled-room _ _ _ _ _ (c .before .before .before .loop .inv) (search needs), c .shared-parity .ensures, parity-lt (c .before .plan-word .result) (c .before .before .before .before .before .before .args .signature))
+add-bits c =
+    let signature = c .before .before .before .before .before .before .args .signature in
+    omega (arith, cancelled-room _ _ _ _ _ (c .before .before .before .loop .inv) (search needs), c .shared-parity .ensures, parity-lt (c .before .plan-word .result) signature)
 
 loop-less : tie.Need-loop-less Inv-loop μ-loop
 loop-less c = search needs

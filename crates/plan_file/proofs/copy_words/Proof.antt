@@ -48,11 +48,12 @@ loop-less : tie.Need-loop-less Inv-loop μ-loop
 loop-less c = search needs
 
 loop-again : tie.Need-loop-again Inv-loop μ-loop
-loop-again c = (
-  search needs,
-  search needs,
-  copy-turn _ _ _ _ _ _ (c .before .before .before .loop .inv .2) (c .before .before .before .before .count .ensures .0) (search needs) (search needs) (c .plan-word .ensures),
-)
+loop-again c =
+    let counted = c .before .before .before .before .count .ensures .0 in (
+      search needs,
+      search needs,
+      copy-turn _ _ _ _ _ _ (c .before .before .before .loop .inv .2) counted (search needs) (search needs) (c .plan-word .ensures),
+    )
 
 same-length-2 : tie.Need-same-length-2 Inv-loop μ-loop
 same-length-2 c = search needs

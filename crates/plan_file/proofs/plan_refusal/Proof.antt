@@ -12,8 +12,11 @@ use Rattle.plan_file.proofs.plan_refusal.Tie as tie
 -- past 20
 few : (c : tie.After-is-bad-plan-end) → fileCount (c .before .before .before .before .before .before .before .before .args .plan .now) ≤ 64
 few c =
-    few-words _ (sym (c .before .before .before .before .before .before .is-bad-plan-width .ensures) ∙ c .before .before .before .before .before .if1 .left)
-    (sym (c .before .before .before .before .is-bad-plan-count .ensures) ∙ c .before .before .before .if2 .left)
+    let width-test = c .before .before .before .before .before .before .is-bad-plan-width .ensures in
+    let width-taken = c .before .before .before .before .before .if1 .left in
+    let count-test = c .before .before .before .before .is-bad-plan-count .ensures in
+    few-words _ (sym width-test ∙ width-taken)
+    (sym count-test ∙ c .before .before .before .if2 .left)
 
 is-bad-plan-width-requires : tie.Need-is-bad-plan-width-requires
 is-bad-plan-width-requires c κs = search needs

@@ -39,7 +39,11 @@ same-length c = search needs
 
 returns : tie.Need-returns
 returns c =
-    parts-written _ _ _ _ _ _ _ _ _ (c .before .before .before .before .before .before .before .before .before .before .before .before .before .before .before .before .before .before .write-count .ensures) (c .before .before .before .before .before .before .before .before .before .before .before .before .before .before .write-count2 .ensures) (c .before .before .before .before .before .before .before .before .before .before .write-words .ensures) (c .before .before .before .before .before .before .write-count3 .ensures) (c .before .before .write-low-bytes .ensures)
+    let width-written = c .before .before .before .before .before .before .before .before .before .before .before .before .before .before .before .before .before .before .write-count .ensures in
+    let count-written = c .before .before .before .before .before .before .before .before .before .before .before .before .before .before .write-count2 .ensures in
+    let words-written = c .before .before .before .before .before .before .before .before .before .before .write-words .ensures in
+    let again-written = c .before .before .before .before .before .before .write-count3 .ensures in
+    parts-written _ _ _ _ _ _ _ _ _ width-written count-written words-written again-written (c .before .before .write-low-bytes .ensures)
 
 pub write-file-spec : {M : Type 1} → statement M
 write-file-spec =

@@ -44,12 +44,13 @@ loop-less : tie.Need-loop-less Inv-loop μ-loop
 loop-less c = search needs
 
 loop-again : tie.Need-loop-again Inv-loop μ-loop
-loop-again c = (
-  search needs,
-  search needs,
-  search needs,
-  bytes-turn _ _ _ _ _ _ _ _ (search needs) (c .before .before .before .before .before .loop .inv .3) (c .before .before .write-byte .ensures),
-)
+loop-again c =
+    let so-far = c .before .before .before .before .before .loop .inv .3 in (
+      search needs,
+      search needs,
+      search needs,
+      bytes-turn _ _ _ _ _ _ _ _ (search needs) so-far (c .before .before .write-byte .ensures),
+    )
 
 same-length : tie.Need-same-length Inv-loop μ-loop
 same-length c = search needs

@@ -20,7 +20,10 @@ same-length : tie.Need-same-length
 same-length c = search needs
 
 returns-2 : tie.Need-returns-2
-returns-2 c = ends-written _ _ _ _ _ (c .before .before .before .before .before .before .write-refusal .ensures) (c .before .before .before .before .before .if1 .left) (c .before .before .before .write-file .ensures) (c .plan-length .ensures)
+returns-2 c =
+    let number = c .before .before .before .before .before .before .write-refusal .ensures in
+    let none = c .before .before .before .before .before .if1 .left in
+    ends-written _ _ _ _ _ number none (c .before .before .before .write-file .ensures) (c .plan-length .ensures)
 
 pub write-plan-spec : {M : Type 1} → statement M
 write-plan-spec =
