@@ -100,20 +100,21 @@ module _ (plan : List ℕ) (y : ℕ) (c : PlanCheck) (h : saidChecked c ≡ plan
     same-width : b ≡ beyond (fileWidth plan) y
     same-width = eb ∙ ap (λ (p : PlanFileParts). beyond (p .m) y) (sound .1)
 
+    -- a sound plan has at most 64 words
+    pub sound-few : q ≤ 64
+    sound-few =
+        let count : q ≡ fileCount plan = ap (λ (p : PlanFileParts). p .q) (sound .1) in
+        omega (arith, sound .0 .width-most, sound .0 .count-most)
+
     pub judged-beyond : b ≡ true → refusal 23 ≡ judgeReply plan y
     judged-beyond t = sym (rw (sym same-width ∙ t) at sound .2)
 
-    module _ (within : b ≡ false) (bits : ℕ) (eq : q ≤ 64 → bits ≡ parities (words plan q) y) where
+    module _ (within : b ≡ false) (bits : ℕ) (eq : bits ≡ parities (words plan q) y) where
       judged-answer : judgeReply plan y ≡ answer (finding plan y)
       judged-answer = rw (sym same-width ∙ within) at sound .2
 
-      few : q ≤ 64
-      few =
-          let count : q ≡ fileCount plan = ap (λ (p : PlanFileParts). p .q) (sound .1) in
-          omega (arith, sound .0 .width-most, sound .0 .count-most)
-
       cancelled : bits ≡ parities (fileWords plan) y
-      cancelled = eq few ∙ ap (λ (p : PlanFileParts). parities (words plan (p .q)) y) (sound .1)
+      cancelled = eq ∙ ap (λ (p : PlanFileParts). parities (words plan (p .q)) y) (sound .1)
 
       wanted : e ≡ fileExpected plan
       wanted = ap (λ (p : PlanFileParts). p .expected) (sound .1)

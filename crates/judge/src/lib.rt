@@ -15,13 +15,11 @@ pub enum Judged {
     Refused { number: u64 },
 }
 
-// The cancelled bits of the first q words of a plan, at most 64, from the last word to the first, each read where it stands.
+// The cancelled bits of the first q words of a plan, from the last word to the first, each read where it stands.
 fn cancelled_bits(plan: &[u8], q: u64, signature: u64) -> u64
-    ensures { λ r. ⌜ (q ≤ 64 → r ≡ parities (wordsAt (now (plan .entry)) wordsPlace q) signature) ⌝ }
+    requires { ⌜ q ≤ 64 ⌝ }
+    ensures { λ r. ⌜ r ≡ parities (wordsAt (now (plan .entry)) wordsPlace q) signature ⌝ }
 {
-    if 64 < q {
-        return 0;
-    }
     let mut bits: u64 = 0;
     let mut i = q as u16;
     while 0 < i {
