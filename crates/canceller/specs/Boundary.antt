@@ -19,7 +19,7 @@ use Rattle.set_file.specs.Reading.{SetParts}
 use Rattle.set_file.specs.Rows.{Stretch}
 use Rattle.elimination.specs.Elimination.{Counts}
 use Rattle.planner.specs.Planning.{PlanParts}
-use Rattle.plan_file.specs.Reading.{PlanParts as ReadParts}
+use Rattle.plan_file.specs.Checking.{PlanFileParts}
 use Rattle.judge.specs.Verdict.{Outcome, passes, failsAt, Finding}
 use Rattle.register.specs.declared.Register.{Register}
 use Rattle.canceller.specs.declared.CSet.{CSet}
@@ -67,7 +67,7 @@ abbrev pub plannedOf : Reply PlanParts → CPlanned
 plannedOf (answer p) = record { refusal = 0; m = p .m; q = p .q; expected = p .expected }
 plannedOf (refusal k) = record { refusal = k; m = 0; q = 0; expected = 0 }
 
-abbrev pub readOf : Reply ReadParts → CPlanned
+abbrev pub readOf : Reply PlanFileParts → CPlanned
 readOf (answer p) = record { refusal = 0; m = p .m; q = p .q; expected = p .expected }
 readOf (refusal k) = record { refusal = k; m = 0; q = 0; expected = 0 }
 

@@ -12,9 +12,9 @@ ghost use Rattle.set_file.specs.Writing.{contentOf as setContent, writeReply as
 ghost use Rattle.signatures.specs.Sets.{columnsOf};
 ghost use Rattle.response.specs.Signing.{signReply, saidSigned};
 ghost use Rattle.response.specs.Listing.{listReply, saidListed};
-ghost use Rattle.plan_file.specs.Layout.{wordsOf as planWords};
-ghost use Rattle.plan_file.specs.Reading.{planReply as readReply, said as saidRead};
-ghost use Rattle.plan_file.specs.Writing.{contentOf as planContent, writeReply as planWriteReply, planBytes, saidWritten as saidPlanWritten};
+ghost use Rattle.plan_file.specs.Layout.{fileWords};
+ghost use Rattle.plan_file.specs.Reading.{planFileReply, said as saidRead};
+ghost use Rattle.plan_writer.specs.Writing.{planContent, planBytes, planWriteReply, said as saidPlanWritten};
 ghost use Rattle.planner.specs.Planning.{wordsOf, planReply, columnsAfter, said as saidPlanned};
 ghost use Rattle.judge.specs.Verdict.{judgeReply, said as saidJudged};
 ghost use Rattle.canceller.specs.Boundary.{setOf, stretchOf, writtenOf, registerOf, clockedOf, signedOf, listedOf, eliminatedOf, plannedOf, readOf, judgedOf};
@@ -328,15 +328,15 @@ pub extern "C" fn canceller_plan(set: &[u8], columns: &mut [u64], words: &mut [u
     planned_of(planner::plan(set, columns, words))
 }
 
-fn plan_written_of(written: plan_file::Written) -> CWritten
+fn plan_written_of(written: plan_writer::Written) -> CWritten
     ensures { λ r. ⌜ r ≡ writtenOf (saidPlanWritten written) ⌝ }
 {
     match written {
-        plan_file::Written::Done { length } => CWritten {
+        plan_writer::Written::Done { length } => CWritten {
             refusal: 0,
             length: length as u64,
         },
-        plan_file::Written::Refused { number } => CWritten {
+        plan_writer::Written::Refused { number } => CWritten {
             refusal: number,
             length: 0,
         },
@@ -354,7 +354,7 @@ pub extern "C" fn canceller_write_plan(
     ensures answer { λ r. ⌜ r ≡ writtenOf (planWriteReply (planContent m (now (words .entry)) expected) (length (now (out .entry)))) ⌝ }
     ensures file { λ _. ⌜ now (out .exit) ≡ lent (planWriteReply (planContent m (now (words .entry)) expected) (length (now (out .entry)))) (planBytes (planContent m (now (words .entry)) expected)) (now (out .entry)) ⌝ }
 {
-    plan_written_of(plan_file::write_plan(m, words, expected, out))
+    plan_written_of(plan_writer::write_plan(m, words, expected, out))
 }
 
 fn read_of(read: PlanAnswer) -> CPlanned
@@ -379,8 +379,8 @@ fn read_of(read: PlanAnswer) -> CPlanned
 // The plan reader. Meets 19 to 22 and then 18; the words over the front of the list.
 #[no_mangle]
 pub extern "C" fn canceller_read_plan(plan: &[u8], words: &mut [u64]) -> CPlanned
-    ensures answer { λ r. ⌜ r ≡ readOf (readReply (now (plan .entry)) (length (now (words .entry)))) ⌝ }
-    ensures list { λ _. ⌜ now (words .exit) ≡ lent (readReply (now (plan .entry)) (length (now (words .entry)))) (planWords (now (plan .entry))) (now (words .entry)) ⌝ }
+    ensures answer { λ r. ⌜ r ≡ readOf (planFileReply (now (plan .entry)) (length (now (words .entry)))) ⌝ }
+    ensures list { λ _. ⌜ now (words .exit) ≡ lent (planFileReply (now (plan .entry)) (length (now (words .entry)))) (fileWords (now (plan .entry))) (now (words .entry)) ⌝ }
 {
     read_of(plan_file::read_plan(plan, words))
 }

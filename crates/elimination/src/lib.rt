@@ -136,7 +136,8 @@ pub fn eliminate(m: u64, columns: &[u64], words: &mut [u64]) -> Eliminated
     let width = m as usize;
     let mut held = unit_words();
     let q = reduce(&mut held[..width], columns);
-    if width < width - q {
+    let rank = width - q;
+    if width < rank {
         return refused(16);
     }
     if q == 0 {
@@ -147,7 +148,7 @@ pub fn eliminate(m: u64, columns: &[u64], words: &mut [u64]) -> Eliminated
     }
     write_front(words, &held[..q]);
     Eliminated::Done {
-        rank: (width - q) as u64,
+        rank: rank as u64,
         q: q as u64,
     }
 }

@@ -23,8 +23,8 @@ use Rattle.response.specs.Listing.{listTests}
 use Rattle.response.proofs.SetLaws.{columns-of-within}
 use Rattle.planner.specs.Planning.{wordsOf, expectedOf, planTests, PlanParts, partsOf, planReply}
 use Rattle.planner.proofs.CallLaws.{list-numbered}
-use Rattle.plan_file.specs.Writing.{contentOf, planBytes}
-use Rattle.plan_file.proofs.RoundTrip.{Content}
+use Rattle.plan_writer.specs.Writing.{planContent, planBytes}
+use Rattle.plan_writer.proofs.Parts.{Content}
 use Rattle.guarantee.specs.Demand.{planFile}
 
 -- ---- lists of tests
@@ -123,7 +123,7 @@ module _ (set : List ℕ) (k l : ℕ) (p : PlanParts) (h : planReply set k l ≡
       (omega arith, omega (arith, words-and-rank (widthOf set) (columnsOf set) (columns-of-within set planned-accepted)))
 
   -- the plan writer takes m, the words and the expected bits
-  pub planned-content : Content (contentOf (widthOf set) (wordsOf set) (expectedOf set))
+  pub planned-content : Content (planContent (widthOf set) (wordsOf set) (expectedOf set))
   unfolding wordsOf expectedOf
   planned-content =
       record {
@@ -136,6 +136,6 @@ module _ (set : List ℕ) (k l : ℕ) (p : PlanParts) (h : planReply set k l ≡
       }
 
   -- planning's plan file is that of m, the words and the expected bits of the set
-  pub planned-file : planFile set p ≡ planBytes (contentOf (widthOf set) (wordsOf set) (expectedOf set))
+  pub planned-file : planFile set p ≡ planBytes (planContent (widthOf set) (wordsOf set) (expectedOf set))
   unfolding planFile
-  planned-file = ap (λ (x : PlanParts). planBytes (contentOf (x .m) (wordsOf set) (x .expected))) planned-parts
+  planned-file = ap (λ (x : PlanParts). planBytes (planContent (x .m) (wordsOf set) (x .expected))) planned-parts

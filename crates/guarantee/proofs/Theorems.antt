@@ -46,11 +46,10 @@ use Rattle.response.specs.Signing.{signTests, signReply}
 use Rattle.response.specs.Listing.{listTests}
 use Rattle.response.proofs.SetLaws.{columns-of-within}
 use Rattle.planner.specs.Planning.{wordsOf, expectedOf, PlanParts, partsOf, planReply}
-use Rattle.plan_file.specs.Layout.{planLength}
-use Rattle.plan_file.specs.Layout as plan
-use Rattle.plan_file.specs.Reading as reading
-use Rattle.plan_file.specs.Writing.{contentOf, planBytes, writeReply}
-use Rattle.plan_file.proofs.RoundTrip.{written-words}
+use Rattle.plan_file.specs.Layout.{planLength, fileWords}
+use Rattle.plan_file.specs.Reading.{planFileReply}
+use Rattle.plan_writer.specs.Writing.{planContent, planBytes, planWriteReply}
+use Rattle.plan_writer.proofs.Parts.{content-taken, content-read, written-words}
 use Rattle.judge.specs.Verdict.{Outcome, passes, failsAt, verdict, Finding, judgeReply}
 use Rattle.judge.proofs.Laws.{passes-agrees, agrees-passes, FailsAt, fails-first}
 use Rattle.guarantee.specs.Demand.{Explained, Alike, planFile, FirstDisagrees}
@@ -66,24 +65,24 @@ planned-parts = planned.planned-parts
 
 -- the plan writer, handed what planning answered and the words, takes it where there is room for the file
 pub plan-written : (set : List ℕ) (k l room : ℕ) (p : PlanParts) → planReply set k l ≡ answer p → planLength (p .q) ≤ room
-    → writeReply (contentOf (p .m) (wordsOf set) (p .expected)) room ≡ answer (planLength (p .q))
+    → planWriteReply (planContent (p .m) (wordsOf set) (p .expected)) room ≡ answer (planLength (p .q))
 plan-written set k l room p h r =
     let parts : p ≡ partsOf set = planned.planned-parts set k l p h in
-    ap (λ (x : PlanParts). writeReply (contentOf (x .m) (wordsOf set) (x .expected)) room) parts
-    ∙ content.content-written _ (planned.planned-content set k l p h) room (subst (λ (x : PlanParts). planLength (x .q) ≤ room) parts r)
+    ap (λ (x : PlanParts). planWriteReply (planContent (x .m) (wordsOf set) (x .expected)) room) parts
+    ∙ content-taken _ room (planned.planned-content set k l p h) (subst (λ (x : PlanParts). planLength (x .q) ≤ room) parts r)
     ∙ sym (ap (λ (x : PlanParts). answer (planLength (x .q))) parts)
 
 -- the plan reader answers for the file with planning's m, q and expected bits, and the file's words are the set's
 pub plan-read-back : (set : List ℕ) (k l room : ℕ) (p : PlanParts) → planReply set k l ≡ answer p → p .q ≤ room
-    → (reading.planReply (planFile set p) room ≡ answer (record { m = p .m; q = p .q; expected = p .expected }))
-    × (plan.wordsOf (planFile set p) ≡ wordsOf set)
+    → (planFileReply (planFile set p) room ≡ answer (record { m = p .m; q = p .q; expected = p .expected }))
+    × (fileWords (planFile set p) ≡ wordsOf set)
 plan-read-back set k l room p h r =
     let parts : p ≡ partsOf set = planned.planned-parts set k l p h in
-    let file : planFile set p ≡ planBytes (contentOf (widthOf set) (wordsOf set) (expectedOf set)) = planned.planned-file set k l p h in (
-      ap (λ (f : List ℕ). reading.planReply f room) file
-          ∙ content.content-read _ (planned.planned-content set k l p h) room (subst (λ (x : PlanParts). x .q ≤ room) parts r)
+    let file : planFile set p ≡ planBytes (planContent (widthOf set) (wordsOf set) (expectedOf set)) = planned.planned-file set k l p h in (
+      ap (λ (f : List ℕ). planFileReply f room) file
+          ∙ content-read _ (planned.planned-content set k l p h) room (subst (λ (x : PlanParts). x .q ≤ room) parts r)
           ∙ sym (ap (λ (x : PlanParts). answer (record { m = x .m; q = x .q; expected = x .expected })) parts),
-      ap plan.wordsOf file ∙ written-words _ (planned.planned-content set k l p h),
+      ap fileWords file ∙ written-words _ (planned.planned-content set k l p h),
     )
 
 -- judging answers for the file and a signature of the register's width with its parities and the verdict of the set's words

@@ -14,9 +14,9 @@ use Rattle.planner.specs.Planning.{wordsOf, expectedOf, PlanParts, partsOf, pla
 use Rattle.planner.specs.declared.Planned.{Planned}
 use Rattle.planner.proofs.CallLaws.{Ends}
 use Rattle.plan_file.specs.Layout.{planLength}
-use Rattle.plan_file.specs.Writing.{contentOf, wordCount, planBytes, writeTests, writeReply, saidWritten}
-use Rattle.plan_file.specs.declared.Written.{Written}
-use Rattle.plan_file.proofs.WriteLaws.{length-plan-bytes}
+use Rattle.plan_writer.specs.Writing.{planContent, wordCount, planBytes, planWriteTests, planWriteReply, said as saidWritten}
+use Rattle.plan_writer.specs.declared.Written.{Written}
+use Rattle.plan_writer.proofs.WriteLaws.{length-plan-bytes}
 use Rattle.judge.specs.Verdict.{Finding, verdict, judgeReply}
 use Rattle.guarantee.specs.Demand.{Alike, planFile}
 use Rattle.guarantee.specs.AtWork.{after, madeReply, planOf, fileAfter, signedReply, recordReply}
@@ -74,21 +74,21 @@ module _ (set cs ws cs′ ws′ : List ℕ) (p : Planned) (ends : Ends set cs ws
         front-part (wordsOf set) ws ws′ q (ends .1 .1 ∙ ap (λ (r : Reply PlanParts). lent r (wordsOf set) ws) planned)
         (ap (λ (x : PlanParts). x .q) (planned-parts set (length cs) (length ws) parts planned))
 
-    pub made-planned : (file file′ : List ℕ) (a : Reply ℕ) → a ≡ writeReply (contentOf m (take q ws′) e) (length file)
-        → file′ ≡ lent (writeReply (contentOf m (take q ws′) e) (length file)) (planBytes (contentOf m (take q ws′) e)) file
+    pub made-planned : (file file′ : List ℕ) (a : Reply ℕ) → a ≡ planWriteReply (planContent m (take q ws′) e) (length file)
+        → file′ ≡ lent (planWriteReply (planContent m (take q ws′) e) (length file)) (planBytes (planContent m (take q ws′) e)) file
         → Made set cs ws file a cs′ ws′ file′
     unfolding madeReply planOf fileAfter planFile
     made-planned file file′ a ha hf =
-        let made : madeReply set (length cs) (length ws) (length file) ≡ writeReply (contentOf m (wordsOf set) e) (length file) = rw planned in
-        let plan : planOf set ≡ planBytes (contentOf m (wordsOf set) e) =
+        let made : madeReply set (length cs) (length ws) (length file) ≡ planWriteReply (planContent m (wordsOf set) e) (length file) = rw planned in
+        let plan : planOf set ≡ planBytes (planContent m (wordsOf set) e) =
         ap (planFile set) (sym (planned-parts set (length cs) (length ws) parts planned)) in (
-          ha ∙ ap (λ (l : List ℕ). writeReply (contentOf m l e) (length file)) (planned-words .1) ∙ sym made,
+          ha ∙ ap (λ (l : List ℕ). planWriteReply (planContent m l e) (length file)) (planned-words .1) ∙ sym made,
           (
             ends .1 .0,
             (
               ends .1 .1,
               hf
-                  ∙ ap (λ (l : List ℕ). lent (writeReply (contentOf m l e) (length file)) (planBytes (contentOf m l e)) file) (planned-words .1)
+                  ∙ ap (λ (l : List ℕ). lent (planWriteReply (planContent m l e) (length file)) (planBytes (planContent m l e)) file) (planned-words .1)
                   ∙ sym (ap₂ (λ (r : Reply ℕ) (l : List ℕ). lent r l file) made plan),
             ),
           ),
@@ -114,7 +114,7 @@ module _ (set r v : List ℕ) (k l room y z : ℕ) (hr : signReply set r ≡ ans
   alike-judged : (n : ℕ) → madeReply set k l room ≡ answer n → signedReply set r (planOf set) ≡ signedReply set v (planOf set)
   unfolding madeReply signedReply planOf
   alike-judged n h =
-      let step = after-answer (planReply set k l) (λ p. writeReply (contentOf (p .m) (wordsOf set) (p .expected)) room) n h in
+      let step = after-answer (planReply set k l) (λ p. planWriteReply (planContent (p .m) (wordsOf set) (p .expected)) room) n h in
       let same : judgeReply (planFile set (partsOf set)) y ≡ judgeReply (planFile set (partsOf set)) z =
       subst (λ (p : PlanParts). judgeReply (planFile set p) y ≡ judgeReply (planFile set p) z) (planned-parts set k l (step .0) (step .1))
       (same-for-all-fillings set k l (step .0) r v y z (step .1) hr hv a)
@@ -134,12 +134,12 @@ module _ (set r v : List ℕ) (k l room y z : ℕ) (hr : signReply set r ≡ ans
 
 -- making the plan answers with the length of the plan file
 made-length : (set : List ℕ) (k l room n : ℕ) → madeReply set k l room ≡ answer n → n ≡ length (planOf set)
-unfolding madeReply writeReply planOf planFile
+unfolding madeReply planWriteReply planOf planFile
 made-length set k l room n h =
-    let step = after-answer (planReply set k l) (λ p. writeReply (contentOf (p .m) (wordsOf set) (p .expected)) room) n h in
-    let written = contentOf (step .0 .m) (wordsOf set) (step .0 .expected) in
-    replied-answer (firstOf (writeTests written room)) (planLength (wordCount written)) n (step .2) .1
-    ∙ sym (length-plan-bytes (contentOf (partsOf set .m) (wordsOf set) (partsOf set .expected)))
+    let step = after-answer (planReply set k l) (λ p. planWriteReply (planContent (p .m) (wordsOf set) (p .expected)) room) n h in
+    let written = planContent (step .0 .m) (wordsOf set) (step .0 .expected) in
+    replied-answer (firstOf (planWriteTests written room)) (planLength (wordCount written)) n (step .2) .1
+    ∙ sym (length-plan-bytes (planContent (partsOf set .m) (wordsOf set) (partsOf set .expected)))
 
 module _ (set cs ws file cs′ ws′ file′ : List ℕ) (w : Written) (made : Made set cs ws file (saidWritten w) cs′ ws′ file′) where
   -- what a record r gets: a

@@ -16,7 +16,7 @@ use lib.ListN.{length}
 use Rattle.word.specs.Reply.{Reply, answer, refusal, lent}
 use Rattle.response.specs.Signing.{signReply}
 use Rattle.planner.specs.Planning.{partsOf, wordsOf, planReply}
-use Rattle.plan_file.specs.Writing.{contentOf, writeReply}
+use Rattle.plan_writer.specs.Writing.{planContent, planWriteReply}
 use Rattle.judge.specs.Verdict.{Finding, judgeReply}
 use Rattle.guarantee.specs.Demand.{planFile}
 
@@ -26,7 +26,7 @@ after (refusal n) f = refusal n
 
 unfoldable pub madeReply : List ℕ → ℕ → ℕ → ℕ → Reply ℕ
 madeReply set k l room =
-    after (planReply set k l) (λ p. writeReply (contentOf (p .m) (wordsOf set) (p .expected)) room)
+    after (planReply set k l) (λ p. planWriteReply (planContent (p .m) (wordsOf set) (p .expected)) room)
 
 unfoldable pub planOf : List ℕ → List ℕ
 planOf set = planFile set (partsOf set)

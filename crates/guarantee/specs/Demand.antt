@@ -18,7 +18,7 @@ use Rattle.set_file.specs.Layout.{circuitOf, chainsOf, slicesOf, values, marks}
 use Rattle.signatures.specs.Signature.{Response, signature}
 use Rattle.signatures.specs.Sets.{recordCells, zeroSignature}
 use Rattle.planner.specs.Planning.{PlanParts, wordsOf}
-use Rattle.plan_file.specs.Writing.{contentOf, planBytes}
+use Rattle.plan_writer.specs.Writing.{planContent, planBytes}
 
 pub record Known (set : List ℕ) (t c : ℕ) : Type 0 where
   pub slice : t < slicesOf set
@@ -39,7 +39,7 @@ Alike set r v =
     (t c : ℕ) → Known set t c → recordCells (chainsOf set) r t c ≡ recordCells (chainsOf set) v t c
 
 unfoldable pub planFile : List ℕ → PlanParts → List ℕ
-planFile set p = planBytes (contentOf (p .m) (wordsOf set) (p .expected))
+planFile set p = planBytes (planContent (p .m) (wordsOf set) (p .expected))
 
 pub record FirstDisagrees (set : List ℕ) (y i : ℕ) : Type 0 where
   pub listed : i < length (wordsOf set)

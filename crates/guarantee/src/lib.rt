@@ -5,12 +5,12 @@ ghost use lib.ListN.{length};
 ghost use Rattle.word.specs.Reply.{answer, numberOf, lent};
 ghost use Rattle.response.specs.Signing.{signReply, saidSigned};
 ghost use Rattle.planner.specs.Planning.{wordsOf, planReply, columnsAfter};
-ghost use Rattle.plan_file.specs.Writing.{saidWritten};
+ghost use Rattle.plan_writer.specs.Writing.{said as saidWritten};
 ghost use Rattle.judge.specs.Verdict.{said};
 ghost use Rattle.guarantee.specs.Demand.{Alike};
 ghost use Rattle.guarantee.specs.AtWork.{madeReply, fileAfter, signedReply, recordReply};
 use judge::Judged;
-use plan_file::Written;
+use plan_writer::Written;
 use planner::Planned;
 use response::Signed;
 
@@ -55,7 +55,7 @@ fn make_plan(set: &[u8], columns: &mut [u64], words: &mut [u64], file: &mut [u8]
         };
     };
     let count = q as usize;
-    plan_file::write_plan(m, &words[..count], expected, file)
+    plan_writer::write_plan(m, &words[..count], expected, file)
 }
 
 // Judges a record's signature by a plan file. Meets the set's 1 to 10, 12 and 13, then judging's 19 to 23.

@@ -16,8 +16,8 @@ use lib.Dec.{eqb}
 use Rattle.word.specs.Word.{digit, parity, beyond}
 use Rattle.word.specs.Parities.{parities}
 use Rattle.word.specs.Reply.{Test, _when_, Reply, answer, refusal, reply}
-use Rattle.plan_file.specs.Layout.{widthOf, wordsOf, expectedOf}
-use Rattle.plan_file.specs.Reading.{planTests}
+use Rattle.plan_file.specs.Layout.{fileWidth, fileWords, fileExpected}
+use Rattle.plan_file.specs.Checking.{planFileTests}
 use Rattle.judge.specs.declared.Judged.{Judged}
 use Rattle.judge.specs.declared.Judged.the-variants.{Passes, Fails, Refused}
 
@@ -37,12 +37,12 @@ pub record Finding : Type 0 where
   pub outcome : Outcome
 
 unfoldable pub judgeTests : List ℕ → ℕ → List Test
-judgeTests plan y = planTests plan ++ 23 when beyond (widthOf plan) y ∷ []
+judgeTests plan y = planFileTests plan ++ 23 when beyond (fileWidth plan) y ∷ []
 
 unfoldable pub judgeReply : List ℕ → ℕ → Reply Finding
 judgeReply plan y =
     reply (judgeTests plan y)
-    (record { cancelled = parities (wordsOf plan) y; outcome = verdict (wordsOf plan) (expectedOf plan) y })
+    (record { cancelled = parities (fileWords plan) y; outcome = verdict (fileWords plan) (fileExpected plan) y })
 
 abbrev pub said : Judged → Reply Finding
 said (Passes b) = answer (record { cancelled = b; outcome = passes })

@@ -1,10 +1,11 @@
-// Judging a signature by a plan file.
+// Judging a signature by a plan file. It sees words and the check of a plan file.
 ghost use mathlib.Core.Path.{_≡_};
 ghost use Prim.Native.Nat.{_≤_};
+ghost use Rattle.numbers.specs.Bytes.{wordsAt};
 ghost use Rattle.word.specs.Parities.{parities};
-ghost use Rattle.word.specs.Reply.{firstOf};
-ghost use Rattle.plan_file.specs.Layout.{countOf, wordsOf};
-ghost use Rattle.judge.specs.Verdict.{judgeTests, judgeReply, said};
+ghost use Rattle.plan_file.specs.Layout.{wordsPlace};
+ghost use Rattle.judge.specs.Verdict.{judgeReply, said};
+use plan_file::PlanCheck;
 
 // What judging answers: the cancelled bits as one word, and that the signature passes, or fails at a word's index; or the first
 // number that applies.
@@ -14,30 +15,13 @@ pub enum Judged {
     Refused { number: u64 },
 }
 
-// The first number that judging meets with this input; 0 where none applies.
-fn first_refusal(plan: &[u8], signature: u64) -> u64
-    ensures { λ r. ⌜ r ≡ firstOf (judgeTests (now (plan .entry)) signature) ⌝ }
+// The cancelled bits of the first q words of a plan, from the last word to the first, each read where it stands.
+fn cancelled_bits(plan: &[u8], q: u64, signature: u64) -> u64
+    requires { ⌜ q ≤ 64 ⌝ }
+    ensures { λ r. ⌜ r ≡ parities (wordsAt (now (plan .entry)) wordsPlace q) signature ⌝ }
 {
-    let number = plan_file::plan_refusal(plan);
-    if number != 0 {
-        return number;
-    }
-    if word::is_beyond(plan_file::width(plan), signature) {
-        return 23;
-    }
-    0
-}
-
-// The cancelled bits of a plan of at most 64 words, from the last word to the first, each read where it stands in the plan.
-fn cancelled_bits(plan: &[u8], signature: u64) -> u64
-    ensures { λ r. ⌜ (countOf (now (plan .entry)) ≤ 64 → r ≡ parities (wordsOf (now (plan .entry))) signature) ⌝ }
-{
-    let q = plan_file::count(plan) as u16;
-    if 64 < q {
-        return 0;
-    }
     let mut bits: u64 = 0;
-    let mut i = q;
+    let mut i = q as u16;
     while 0 < i {
         i -= 1;
         bits = 2 * bits + word::shared_parity(plan_file::plan_word(plan, i), signature);
@@ -51,17 +35,20 @@ fn cancelled_bits(plan: &[u8], signature: u64) -> u64
 pub fn judge(plan: &[u8], signature: u64) -> Judged
     ensures { λ r. ⌜ said r ≡ judgeReply (now (plan .entry)) signature ⌝ }
 {
-    let number = first_refusal(plan, signature);
-    if number != 0 {
-        return Judged::Refused { number };
+    let checked = plan_file::check_plan(plan);
+    let PlanCheck::Sound { m, q, expected } = checked else {
+        return Judged::Refused {
+            number: plan_file::number_of(checked),
+        };
+    };
+    if word::is_beyond(m, signature) {
+        return Judged::Refused { number: 23 };
     }
-    let cancelled = cancelled_bits(plan, signature);
-    let differing = cancelled ^ plan_file::expected_bits(plan);
+    let cancelled = cancelled_bits(plan, q, signature);
+    let differing = cancelled ^ expected;
     if differing == 0 {
         return Judged::Passes { cancelled };
     }
-    Judged::Fails {
-        cancelled,
-        index: u64::trailing_zeros(differing) as u64,
-    }
+    let index = u64::trailing_zeros(differing) as u64;
+    Judged::Fails { cancelled, index }
 }

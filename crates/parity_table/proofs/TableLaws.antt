@@ -151,7 +151,7 @@ module _ (e top : ℕ) (n : e % 256 ≡ 0 → ⊥) (et : top ≡ highestBit (e %
       (ap₂ bitXor (ap (λ (x : ℕ). getD table (e - x) 0) (entry-shift ∙ ap (λ (x : ℕ). 2 ^ x) et))
       (ap (λ (x : ℕ). getD bits (8 * (e / 256) + x) 0) et))
 
--- ---- a column lookedParities up
+-- ---- a column looked up
 
 pub looked-start : (table : List ℕ) (c : ℕ) → 0 ≡ lookedParities table c 0
 unfolding lookedParities

@@ -1,98 +1,96 @@
--- Each way out of the plan reader, and what it answers and leaves in the lent list. Assumes nothing.
+-- Each way out of the check and of the plan reader, and what the reader answers and leaves in the lent list. Assumes nothing.
 use mathlib.Core.Path.{_≡_, sym, ap, ap₂, _∙_}
-use mathlib.Core.Bool.{Bool, cond}
 use mathlib.Core.List.{List, [], _∷_}
 use Prim.Native.Nat.{ℕ, _+_, _*_, _<_, _≤_}
 use native.Mathlib.Numerals.{add-one}
 use native.Mathlib.Omega.{arith}
-use borrow.Author.Tests.{lt-ltb, le-ltb, ltb-false}
+use borrow.Author.Tests.{lt-ltb, le-ltb}
 use lib.Dec.{ltb}
 use lib.ListN.{length, take, set}
 use Rattle.numbers.specs.Bytes.{wordAt}
-use Rattle.word.specs.Reply.{Reply, answer, refusal, replied, firstOf, _when_, front, lent}
-use Rattle.word.proofs.ReplyLaws.{replied-refusal, none-applies}
-use Rattle.plan_file.specs.Layout.{bitsAt, widthOf, countOf, wordsOf, expectedOf}
-use Rattle.plan_file.specs.Reading.{planTests, readTests, PlanParts, partsOf, planReply, said}
+use Rattle.word.specs.Reply.{Reply, answer, refusal, replied, firstOf, numberOf, _when_, front, lent}
+use Rattle.word.proofs.FrontLaws.{front-next, front-whole}
+use Rattle.word.proofs.ReplyLaws.{replied-refusal}
+use Rattle.plan_file.specs.Layout.{bitsAt, fileWidth, fileCount, fileWords}
+use Rattle.plan_file.specs.Checking.{planFileTests, PlanFileParts, fileParts, planCheckReply, saidChecked}
+use Rattle.plan_file.specs.Reading.{planReadTests, planFileReply, said}
+use Rattle.plan_file.specs.declared.PlanCheck.{PlanCheck}
 use Rattle.plan_file.specs.declared.PlanAnswer.{PlanAnswer}
 use Rattle.plan_file.specs.declared.PlanAnswer.the-variants.{Read, Refused}
-use Rattle.plan_file.proofs.Laws.{first-after-plan, taken-bits}
+use Rattle.plan_file.proofs.Laws.{taken-bits, told-refused, told-sound, refused-plan, sound-plan}
 use Rattle.plan_file.proofs.WordPlaces.{plan-words-length, word-of-plan}
-use Rattle.word.proofs.FrontLaws.{front-next, front-whole}
-use Rattle.word.proofs.TestLaws.{first-of-sooner, first-of-none}
 
--- ---- the reader's numbers
+parts : {m w q k y e : ℕ} → m ≡ w → q ≡ k → y ≡ e
+    → _≡_ {A = Reply PlanFileParts} (answer (record { m = m; q = q; expected = y })) (answer (record { m = w; q = k; expected = e }))
+parts a b c = cc
 
-pub reads-refused : (plan : List ℕ) (room n : ℕ) → n ≡ firstOf (planTests plan) → (n ≡ 0 → ⊥) → n ≡ firstOf (readTests plan room)
-unfolding readTests
-reads-refused plan room n e h =
-    e ∙ sym (first-of-sooner (planTests plan) (18 when ltb room (countOf plan) ∷ []) (λ z. h (e ∙ z)))
+-- ---- the check
 
-after-plan : (plan : List ℕ) (room : ℕ) → firstOf (planTests plan) ≡ 0 → firstOf (readTests plan room) ≡ cond (ltb room (countOf plan)) 18 0
-unfolding readTests
-after-plan plan room h = first-after-plan plan (18 when ltb room (countOf plan) ∷ []) h
+pub checks-refused : (plan : List ℕ) (n : ℕ) → n ≡ firstOf (planFileTests plan) → (n ≡ 0 → ⊥) → refusal n ≡ planCheckReply plan
+unfolding planCheckReply
+checks-refused plan n e h = sym (ap (λ (k : ℕ). replied k (fileParts plan)) (sym e) ∙ replied-refusal n (fileParts plan) h)
 
-pub reads-18 : (plan : List ℕ) (room n q : ℕ) → n ≡ firstOf (planTests plan) → n ≡ 0 → q ≡ countOf plan → room < q → 18 ≡ firstOf (readTests plan room)
-reads-18 plan room n q e z c h =
-    sym (after-plan plan room (sym e ∙ z) ∙ ap (λ (b : Bool). cond {A = ℕ} b 18 0) (lt-ltb room (countOf plan) (rw c at h)))
+pub checks-sound : (plan : List ℕ) (n m q bits : ℕ) → n ≡ firstOf (planFileTests plan) → n ≡ 0 → m ≡ fileWidth plan → q ≡ fileCount plan
+    → bits ≡ wordAt plan (bitsAt (fileCount plan)) → answer (record { m = m; q = q; expected = bits }) ≡ planCheckReply plan
+unfolding planCheckReply
+checks-sound plan n m q bits e z a b f =
+    let none : firstOf (planFileTests plan) ≡ 0 = sym e ∙ z in
+    parts a b (f ∙ taken-bits plan none) ∙ sym (ap (λ (k : ℕ). replied k (fileParts plan)) none)
 
-pub reads-none : (plan : List ℕ) (room n q : ℕ) → n ≡ firstOf (planTests plan) → n ≡ 0 → q ≡ countOf plan → q ≤ room → 0 ≡ firstOf (readTests plan room)
-reads-none plan room n q e z c h =
-    sym (after-plan plan room (sym e ∙ z) ∙ ap (λ (b : Bool). cond {A = ℕ} b 18 0) (le-ltb room (countOf plan) (rw c at h)))
-
--- where the reader meets no number, the plan meets none and the list has room
-read-plan-none : (plan : List ℕ) (room : ℕ) → firstOf (readTests plan room) ≡ 0 → firstOf (planTests plan) ≡ 0
-unfolding readTests
-read-plan-none plan room h = first-of-none (planTests plan) (18 when ltb room (countOf plan) ∷ []) h
-
-read-room : (plan : List ℕ) (room : ℕ) → firstOf (readTests plan room) ≡ 0 → countOf plan ≤ room
-read-room plan room h =
-    ltb-false room (countOf plan)
-    (none-applies (ltb room (countOf plan)) 17 0 (sym (after-plan plan room (read-plan-none plan room h)) ∙ h))
-
--- ---- the reader's ways out
+-- ---- the reader
 
 -- what the reader answers, a, and leaves in the list l, l′
 abbrev pub Ends : List ℕ → List ℕ → PlanAnswer → List ℕ → Type 0
 Ends plan l a l′ =
-    (said a ≡ planReply plan (length l)) × (l′ ≡ lent (planReply plan (length l)) (wordsOf plan) l)
+    (said a ≡ planFileReply plan (length l)) × (l′ ≡ lent (planFileReply plan (length l)) (fileWords plan) l)
 
-refused-reply : (plan : List ℕ) (room n : ℕ) → n ≡ firstOf (readTests plan room) → (n ≡ 0 → ⊥) → planReply plan room ≡ refusal n
-unfolding planReply
-refused-reply plan room n e h =
-    ap (λ (k : ℕ). replied k (partsOf plan)) (sym e) ∙ replied-refusal n (partsOf plan) h
+ends-refused : (plan l : List ℕ) (n : ℕ) → planFileReply plan (length l) ≡ refusal n → Ends plan l (Refused n) l
+ends-refused plan l n r = (sym r, sym (ap (λ (x : Reply PlanFileParts). lent x (fileWords plan) l) r))
 
-read-reply : (plan : List ℕ) (room : ℕ) → firstOf (readTests plan room) ≡ 0 → planReply plan room ≡ answer (partsOf plan)
-unfolding planReply
-read-reply plan room h = ap (λ (k : ℕ). replied k (partsOf plan)) h
+module _ (plan l : List ℕ) (c : PlanCheck) (h : saidChecked c ≡ planCheckReply plan) where
+  pub ends-unsound : (n k : ℕ) → c ≡ PlanCheck.Refused n → k ≡ numberOf (saidChecked c) → Ends plan l (Refused k) l
+  unfolding planFileReply planReadTests
+  ends-unsound n k e f =
+      ends-refused plan l k
+      (refused-plan plan (18 when ltb (length l) (fileCount plan) ∷ []) (fileParts plan) k (told-refused plan c h n k e f))
 
-pub ends-refused : (plan l : List ℕ) (n : ℕ) → n ≡ firstOf (readTests plan (length l)) → (n ≡ 0 → ⊥) → Ends plan l (Refused n) l
-ends-refused plan l n e h =
-    let r : planReply plan (length l) ≡ refusal n = refused-reply plan (length l) n e h in
-    (sym r, sym (ap (λ (x : Reply PlanParts). lent x (wordsOf plan) l) r))
+  module _ (m q e : ℕ) (s : c ≡ PlanCheck.Sound m q e) where
+    sound-parts : record { m = m; q = q; expected = e } ≡ fileParts plan
+    sound-parts = sound-plan plan [] (fileParts plan) (record { m = m; q = q; expected = e }) (told-sound plan c h m q e s) .1
 
-pub ends-read : (plan l l′ : List ℕ) (n m q bits : ℕ) → n ≡ firstOf (readTests plan (length l)) → n ≡ 0
-    → (countOf plan ≤ length l → l′ ≡ front (wordsOf plan) l) → m ≡ widthOf plan → q ≡ countOf plan
-    → bits ≡ wordAt plan (bitsAt (countOf plan)) → Ends plan l (Read m q bits) l′
-ends-read plan l l′ n m q bits e z w a b f =
-    let none : firstOf (readTests plan (length l)) ≡ 0 = sym e ∙ z in
-    let r : planReply plan (length l) ≡ answer (partsOf plan) = read-reply plan (length l) none in
-    let expected : bits ≡ expectedOf plan = f ∙ taken-bits plan (read-plan-none plan (length l) none) in (
-      cc,
-      w (read-room plan (length l) none) ∙ sym (ap (λ (x : Reply PlanParts). lent x (wordsOf plan) l) r),
-    )
+    sound-count : q ≡ fileCount plan
+    sound-count = ap (λ (p : PlanFileParts). p .q) sound-parts
+
+    read-reply : planFileReply plan (length l) ≡ replied (firstOf (18 when ltb (length l) (fileCount plan) ∷ [])) (fileParts plan)
+    unfolding planFileReply planReadTests
+    read-reply =
+        sound-plan plan (18 when ltb (length l) (fileCount plan) ∷ []) (fileParts plan) (record { m = m; q = q; expected = e }) (told-sound plan c h m q e s) .2
+
+    pub ends-short : length l < q → Ends plan l (Refused 18) l
+    ends-short short =
+        let less : length l < fileCount plan = omega (arith, sound-count) in
+        ends-refused plan l 18 (rw (lt-ltb (length l) (fileCount plan) less) at read-reply)
+
+    pub ends-read : (l′ : List ℕ) → q ≤ length l → (fileCount plan ≤ length l → l′ ≡ front (fileWords plan) l) → Ends plan l (Read m q e) l′
+    ends-read l′ room w =
+        let enough : fileCount plan ≤ length l = omega (arith, sound-count) in
+        let r : planFileReply plan (length l) ≡ answer (fileParts plan) = rw (le-ltb (length l) (fileCount plan) enough) at read-reply in (
+          ap answer sound-parts ∙ sym r,
+          w enough ∙ sym (ap (λ (x : Reply PlanFileParts). lent x (fileWords plan) l) r),
+        )
 
 -- ---- the words copied to the lent list
 
-pub copy-turn : (plan l ws : List ℕ) (q i w : ℕ) → ws ≡ front (take i (wordsOf plan)) l → q ≡ countOf plan → i < q → i < length l
-    → w ≡ wordAt plan (4 + 8 * i) → set ws i w ≡ front (take (i + 1) (wordsOf plan)) l
+pub copy-turn : (plan l ws : List ℕ) (q i w : ℕ) → ws ≡ front (take i (fileWords plan)) l → q ≡ fileCount plan → i < q → i < length l
+    → w ≡ wordAt plan (4 + 8 * i) → set ws i w ≡ front (take (i + 1) (fileWords plan)) l
 copy-turn plan l ws q i w h c a b e =
-    let inside : i < countOf plan = omega arith in
-    let below : i < length (wordsOf plan) = omega (arith, plan-words-length plan) in
-    ap₂ (λ (x : List ℕ) (v : ℕ). set x i v) h (e ∙ sym (word-of-plan plan i inside)) ∙ front-next i (wordsOf plan) l below b
-    ∙ ap (λ (n : ℕ). front (take n (wordsOf plan)) l) (sym (add-one i))
+    let inside : i < fileCount plan = omega arith in
+    let below : i < length (fileWords plan) = omega (arith, plan-words-length plan) in
+    ap₂ (λ (x : List ℕ) (v : ℕ). set x i v) h (e ∙ sym (word-of-plan plan i inside)) ∙ front-next i (fileWords plan) l below b
+    ∙ ap (λ (n : ℕ). front (take n (fileWords plan)) l) (sym (add-one i))
 
-pub copy-end : (plan l ws : List ℕ) (q i : ℕ) → ws ≡ front (take i (wordsOf plan)) l → q ≡ countOf plan → i ≤ q → q ≤ i
-    → ws ≡ front (wordsOf plan) l
+pub copy-end : (plan l ws : List ℕ) (q i : ℕ) → ws ≡ front (take i (fileWords plan)) l → q ≡ fileCount plan → i ≤ q → q ≤ i
+    → ws ≡ front (fileWords plan) l
 copy-end plan l ws q i h c a b =
-    let all : i ≡ length (wordsOf plan) = omega (arith, plan-words-length plan) in
-    h ∙ ap (λ (n : ℕ). front (take n (wordsOf plan)) l) all ∙ front-whole (wordsOf plan) l
+    let all : i ≡ length (fileWords plan) = omega (arith, plan-words-length plan) in
+    h ∙ ap (λ (n : ℕ). front (take n (fileWords plan)) l) all ∙ front-whole (fileWords plan) l

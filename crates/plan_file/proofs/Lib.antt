@@ -2,5 +2,3 @@ pub mod WordPlaces
 pub mod TestLaws
 pub mod Laws
 pub mod CallLaws
-pub mod WriteLaws
-pub mod RoundTrip

@@ -12,13 +12,13 @@ use Rattle.numbers.proofs.FileLaws.{word-at-place}
 use Rattle.combinations.specs.Reduced.{isReduced}
 use Rattle.combinations.specs.Pass.{follows, withTop}
 use Rattle.combinations.proofs.Theorems.{Passed, passed-start, passed-turn, passed-stop, passed-end}
-use Rattle.plan_file.specs.Layout.{widthOf, countOf, wordsOf}
+use Rattle.plan_file.specs.Layout.{fileWidth, fileCount, fileWords}
 
-pub plan-words-length : (plan : List ℕ) → length (wordsOf plan) ≡ countOf plan
-plan-words-length plan = length-words-at plan 4 (countOf plan)
+pub plan-words-length : (plan : List ℕ) → length (fileWords plan) ≡ fileCount plan
+plan-words-length plan = length-words-at plan 4 (fileCount plan)
 
-pub word-of-plan : (plan : List ℕ) (i : ℕ) → i < countOf plan → getD (wordsOf plan) i 0 ≡ wordAt plan (4 + 8 * i)
-word-of-plan plan i h = word-at-place plan 4 (countOf plan) i h
+pub word-of-plan : (plan : List ℕ) (i : ℕ) → i < fileCount plan → getD (fileWords plan) i 0 ≡ wordAt plan (4 + 8 * i)
+word-of-plan plan i h = word-at-place plan 4 (fileCount plan) i h
 
 -- words of bytes have 64 bits
 words-small : (s : List ℕ) → ((i : ℕ) → getD s i 0 < 256) → (at k i : ℕ) → getD (wordsAt s at k) i 0 < 2 ^ 64
@@ -27,56 +27,56 @@ words-small s bytes at zero i = pow-pos 64
 words-small s bytes at (suc k) zero = number-at-lt 8 s at bytes
 words-small s bytes at (suc k) (suc i) = words-small s bytes (at + 8) k i
 
-plan-words-small : (plan : List ℕ) → ((i : ℕ) → getD plan i 0 < 256) → (i : ℕ) → getD (wordsOf plan) i 0 < 2 ^ 64
-plan-words-small plan bytes = words-small plan bytes 4 (countOf plan)
+plan-words-small : (plan : List ℕ) → ((i : ℕ) → getD plan i 0 < 256) → (i : ℕ) → getD (fileWords plan) i 0 < 2 ^ 64
+plan-words-small plan bytes = words-small plan bytes 4 (fileCount plan)
 
 -- ---- one pass over the words of a plan
 
 pub record PlanPassed (plan : List ℕ) (m q last seen i : ℕ) : Type 0 where
-  pub width : m ≡ widthOf plan
-  pub count : q ≡ countOf plan
+  pub width : m ≡ fileWidth plan
+  pub count : q ≡ fileCount plan
   pub inside : i ≤ q
-  pub rest : Passed m (wordsOf plan) last seen i
+  pub rest : Passed m (fileWords plan) last seen i
 
-pub plan-passed-start : (plan : List ℕ) (m q : ℕ) → m ≡ widthOf plan → q ≡ countOf plan → PlanPassed plan m q 0 0 0
-plan-passed-start plan m q a b = record { width = a; count = b; inside = omega arith; rest = passed-start m (wordsOf plan) }
+pub plan-passed-start : (plan : List ℕ) (m q : ℕ) → m ≡ fileWidth plan → q ≡ fileCount plan → PlanPassed plan m q 0 0 0
+plan-passed-start plan m q a b = record { width = a; count = b; inside = omega arith; rest = passed-start m (fileWords plan) }
 
-below-words : (plan : List ℕ) (q i : ℕ) → q ≡ countOf plan → i < q → i < length (wordsOf plan)
+below-words : (plan : List ℕ) (q i : ℕ) → q ≡ fileCount plan → i < q → i < length (fileWords plan)
 below-words plan q i e h = omega (arith, plan-words-length plan)
 
 -- the word that was read is the next of the list
-next-word : (plan : List ℕ) (q i w : ℕ) → q ≡ countOf plan → i < q → w ≡ wordAt plan (4 + 8 * i) → w ≡ getD (wordsOf plan) i 0
+next-word : (plan : List ℕ) (q i w : ℕ) → q ≡ fileCount plan → i < q → w ≡ wordAt plan (4 + 8 * i) → w ≡ getD (fileWords plan) i 0
 next-word plan q i w e h a =
-    let inside : i < countOf plan = omega arith in
+    let inside : i < fileCount plan = omega arith in
     a ∙ sym (word-of-plan plan i inside)
 
 pub plan-passed-turn : (plan : List ℕ) (m q last seen seen′ i w : ℕ) (b : Bool) → PlanPassed plan m q last seen i → i < q
     → w ≡ wordAt plan (4 + 8 * i) → b ≡ follows m last seen w → not b ≡ false → seen′ ≡ withTop seen w
     → PlanPassed plan m q w seen′ (i + 1)
 plan-passed-turn plan m q last seen seen′ i w b p h a f n t =
-    let same : w ≡ getD (wordsOf plan) i 0 = next-word plan q i w (p .count) h a in
+    let same : w ≡ getD (fileWords plan) i 0 = next-word plan q i w (p .count) h a in
     record {
       width = p .width;
       count = p .count;
       inside = omega arith;
       rest =
-          subst (λ (x : ℕ). Passed m (wordsOf plan) x seen′ (i + 1)) (sym same)
-          (passed-turn m (wordsOf plan) last seen seen′ i b (p .rest) (below-words plan q i (p .count) h)
+          subst (λ (x : ℕ). Passed m (fileWords plan) x seen′ (i + 1)) (sym same)
+          (passed-turn m (fileWords plan) last seen seen′ i b (p .rest) (below-words plan q i (p .count) h)
           (f ∙ ap (follows m last seen) same) n (t ∙ ap (withTop seen) same));
     }
 
 module _ (plan : List ℕ) (bytes : (i : ℕ) → getD plan i 0 < 256) (m q last seen i : ℕ) (p : PlanPassed plan m q last seen i) where
-  listed : (b : Bool) → b ≡ isReduced m (wordsOf plan) → not b ≡ not (isReduced (widthOf plan) (wordsOf plan))
-  listed b e = ap not (e ∙ ap (λ (x : ℕ). isReduced x (wordsOf plan)) (p .width))
+  listed : (b : Bool) → b ≡ isReduced m (fileWords plan) → not b ≡ not (isReduced (fileWidth plan) (fileWords plan))
+  listed b e = ap not (e ∙ ap (λ (x : ℕ). isReduced x (fileWords plan)) (p .width))
 
   pub plan-passed-stop : (w : ℕ) (b : Bool) → i < q → w ≡ wordAt plan (4 + 8 * i) → b ≡ follows m last seen w → not b ≡ true
-      → true ≡ not (isReduced (widthOf plan) (wordsOf plan))
+      → true ≡ not (isReduced (fileWidth plan) (fileWords plan))
   plan-passed-stop w b h a f n =
       listed false
-      (passed-stop m (wordsOf plan) (plan-words-small plan bytes) last seen i b (p .rest) (below-words plan q i (p .count) h)
+      (passed-stop m (fileWords plan) (plan-words-small plan bytes) last seen i b (p .rest) (below-words plan q i (p .count) h)
       (f ∙ ap (follows m last seen) (next-word plan q i w (p .count) h a)) n)
 
-  pub plan-passed-end : q ≤ i → false ≡ not (isReduced (widthOf plan) (wordsOf plan))
+  pub plan-passed-end : q ≤ i → false ≡ not (isReduced (fileWidth plan) (fileWords plan))
   plan-passed-end h =
-      let all : length (wordsOf plan) ≤ i = omega (arith, plan-words-length plan, p .count) in
-      listed true (passed-end m (wordsOf plan) (plan-words-small plan bytes) last seen i (p .rest) all)
+      let all : length (fileWords plan) ≤ i = omega (arith, plan-words-length plan, p .count) in
+      listed true (passed-end m (fileWords plan) (plan-words-small plan bytes) last seen i (p .rest) all)

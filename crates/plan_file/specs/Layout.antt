@@ -6,11 +6,11 @@
 --   bitsAt q            the place of the expected bits
 --   bitBytes q          the bytes that hold q expected bits: q ÷ 8 rounded up
 --   planLength q        the bytes of a plan of q words
---   widthOf plan        document 01: m
---   countOf plan        document 01: q
---   wordsOf plan        the plan's words
---   againOf plan        the second count
---   expectedOf plan     the expected bits as one word, bit i for word i: the number of their bytes, low byte first
+--   fileWidth plan      document 01: m
+--   fileCount plan      document 01: q
+--   fileWords plan      the plan's words
+--   fileAgain plan      the second count
+--   fileExpected plan   the expected bits as one word, bit i for word i: the number of their bytes, low byte first
 use mathlib.Core.List.{List}
 use Prim.Native.Nat.{ℕ, _+_, _*_, _/_}
 use Rattle.numbers.specs.Bytes.{countAt, numberAt, wordsAt}
@@ -30,17 +30,17 @@ bitBytes q = (q + 7) / 8
 abbrev pub planLength : ℕ → ℕ
 planLength q = bitsAt q + bitBytes q
 
-abbrev pub widthOf : List ℕ → ℕ
-widthOf plan = countAt plan 0
+abbrev pub fileWidth : List ℕ → ℕ
+fileWidth plan = countAt plan 0
 
-abbrev pub countOf : List ℕ → ℕ
-countOf plan = countAt plan 2
+abbrev pub fileCount : List ℕ → ℕ
+fileCount plan = countAt plan 2
 
-abbrev pub wordsOf : List ℕ → List ℕ
-wordsOf plan = wordsAt plan wordsPlace (countOf plan)
+abbrev pub fileWords : List ℕ → List ℕ
+fileWords plan = wordsAt plan wordsPlace (fileCount plan)
 
-abbrev pub againOf : List ℕ → ℕ
-againOf plan = countAt plan (againAt (countOf plan))
+abbrev pub fileAgain : List ℕ → ℕ
+fileAgain plan = countAt plan (againAt (fileCount plan))
 
-abbrev pub expectedOf : List ℕ → ℕ
-expectedOf plan = numberAt (bitBytes (countOf plan)) plan (bitsAt (countOf plan))
+abbrev pub fileExpected : List ℕ → ℕ
+fileExpected plan = numberAt (bitBytes (fileCount plan)) plan (bitsAt (fileCount plan))

@@ -1,3 +1,3 @@
 pub mod Layout
+pub mod Checking
 pub mod Reading
-pub mod Writing

@@ -23,7 +23,9 @@ same-length-2 : tie.Need-same-length-2
 same-length-2 c = search needs
 
 returns-2 : tie.Need-returns-2
-returns-2 c = added-one _ _ _ _ (c .before .before .before .before .before .first-odd .ensures) (search needs) (search needs) (c .before .before .drop-pivot .ensures)
+returns-2 c =
+    let place = c .before .before .before .before .before .first-odd .ensures in
+    added-one _ _ _ _ place (search needs) (search needs) (c .before .before .drop-pivot .ensures)
 
 pub add-column-spec : {M : Type 1} → statement M
 add-column-spec =

@@ -25,7 +25,9 @@ shared-parity-requires : tie.Need-shared-parity-requires Inv-loop μ-loop
 shared-parity-requires c κs = search needs
 
 returns : tie.Need-returns Inv-loop μ-loop
-returns c = passed-odd _ _ _ _ (c .before .before .before .before .loop .inv .1) (search needs) (c .before .shared-parity .ensures) (c .if1 .taken)
+returns c =
+    let so-far = c .before .before .before .before .loop .inv .1 in
+    passed-odd _ _ _ _ so-far (search needs) (c .before .shared-parity .ensures) (c .if1 .taken)
 
 add-i : tie.Need-add-i Inv-loop μ-loop
 add-i c = search needs
@@ -34,7 +36,9 @@ loop-less : tie.Need-loop-less Inv-loop μ-loop
 loop-less c = search needs
 
 loop-again : tie.Need-loop-again Inv-loop μ-loop
-loop-again c = (search needs, passed-even _ _ _ _ (c .before .before .before .before .loop .inv .1) (search needs) (c .before .shared-parity .ensures) (search needs))
+loop-again c =
+    let so-far = c .before .before .before .before .loop .inv .1 in
+    (search needs, passed-even _ _ _ _ so-far (search needs) (c .before .shared-parity .ensures) (search needs))
 
 returns-2 : tie.Need-returns-2 Inv-loop μ-loop
 returns-2 c = passed-all _ _ _ (c .before .loop .inv .1) (search needs)

@@ -10,8 +10,12 @@ use Rattle.elimination.proofs.eliminate.Tie as tie
 
 kept : (c : tie.After-held2) → Kept (c .before .before .before .before .before .before .before .before .before .before .args .m) (now (c .before .before .before .before .before .before .before .before .before .before .args .columns)) (c .before .reduce .result)
 kept c =
-    kept-of _ _ _ _ _ _ (c .before .before .before .before .before .before .before .is-bad-width .ensures) (c .before .before .before .before .before .before .if1 .left) (c .before .before .before .before .before .has-column-beyond .ensures)
-    (c .before .before .before .before .if2 .left) (c .before .before .before .unit-words .ensures) (c .before .reduce .ensures .0)
+    let width-test = c .before .before .before .before .before .before .before .is-bad-width .ensures in
+    let width-taken = c .before .before .before .before .before .before .if1 .left in
+    let columns-test = c .before .before .before .before .before .has-column-beyond .ensures in
+    let columns-taken = c .before .before .before .before .if2 .left in
+    kept-of _ _ _ _ _ _ width-test width-taken columns-test
+    columns-taken (c .before .before .before .unit-words .ensures) (c .before .reduce .ensures .0)
 
 is-bad-width-requires : tie.Need-is-bad-width-requires
 is-bad-width-requires c κs = search needs
@@ -30,22 +34,28 @@ refused-requires-2 c κs = search needs
 
 returns-2 : tie.Need-returns-2
 returns-2 c =
-    ends-15 _ _ _ _ _ _ (c .before .before .before .before .is-bad-width .ensures) (c .before .before .before .if1 .left) (c .before .before .has-column-beyond .ensures) (c .before .if2 .taken) (c .refused2 .ensures)
+    let width-test = c .before .before .before .before .is-bad-width .ensures in
+    ends-15 _ _ _ _ _ _ width-test (c .before .before .before .if1 .left) (c .before .before .has-column-beyond .ensures) (c .before .if2 .taken) (c .refused2 .ensures)
 
 unit-words-requires : tie.Need-unit-words-requires
 unit-words-requires c κs = search needs
 
 array-borrow-prefix-held : tie.Need-array-borrow-prefix-held
-array-borrow-prefix-held c = width-inside _ _ _ (c .before .before .before .before .is-bad-width .ensures) (c .before .before .before .if1 .left) (c .unit-words .ensures)
+array-borrow-prefix-held c =
+    let width-test = c .before .before .before .before .is-bad-width .ensures in
+    width-inside _ _ _ width-test (c .before .before .before .if1 .left) (c .unit-words .ensures)
 
 slice-aggregate-reduce : tie.Need-slice-aggregate-reduce
-slice-aggregate-reduce c = sym (length-take-le _ _ (width-inside _ _ _ (c .before .before .before .before .before .is-bad-width .ensures) (c .before .before .before .before .if1 .left) (c .before .unit-words .ensures)))
+slice-aggregate-reduce c =
+    let width-test = c .before .before .before .before .before .is-bad-width .ensures in
+    let width-taken = c .before .before .before .before .if1 .left in
+    sym (length-take-le _ _ (width-inside _ _ _ width-test width-taken (c .before .unit-words .ensures)))
 
 reduce-requires : tie.Need-reduce-requires
 reduce-requires c κs = search needs
 
-sub-if3 : tie.Need-sub-if3
-sub-if3 c = kept-most _ _ _ (kept c)
+sub-rank : tie.Need-sub-rank
+sub-rank c = kept-most _ _ _ (kept c)
 
 refused-requires-3 : tie.Need-refused-requires-3
 refused-requires-3 c κs = search needs
@@ -63,29 +73,41 @@ refused-requires-5 : tie.Need-refused-requires-5
 refused-requires-5 c κs = search needs
 
 returns-5 : tie.Need-returns-5
-returns-5 c = ends-18 _ _ _ _ _ (kept (c .before .before .before .before)) (c .before .before .if4 .left) (c .before .if5 .taken) (c .refused5 .ensures)
+returns-5 c =
+    let so-far = kept (c .before .before .before .before) in
+    ends-18 _ _ _ _ _ so-far (c .before .before .if4 .left) (c .before .if5 .taken) (c .refused5 .ensures)
 
 array-share-prefix-held : tie.Need-array-share-prefix-held
 array-share-prefix-held c =
-    held-long _ _ _ (c .before .before .before .before .before .reduce .last .0) _ (kept (c .before .before .before .before)) (c .before .before .before .before .before .before .before .unit-words .ensures) (c .before .before .before .before .before .reduce .kept .0)
+    let words-left = c .before .before .before .before .before .reduce .last .0 in
+    let units = c .before .before .before .before .before .before .before .unit-words .ensures in
+    let same-long = c .before .before .before .before .before .reduce .kept .0 in
+    let so-far = kept (c .before .before .before .before) in
+    held-long _ _ _ words-left _ so-far units same-long
 
 slice-aggregate-write-front : tie.Need-slice-aggregate-write-front
 slice-aggregate-write-front c =
-    sym (length-take-le _ _ (held-long _ _ _ (c .before .before .before .before .before .before .reduce .last .0) _ (kept (c .before .before .before .before .before)) (c .before .before .before .before .before .before .before .before .unit-words .ensures) (c .before .before .before .before .before .before .reduce .kept .0)))
+    let words-left = c .before .before .before .before .before .before .reduce .last .0 in
+    let units = c .before .before .before .before .before .before .before .before .unit-words .ensures in
+    let same-long = c .before .before .before .before .before .before .reduce .kept .0 in
+    let so-far = kept (c .before .before .before .before .before) in
+    sym (length-take-le _ _ (held-long _ _ _ words-left _ so-far units same-long))
 
 write-front-requires : tie.Need-write-front-requires
 write-front-requires c κs = search needs
-
-sub-t12 : tie.Need-sub-t12
-sub-t12 c = omega (arith, kept-most _ _ _ (kept (c .before .before .before .before .before .before .before .before)))
 
 same-length : tie.Need-same-length
 same-length c = search needs
 
 returns-6 : tie.Need-returns-6
 returns-6 c =
-    ends-done _ _ _ _ _ _ (kept (c .before .before .before .before .before .before .before .before)) (c .before .before .before .before .before .before .if4 .left) (search needs)
-    (kept-words _ _ _ _ _ (kept (c .before .before .before .before .before .before .before .before)) (c .before .before .before .before .before .before .before .before .before .before .before .unit-words .ensures) (c .before .before .before .before .before .before .before .before .before .reduce .kept .0) (c .before .before .before .before .before .before .before .before .before .reduce .ensures .1))
+    let some-word = c .before .before .before .before .before .before .if4 .left in
+    let units = c .before .before .before .before .before .before .before .before .before .before .before .unit-words .ensures in
+    let same-long = c .before .before .before .before .before .before .before .before .before .reduce .kept .0 in
+    let reduced = c .before .before .before .before .before .before .before .before .before .reduce .ensures .1 in
+    let so-far = kept (c .before .before .before .before .before .before .before .before) in
+    ends-done _ _ _ _ _ _ so-far some-word (search needs)
+    (kept-words _ _ _ _ _ so-far units same-long reduced)
     (c .before .before .write-front .ensures)
 
 pub eliminate-spec : {M : Type 1} → statement M
@@ -102,7 +124,7 @@ eliminate-spec =
     array-borrow-prefix-held
     slice-aggregate-reduce
     reduce-requires
-    sub-if3
+    sub-rank
     refused-requires-3
     returns-3
     refused-requires-4
@@ -112,6 +134,5 @@ eliminate-spec =
     array-share-prefix-held
     slice-aggregate-write-front
     write-front-requires
-    sub-t12
     same-length
     returns-6)

@@ -17,7 +17,8 @@ is-beyond-requires c κs = search needs
 
 returns-2 : tie.Need-returns-2
 returns-2 c =
-    c .is-beyond .ensures ∙ ap (beyond (c .before .before .before .before .args .m)) (c .before .or-all .ensures) ∙ or-all-beyond _ _
+    let m = c .before .before .before .before .args .m in
+    c .is-beyond .ensures ∙ ap (beyond m) (c .before .or-all .ensures) ∙ or-all-beyond _ _
 
 pub has-column-beyond-spec : {M : Type 1} → statement M
 has-column-beyond-spec = tie.close (tie.spec returns or-all-requires is-beyond-requires returns-2)

@@ -18,7 +18,9 @@ abbrev μ-loop : tie.MeasureT-loop
 -- the words after the column taken
 turned : (c : tie.After-add-column Inv-loop μ-loop) → Reduced (c .before .before .before .before .before .before .before .before .args .columns .now) (c .before .before .before .before .before .before .before .before .args .held .now) (c .add-column .last .0 ++ drop (c .before .before .before .before .before .loop .left) (c .before .before .before .before .before .loop .held)) (c .add-column .result) (c .before .before .before .before .before .loop .i + 1)
 turned c =
-    reduced-turn _ _ _ _ _ _ _ (c .before .before .before .before .before .loop .inv) (c .before .before .before .before .loop-test .taken) (c .add-column .kept .0) (c .add-column .ensures .0) (c .add-column .ensures .1)
+    let so-far = c .before .before .before .before .before .loop .inv in
+    let inside = c .before .before .before .before .loop-test .taken in
+    reduced-turn _ _ _ _ _ _ _ so-far inside (c .add-column .kept .0) (c .add-column .ensures .0) (c .add-column .ensures .1)
 
 loop-holds : tie.Need-loop-holds Inv-loop μ-loop
 loop-holds c = reduced-start _ _
@@ -60,7 +62,9 @@ loop-less : tie.Need-loop-less Inv-loop μ-loop
 loop-less c = search needs
 
 loop-again : tie.Need-loop-again Inv-loop μ-loop
-loop-again c = reduced-on _ _ _ _ _ _ (turned (c .before .before .before .before)) (c .next-place .ensures .1)
+loop-again c =
+    let so-far = turned (c .before .before .before .before) in
+    reduced-on _ _ _ _ _ _ so-far (c .next-place .ensures .1)
 
 same-length-2 : tie.Need-same-length-2 Inv-loop μ-loop
 same-length-2 c = search needs

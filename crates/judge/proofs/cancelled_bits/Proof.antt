@@ -7,22 +7,16 @@ use Rattle.judge.proofs.cancelled_bits.Statement.{statement}
 use Rattle.judge.proofs.cancelled_bits.Tie as tie
 
 abbrev Inv-loop : tie.InvT-loop
-Inv-loop plan signature q bits₀ i₀ bits i = Cancelled plan signature q bits i
+Inv-loop plan q signature bits₀ i₀ bits i = Cancelled plan signature q bits i
 
 abbrev μ-loop : tie.MeasureT-loop
-μ-loop plan signature q bits₀ i₀ bits i = i
+μ-loop plan q signature bits₀ i₀ bits i = i
 
-count-requires : tie.Need-count-requires Inv-loop μ-loop
-count-requires c κs = search needs
-
-cast-q : tie.Need-cast-q Inv-loop μ-loop
-cast-q c = search needs
-
-returns : tie.Need-returns Inv-loop μ-loop
-returns c = λ h. let z : ⊥ = omega (arith, c .before .count .ensures .0) in absurd z
+cast-i : tie.Need-cast-i Inv-loop μ-loop
+cast-i c = search needs
 
 loop-holds : tie.Need-loop-holds Inv-loop μ-loop
-loop-holds c = cancelled-start _ _ _ (c .before .count .ensures .0) (c .if1 .left)
+loop-holds c = cancelled-start _ _ _ (search needs)
 
 sub-i : tie.Need-sub-i Inv-loop μ-loop
 sub-i c = search needs
@@ -37,7 +31,9 @@ shared-parity-requires : tie.Need-shared-parity-requires Inv-loop μ-loop
 shared-parity-requires c κs = search needs
 
 add-bits : tie.Need-add-bits Inv-loop μ-loop
-add-bits c = omega (arith, cancelled-room _ _ _ _ _ (c .before .before .before .loop .inv) (search needs), c .shared-parity .ensures, parity-lt (c .before .plan-word .result) (c .before .before .before .before .before .before .before .args .signature))
+add-bits c =
+    let signature = c .before .before .before .before .before .args .signature in
+    omega (arith, cancelled-room _ _ _ _ _ (c .before .before .before .loop .inv) (search needs), c .shared-parity .ensures, parity-lt (c .before .plan-word .result) signature)
 
 loop-less : tie.Need-loop-less Inv-loop μ-loop
 loop-less c = search needs
@@ -45,8 +41,8 @@ loop-less c = search needs
 loop-again : tie.Need-loop-again Inv-loop μ-loop
 loop-again c = cancelled-turn _ _ _ _ _ _ _ (c .before .before .before .loop .inv) (search needs) (c .before .plan-word .ensures) (c .shared-parity .ensures)
 
-returns-2 : tie.Need-returns-2 Inv-loop μ-loop
-returns-2 c = λ h. cancelled-end _ _ _ _ _ (c .before .loop .inv) (search needs)
+returns : tie.Need-returns Inv-loop μ-loop
+returns c = cancelled-end _ _ _ _ _ (c .before .loop .inv) (search needs)
 
 pub cancelled-bits-spec : {M : Type 1} → statement M
 cancelled-bits-spec =
@@ -54,9 +50,7 @@ cancelled-bits-spec =
     (tie.spec
     Inv-loop
     μ-loop
-    count-requires
-    cast-q
-    returns
+    cast-i
     loop-holds
     sub-i
     mul-bits
@@ -65,4 +59,4 @@ cancelled-bits-spec =
     add-bits
     loop-less
     loop-again
-    returns-2)
+    returns)

@@ -1,47 +1,73 @@
 -- `judge` meets its contract: each way out by its law.
-use Rattle.judge.proofs.CallLaws.{Read, judged-refused, read-of, judged-passes, judged-fails}
 use native.Mathlib.Omega.{arith}
 use lib.Bits.{bitXor}
 use lib.Count.{trailing-le}
+use Rattle.judge.proofs.CallLaws.{judged-unsound, sound-few, judged-beyond, judged-passes, judged-fails}
 use borrow.Author.Needs.{needs}
 use Rattle.judge.proofs.judge.Statement.{statement}
 use Rattle.judge.proofs.judge.Tie as tie
 
--- past the numbers: the two words are the cancelled and the expected bits
-both : (c : tie.After-expected-bits) → Read (c .before .before .before .before .before .args .plan .now) (c .before .before .before .before .before .args .signature) (c .before .cancelled-bits .result) (c .expected-bits .result)
-both c =
-    read-of _ _ _ _ _ (c .before .before .before .first-refusal .ensures) (c .before .before .if1 .left) (c .before .cancelled-bits .ensures)
-    (c .expected-bits .ensures)
+check-plan-requires : tie.Need-check-plan-requires
+check-plan-requires c κs = search needs
 
-first-refusal-requires : tie.Need-first-refusal-requires
-first-refusal-requires c κs = search needs
+enum-known-checked : tie.Need-enum-known-checked
+enum-known-checked c = search needs
+
+enum-told : tie.Need-enum-told
+enum-told c = search needs
+
+number-of-requires : tie.Need-number-of-requires
+number-of-requires c κs = search needs
 
 returns : tie.Need-returns
-returns c = judged-refused _ _ _ (c .before .first-refusal .ensures) (c .if1 .taken)
+returns c = judged-unsound _ _ _ (c .before .before .before .check-plan .ensures) _ _ (c .before .enum-told .given .1) (c .number-of .ensures)
 
-cancelled-bits-requires : tie.Need-cancelled-bits-requires
-cancelled-bits-requires c κs = search needs
-
-expected-bits-requires : tie.Need-expected-bits-requires
-expected-bits-requires c κs = search needs
+is-beyond-requires : tie.Need-is-beyond-requires
+is-beyond-requires c κs = search needs
 
 returns-2 : tie.Need-returns-2
-returns-2 c = judged-passes _ _ _ _ (both (c .before)) (c .if2 .taken)
+returns-2 c =
+    let checked = c .before .before .before .before .before .check-plan .ensures in
+    let sound = c .before .before .before .checked .given .1 in
+    judged-beyond _ _ _ checked _ _ _ sound _ (c .before .is-beyond .ensures) (c .if1 .taken)
 
-cast-t7 : tie.Need-cast-t7
-cast-t7 c = omega (arith, trailing-le 64 (bitXor (c .before .before .cancelled-bits .result) (c .before .expected-bits .result)))
+cancelled-bits-requires : tie.Need-cancelled-bits-requires
+cancelled-bits-requires c κs =
+    let checked = c .before .before .before .before .before .check-plan .ensures in
+    let sound = c .before .before .before .checked .given .1 in
+    sound-few _ _ _ checked _ _ _ sound _ (c .before .is-beyond .ensures)
 
 returns-3 : tie.Need-returns-3
-returns-3 c = judged-fails _ _ _ _ (both (c .before)) (c .if2 .left)
+returns-3 c =
+    let checked = c .before .before .before .before .before .before .before .check-plan .ensures in
+    let sound = c .before .before .before .before .before .checked .given .1 in
+    let within = c .before .before .if1 .left in
+    judged-passes _ _ _ checked _ _ _ sound _ (c .before .before .before .is-beyond .ensures) within _ (c .before .cancelled-bits .ensures) (c .if2 .taken)
+
+cast-index : tie.Need-cast-index
+cast-index c =
+    let expected = c .before .before .before .before .before .checked .given .0 .1 .1 .0 in
+    omega (arith, trailing-le 64 (bitXor (c .before .cancelled-bits .result) expected))
+
+returns-4 : tie.Need-returns-4
+returns-4 c =
+    let checked = c .before .before .before .before .before .before .before .check-plan .ensures in
+    let sound = c .before .before .before .before .before .checked .given .1 in
+    let within = c .before .before .if1 .left in
+    judged-fails _ _ _ checked _ _ _ sound _ (c .before .before .before .is-beyond .ensures) within _ (c .before .cancelled-bits .ensures) (c .if2 .left)
 
 pub judge-spec : {M : Type 1} → statement M
 judge-spec =
     tie.close
     (tie.spec
-    first-refusal-requires
+    check-plan-requires
+    enum-known-checked
+    enum-told
+    number-of-requires
     returns
-    cancelled-bits-requires
-    expected-bits-requires
+    is-beyond-requires
     returns-2
-    cast-t7
-    returns-3)
+    cancelled-bits-requires
+    returns-3
+    cast-index
+    returns-4)

@@ -38,11 +38,14 @@ loop-less : tie.Need-loop-less Inv-loop μ-loop
 loop-less c = search needs
 
 loop-again : tie.Need-loop-again Inv-loop μ-loop
-loop-again c = (
-  search needs,
-  search needs,
-  made-turns _ _ _ _ _ (c .before .before .before .before .loop .inv .1) (c .before .before .before .before .before .before .bit-parities .ensures) (c .before .before .before .before .loop .inv .2) (search needs) (c .table-entry .ensures),
-)
+loop-again c =
+    let long = c .before .before .before .before .loop .inv .1 in
+    let bits = c .before .before .before .before .before .before .bit-parities .ensures in
+    let made = c .before .before .before .before .loop .inv .2 in (
+      search needs,
+      search needs,
+      made-turns _ _ _ _ _ long bits made (search needs) (c .table-entry .ensures),
+    )
 
 returns : tie.Need-returns Inv-loop μ-loop
 returns c = made-ends _ _ _ (c .before .loop .inv .2) (search needs)

@@ -15,12 +15,16 @@ Inv-loop words columns from table i₀ i = Skipped (take 64 words) columns from 
 abbrev μ-loop : tie.MeasureT-loop
 μ-loop words columns from table i₀ i = length columns - i
 
--- what is lookedParities up are the column's parities
+-- what is looked up are the column's parities
 found : (c : tie.After-looked-up Inv-loop μ-loop) → c .looked-up .result ≡ parities (take 64 (c .before .before .before .before .before .before .before .before .args .words .now)) (getD (c .before .before .before .before .before .before .before .before .args .columns .now) (c .before .before .before .before .loop .i) 0)
 found c =
+    let words = c .before .before .before .before .before .before .before .before .args .words .now in
+    let right = c .before .before .before .before .before .byte-table .ensures in
+    let small = c .before .before .before .before .before .before .shared-slice-known2 .given in
+    let i = c .before .before .before .before .loop .i in
     c .looked-up .ensures
-    ∙ looked-parities (take 64 (c .before .before .before .before .before .before .before .before .args .words .now)) _ (c .before .before .before .before .before .byte-table .ensures) _
-    (c .before .before .before .before .before .before .shared-slice-known2 .given (c .before .before .before .before .loop .i) .fits)
+    ∙ looked-parities (take 64 words) _ right _
+    (small i .fits)
 
 byte-table-requires : tie.Need-byte-table-requires Inv-loop μ-loop
 byte-table-requires c κs = search needs
@@ -38,7 +42,9 @@ looked-up-requires : tie.Need-looked-up-requires Inv-loop μ-loop
 looked-up-requires c κs = search needs
 
 returns : tie.Need-returns Inv-loop μ-loop
-returns c = skipped-odd _ _ _ _ _ (c .before .before .before .before .before .loop .inv) (search needs) (found (c .before)) (c .if1 .taken)
+returns c =
+    let so-far = c .before .before .before .before .before .loop .inv in
+    skipped-odd _ _ _ _ _ so-far (search needs) (found (c .before)) (c .if1 .taken)
 
 add-i : tie.Need-add-i Inv-loop μ-loop
 add-i c = search needs
@@ -47,7 +53,9 @@ loop-less : tie.Need-loop-less Inv-loop μ-loop
 loop-less c = search needs
 
 loop-again : tie.Need-loop-again Inv-loop μ-loop
-loop-again c = skipped-even _ _ _ _ _ (c .before .before .before .before .before .loop .inv) (search needs) (found (c .before)) (c .if1 .left)
+loop-again c =
+    let so-far = c .before .before .before .before .before .loop .inv in
+    skipped-even _ _ _ _ _ so-far (search needs) (found (c .before)) (c .if1 .left)
 
 returns-2 : tie.Need-returns-2 Inv-loop μ-loop
 returns-2 c = skipped-all _ _ _ _ (c .before .loop .inv) (search needs)

@@ -5,14 +5,14 @@ use native.Mathlib.Omega.{arith}
 use lib.ListN.{length, take}
 use Rattle.word.specs.Reply.{front}
 use Rattle.word.proofs.FrontLaws.{front-nothing}
-use Rattle.plan_file.specs.Layout.{wordsOf}
+use Rattle.plan_file.specs.Layout.{fileWords}
 use Rattle.plan_file.proofs.CallLaws.{copy-turn, copy-end}
 use borrow.Author.Needs.{needs}
 use Rattle.plan_file.proofs.copy_words.Statement.{statement}
 use Rattle.plan_file.proofs.copy_words.Tie as tie
 
 abbrev Inv-loop : tie.InvT-loop
-Inv-loop plan words₀ q i₀ words i = (i ≤ q) × (length words ≡ length words₀) × (words ≡ front (take i (wordsOf plan)) words₀)
+Inv-loop plan words₀ q i₀ words i = (i ≤ q) × (length words ≡ length words₀) × (words ≡ front (take i (fileWords plan)) words₀)
 
 abbrev μ-loop : tie.MeasureT-loop
 μ-loop plan words₀ q i₀ words i = q - i
@@ -48,11 +48,12 @@ loop-less : tie.Need-loop-less Inv-loop μ-loop
 loop-less c = search needs
 
 loop-again : tie.Need-loop-again Inv-loop μ-loop
-loop-again c = (
-  search needs,
-  search needs,
-  copy-turn _ _ _ _ _ _ (c .before .before .before .loop .inv .2) (c .before .before .before .before .count .ensures .0) (search needs) (search needs) (c .plan-word .ensures),
-)
+loop-again c =
+    let counted = c .before .before .before .before .count .ensures .0 in (
+      search needs,
+      search needs,
+      copy-turn _ _ _ _ _ _ (c .before .before .before .loop .inv .2) counted (search needs) (search needs) (c .plan-word .ensures),
+    )
 
 same-length-2 : tie.Need-same-length-2 Inv-loop μ-loop
 same-length-2 c = search needs

@@ -38,7 +38,9 @@ is-beyond-requires : tie.Need-is-beyond-requires
 is-beyond-requires c κs = search needs
 
 returns-2 : tie.Need-returns-2
-returns-2 c = λ h. end-exact _ _ _ _ _ (c .before .before .before .before .count .ensures .0) (c .before .before .before .if1 .left) (c .before .before .read-count .ensures .0) (c .before .expected-bits .ensures) (c .is-beyond .ensures) h
+returns-2 c =
+    let counted = c .before .before .before .before .count .ensures .0 in
+    λ h. end-exact _ _ _ _ _ counted (c .before .before .before .if1 .left) (c .before .before .read-count .ensures .0) (c .before .expected-bits .ensures) (c .is-beyond .ensures) h
 
 pub is-bad-plan-end-spec : {M : Type 1} → statement M
 is-bad-plan-end-spec =

@@ -30,7 +30,10 @@ is-next-requires : tie.Need-is-next-requires Inv-loop μ-loop
 is-next-requires c κs = search needs
 
 returns : tie.Need-returns Inv-loop μ-loop
-returns c = plan-passed-stop _ (λ i. c .before .before .before .before .before .before .before .shared-slice-known .given i .fits) _ _ _ _ _ (c .before .before .before .before .loop .inv) _ _ (search needs) (c .before .before .plan-word .ensures) (c .before .is-next .ensures) (c .if1 .taken)
+returns c =
+    let bytes = c .before .before .before .before .before .before .before .shared-slice-known .given in
+    let so-far = c .before .before .before .before .loop .inv in
+    plan-passed-stop _ (λ i. bytes i .fits) _ _ _ _ _ so-far _ _ (search needs) (c .before .before .plan-word .ensures) (c .before .is-next .ensures) (c .if1 .taken)
 
 with-highest-requires : tie.Need-with-highest-requires Inv-loop μ-loop
 with-highest-requires c κs = search needs
@@ -42,10 +45,14 @@ loop-less : tie.Need-loop-less Inv-loop μ-loop
 loop-less c = search needs
 
 loop-again : tie.Need-loop-again Inv-loop μ-loop
-loop-again c = plan-passed-turn _ _ _ _ _ _ _ _ _ (c .before .before .before .before .before .loop .inv) (search needs) (c .before .before .before .plan-word .ensures) (c .before .before .is-next .ensures) (c .before .if1 .left) (c .with-highest .ensures)
+loop-again c =
+    let so-far = c .before .before .before .before .before .loop .inv in
+    plan-passed-turn _ _ _ _ _ _ _ _ _ so-far (search needs) (c .before .before .before .plan-word .ensures) (c .before .before .is-next .ensures) (c .before .if1 .left) (c .with-highest .ensures)
 
 returns-2 : tie.Need-returns-2 Inv-loop μ-loop
-returns-2 c = plan-passed-end _ (λ i. c .before .before .before .before .shared-slice-known .given i .fits) _ _ _ _ _ (c .before .loop .inv) (search needs)
+returns-2 c =
+    let bytes = c .before .before .before .before .shared-slice-known .given in
+    plan-passed-end _ (λ i. bytes i .fits) _ _ _ _ _ (c .before .loop .inv) (search needs)
 
 pub is-bad-word-list-spec : {M : Type 1} → statement M
 is-bad-word-list-spec =

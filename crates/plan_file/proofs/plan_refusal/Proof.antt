@@ -2,51 +2,54 @@
 use mathlib.Core.Path.{sym, _∙_}
 use Prim.Native.Nat.{_≤_}
 use Rattle.word.proofs.ReplyLaws.{refusals}
-use Rattle.plan_file.specs.Layout.{countOf}
-use Rattle.plan_file.specs.Reading.{planTests}
+use Rattle.plan_file.specs.Layout.{fileCount}
+use Rattle.plan_file.specs.Checking.{planFileTests}
 use Rattle.plan_file.proofs.TestLaws.{few-words}
 use borrow.Author.Needs.{needs}
 use Rattle.plan_file.proofs.plan_refusal.Statement.{statement}
 use Rattle.plan_file.proofs.plan_refusal.Tie as tie
 
 -- past 20
-few : (c : tie.After-is-bad-plan-end) → countOf (c .before .before .before .before .before .before .before .before .args .plan .now) ≤ 64
+few : (c : tie.After-is-bad-plan-end) → fileCount (c .before .before .before .before .before .before .before .before .args .plan .now) ≤ 64
 few c =
-    few-words _ (sym (c .before .before .before .before .before .before .is-bad-plan-width .ensures) ∙ c .before .before .before .before .before .if1 .left)
-    (sym (c .before .before .before .before .is-bad-plan-count .ensures) ∙ c .before .before .before .if2 .left)
+    let width-test = c .before .before .before .before .before .before .is-bad-plan-width .ensures in
+    let width-taken = c .before .before .before .before .before .if1 .left in
+    let count-test = c .before .before .before .before .is-bad-plan-count .ensures in
+    few-words _ (sym width-test ∙ width-taken)
+    (sym count-test ∙ c .before .before .before .if2 .left)
 
 is-bad-plan-width-requires : tie.Need-is-bad-plan-width-requires
 is-bad-plan-width-requires c κs = search needs
 
 returns : tie.Need-returns
-unfolding planTests
+unfolding planFileTests
 returns c = search refusals depth 20 fits 20000
 
 is-bad-plan-count-requires : tie.Need-is-bad-plan-count-requires
 is-bad-plan-count-requires c κs = search needs
 
 returns-2 : tie.Need-returns-2
-unfolding planTests
+unfolding planFileTests
 returns-2 c = search refusals depth 20 fits 20000
 
 is-bad-word-list-requires : tie.Need-is-bad-word-list-requires
 is-bad-word-list-requires c κs = search needs
 
 returns-3 : tie.Need-returns-3
-unfolding planTests
+unfolding planFileTests
 returns-3 c = search refusals depth 20 fits 20000
 
 is-bad-plan-end-requires : tie.Need-is-bad-plan-end-requires
 is-bad-plan-end-requires c κs = search needs
 
 returns-4 : tie.Need-returns-4
-unfolding planTests
+unfolding planFileTests
 returns-4 c =
     let ended = c .before .is-bad-plan-end .ensures (few (c .before)) in
     search refusals depth 20 fits 20000
 
 returns-5 : tie.Need-returns-5
-unfolding planTests
+unfolding planFileTests
 returns-5 c =
     let ended = c .before .is-bad-plan-end .ensures (few (c .before)) in
     search refusals depth 20 fits 20000

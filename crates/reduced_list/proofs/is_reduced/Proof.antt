@@ -25,7 +25,10 @@ is-next-requires : tie.Need-is-next-requires Inv-loop μ-loop
 is-next-requires c κs = search needs
 
 returns : tie.Need-returns Inv-loop μ-loop
-returns c = passed-stop _ _ (λ i. c .before .before .before .before .before .shared-slice-known .given i .fits) _ _ _ _ (c .before .before .before .before .loop .inv .1) (search needs) (c .before .is-next .ensures) (c .if1 .taken)
+returns c =
+    let words-fit = c .before .before .before .before .before .shared-slice-known .given in
+    let so-far = c .before .before .before .before .loop .inv .1 in
+    passed-stop _ _ (λ i. words-fit i .fits) _ _ _ _ so-far (search needs) (c .before .is-next .ensures) (c .if1 .taken)
 
 with-highest-requires : tie.Need-with-highest-requires Inv-loop μ-loop
 with-highest-requires c κs = search needs
@@ -37,7 +40,9 @@ loop-less : tie.Need-loop-less Inv-loop μ-loop
 loop-less c = search needs
 
 loop-again : tie.Need-loop-again Inv-loop μ-loop
-loop-again c = (search needs, passed-turn _ _ _ _ _ _ _ (c .before .before .before .before .before .loop .inv .1) (search needs) (c .before .before .is-next .ensures) (c .before .if1 .left) (c .with-highest .ensures))
+loop-again c =
+    let so-far = c .before .before .before .before .before .loop .inv .1 in
+    (search needs, passed-turn _ _ _ _ _ _ _ so-far (search needs) (c .before .before .is-next .ensures) (c .before .if1 .left) (c .with-highest .ensures))
 
 returns-2 : tie.Need-returns-2 Inv-loop μ-loop
 returns-2 c = passed-end _ _ (λ i. c .before .before .shared-slice-known .given i .fits) _ _ _ (c .before .loop .inv .1) (search needs)

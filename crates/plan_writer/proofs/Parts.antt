@@ -1,11 +1,13 @@
--- What the writer writes the reader reads back, and a plan that is taken is the one that the writer makes of its content:
+-- The plan file of a content has the content's parts, and a plan that is taken is the plan file of its own:
 --
 --   Content, content   what is known of a content that the writer takes
+--   content-taken      .. and the writer takes a content of which it is known, where there is room
 --   written-width      the plan file of a content has its m
+--   written-count      .. as many words
 --   written-words      .. its words
 --   written-expected   .. its expected bits
 --   written-taken      .. and meets no number
---   written-output     .. it is the front of the output, as many bytes as the writer answers with
+--   content-read       .. and the reader answers for it with them
 --   plan-of-content    a plan that meets no number is the plan file of its m, its words and its expected bits
 -- Assumes nothing.
 use mathlib.Core.Path.{_≡_, refl, sym, ap, ap₂, _∙_, subst}
@@ -14,14 +16,14 @@ use mathlib.Core.List.{List, [], _++_, append-assoc, append-nil}
 use Prim.Native.Nat.{ℕ, _*_, _^_, _<_, _≤_}
 use native.Mathlib.Nat.{lt-of-lt-of-le}
 use native.Mathlib.Omega.{arith}
-use borrow.Author.Tests.{le-ltb, eq-eqb, not-false}
-use lib.Dec.{eqb, ltb}
+use borrow.Author.Tests.{le-ltb, not-false}
+use lib.Dec.{ltb}
 use lib.ListN.{length, take, drop, getD, length-append, length-drop}
 use lib.Pow.{pow-mono}
-use lib.Seq.{take-all, take-at}
+use lib.Seq.{take-all}
 use Rattle.word.specs.Word.{badWidth, beyond}
 use Rattle.numbers.specs.Bytes.{numberAt, countAt, wordsAt, bytesOf, wordBytes}
-use Rattle.word.specs.Reply.{Reply, answer, firstOf, front, lent}
+use Rattle.word.specs.Reply.{answer, firstOf}
 use Rattle.numbers.proofs.ByteLaws.{bytes-of-length, length-word-bytes}
 use Rattle.numbers.proofs.FileLaws.{number-back, words-back, pow-bytes, number-bytes, words-bytes, part-joins}
 use Rattle.word.proofs.TestLaws.{replied-answer}
@@ -30,12 +32,13 @@ use Rattle.combinations.specs.Reduced.{isReduced}
 use Rattle.combinations.proofs.Theorems.{reduced-below}
 use Rattle.reduced_list.specs.WordCount.{badWordCount}
 use Rattle.reduced_list.proofs.CountLaws.{good-count, not-bad-count}
-use Rattle.plan_file.specs.Layout.{againAt, bitBytes, bitsAt, planLength, widthOf, countOf, wordsOf, againOf, expectedOf}
-use Rattle.plan_file.specs.Reading.{badPlanWidth, badPlanCount, badPlanEnd, planTests}
-use Rattle.plan_file.specs.Writing.{PlanContent, contentOf, wordCount, planBytes, writeTests, writeReply}
-use Rattle.plan_file.proofs.Laws.{Taken, taken}
+use Rattle.plan_file.specs.Layout.{againAt, bitBytes, bitsAt, planLength, fileWidth, fileCount, fileWords, fileAgain, fileExpected}
+use Rattle.plan_writer.specs.Writing.{PlanContent, planContent, wordCount, planBytes, planWriteTests, planWriteReply}
+use Rattle.plan_file.specs.Checking.{PlanFileParts, fileParts}
+use Rattle.plan_file.specs.Reading.{planFileReply}
+use Rattle.plan_file.proofs.Laws.{Taken, taken-read}
 use Rattle.plan_file.proofs.WordPlaces.{plan-words-length}
-use Rattle.plan_file.proofs.WriteLaws.{none-of-write, length-plan-bytes}
+use Rattle.plan_writer.proofs.WriteLaws.{none-of-write, length-plan-bytes}
 
 -- ---- a content that the writer takes
 
@@ -47,9 +50,10 @@ pub record Content (k : PlanContent) : Type 0 where
   pub reduced : isReduced (k .m) (k .words) ≡ true
   pub expected-inside : k .expected < 2 ^ wordCount k
 
-pub content : (k : PlanContent) (room : ℕ) → firstOf (writeTests k room) ≡ 0 → Content k
-content k room h =
-    let none = none-of-write k room h in
+pub content : (k : PlanContent) (room n : ℕ) → planWriteReply k room ≡ answer n → Content k
+unfolding planWriteReply
+content k room n h =
+    let none = none-of-write k room (replied-answer (firstOf (planWriteTests k room)) (planLength (wordCount k)) n h .0) in
     record {
       width-positive = good-width (k .m) (none .width) .0;
       width-most = good-width (k .m) (none .width) .1;
@@ -59,23 +63,16 @@ content k room h =
       expected-inside = within (wordCount k) (k .expected) (none .bits);
     }
 
--- ---- a plan that is right in each part meets no number
-
-pub taken-back : (plan : List ℕ) → Taken plan → firstOf (planTests plan) ≡ 0
-unfolding planTests badPlanWidth badPlanCount badPlanEnd badWidth
-taken-back plan t =
-    let q = countOf plan in
-    let a1 : ltb (length plan) 2 ≡ false = le-ltb (length plan) 2 (omega (arith, t .exact)) in
-    let a2 : ltb (widthOf plan) 1 ≡ false = le-ltb (widthOf plan) 1 (t .width-positive) in
-    let a3 : ltb 64 (widthOf plan) ≡ false = le-ltb 64 (widthOf plan) (t .width-most) in
-    let b1 : ltb (length plan) 4 ≡ false = le-ltb (length plan) 4 (omega (arith, t .exact)) in
-    let b2 : badWordCount (widthOf plan) q ≡ false = not-bad-count (widthOf plan) q (t .count-positive) (t .count-most) in
-    let b3 : ltb (length plan) (againAt q) ≡ false = le-ltb (length plan) (againAt q) (omega (arith, t .exact)) in
-    let d1 : ltb (length plan) (bitsAt q) ≡ false = le-ltb (length plan) (bitsAt q) (omega (arith, t .exact)) in
-    let d2 : eqb (againOf plan) q ≡ true = eq-eqb (againOf plan) q (t .again) in
-    let d3 : eqb (length plan) (planLength q) ≡ true = eq-eqb (length plan) (planLength q) (t .exact) in
-    let d4 : beyond q (expectedOf plan) ≡ false = not-beyond q (expectedOf plan) (t .expected-inside) in
-    rw (a1, a2, a3, b1, b2, b3, t .reduced, d1, d2, d3, d4)
+pub content-taken : (k : PlanContent) (room : ℕ) → Content k → planLength (wordCount k) ≤ room
+    → planWriteReply k room ≡ answer (planLength (wordCount k))
+unfolding planWriteReply planWriteTests badWidth
+content-taken k room c h =
+    let a1 : ltb (k .m) 1 ≡ false = le-ltb (k .m) 1 (c .width-positive) in
+    let a2 : ltb 64 (k .m) ≡ false = le-ltb 64 (k .m) (c .width-most) in
+    let b : badWordCount (k .m) (wordCount k) ≡ false = not-bad-count (k .m) (wordCount k) (c .count-positive) (c .count-most) in
+    let d : beyond (wordCount k) (k .expected) ≡ false = not-beyond (wordCount k) (k .expected) (c .expected-inside) in
+    let e : ltb room (planLength (wordCount k)) ≡ false = le-ltb room (planLength (wordCount k)) h in
+    rw (a1, a2, b, c .reduced, d, e)
 
 -- ---- the parts of the file that was written
 
@@ -98,11 +95,11 @@ module _ (k : PlanContent) (c : Content k) where
   words-fit : (i : ℕ) → getD (k .words) i 0 < 256 ^ 8
   words-fit i = lt-of-lt-of-le (reduced-below (k .m) (k .words) (c .reduced) i) (pow-mono (c .width-most))
 
-  pub written-width : widthOf (planBytes k) ≡ k .m
+  pub written-width : fileWidth (planBytes k) ≡ k .m
   unfolding planBytes
   written-width = number-back 2 (k .m) [] _ 0 refl (omega (arith, c .width-most))
 
-  pub written-count : countOf (planBytes k) ≡ q
+  pub written-count : fileCount (planBytes k) ≡ q
   unfolding planBytes
   written-count = number-back 2 q (bytesOf 2 (k .m)) _ 2 (bytes-of-length 2 (k .m)) count-fits
 
@@ -117,14 +114,14 @@ module _ (k : PlanContent) (c : Content k) where
   again-long =
       length-append (bytesOf 2 (k .m) ++ bytesOf 2 q ++ wordBytes (k .words)) (bytesOf 2 q) ∙ omega (arith, words-long, bytes-of-length 2 q)
 
-  pub written-words : wordsOf (planBytes k) ≡ k .words
+  pub written-words : fileWords (planBytes k) ≡ k .words
   unfolding planBytes
   written-words =
       ap (wordsAt (planBytes k) 4) written-count
       ∙ ap (λ (s : List ℕ). wordsAt s 4 q) (sym (append-assoc (bytesOf 2 (k .m)) (bytesOf 2 q) _))
       ∙ words-back (k .words) (bytesOf 2 (k .m) ++ bytesOf 2 q) _ 4 start-long words-fit
 
-  written-again : againOf (planBytes k) ≡ q
+  written-again : fileAgain (planBytes k) ≡ q
   unfolding planBytes
   written-again =
       ap (λ (n : ℕ). countAt (planBytes k) (againAt n)) written-count
@@ -132,7 +129,7 @@ module _ (k : PlanContent) (c : Content k) where
       (sym (append-assoc (bytesOf 2 (k .m)) (bytesOf 2 q) _) ∙ sym (append-assoc (bytesOf 2 (k .m) ++ bytesOf 2 q) (wordBytes (k .words)) _))
       ∙ number-back 2 q (bytesOf 2 (k .m) ++ bytesOf 2 q ++ wordBytes (k .words)) bits (againAt q) words-long count-fits
 
-  pub written-expected : expectedOf (planBytes k) ≡ k .expected
+  pub written-expected : fileExpected (planBytes k) ≡ k .expected
   unfolding planBytes
   written-expected =
       ap (λ (n : ℕ). numberAt (bitBytes n) (planBytes k) (bitsAt n)) written-count
@@ -143,10 +140,9 @@ module _ (k : PlanContent) (c : Content k) where
       ∙ number-back (bitBytes q) (k .expected) (bytesOf 2 (k .m) ++ bytesOf 2 q ++ wordBytes (k .words) ++ bytesOf 2 q) [] (bitsAt q) again-long
       (bits-fit q (k .expected) (c .expected-inside))
 
-  pub written-taken : firstOf (planTests (planBytes k)) ≡ 0
+  pub written-taken : Taken (planBytes k)
   written-taken =
-      taken-back (planBytes k)
-      (record {
+      record {
         width-positive = omega (arith, written-width, c .width-positive);
         width-most = omega (arith, written-width, c .width-most);
         count-positive = omega (arith, written-count, c .count-positive);
@@ -155,36 +151,35 @@ module _ (k : PlanContent) (c : Content k) where
         again = written-again ∙ sym written-count;
         exact = length-plan-bytes k ∙ ap planLength (sym written-count);
         expected-inside =
-            subst (λ (x : ℕ). x < 2 ^ countOf (planBytes k)) (sym written-expected)
+            subst (λ (x : ℕ). x < 2 ^ fileCount (planBytes k)) (sym written-expected)
             (subst (λ (n : ℕ). k .expected < 2 ^ n) (sym written-count) (c .expected-inside));
-      })
+      }
 
-pub written-output : (k : PlanContent) (l : List ℕ) (n : ℕ) → writeReply k (length l) ≡ answer n
-    → take n (lent (writeReply k (length l)) (planBytes k) l) ≡ planBytes k
-unfolding writeReply front
-written-output k l n e =
-    let done = replied-answer (firstOf (writeTests k (length l))) (planLength (wordCount k)) n e in
-    let long : length (planBytes k) ≡ n = length-plan-bytes k ∙ sym (done .1) in
-    ap (λ (r : Reply ℕ). take n (lent r (planBytes k) l)) e ∙ take-at (planBytes k) _ n long
+  pub content-read : (room : ℕ) → wordCount k ≤ room
+      → planFileReply (planBytes k) room ≡ answer (record { m = k .m; q = wordCount k; expected = k .expected })
+  content-read room h =
+      let same : _≡_ {A = PlanFileParts} (fileParts (planBytes k)) (record { m = k .m; q = wordCount k; expected = k .expected }) =
+      rw (written-expected, written-width, written-count)
+      in
+      taken-read (planBytes k) room (written-taken) (omega (arith, written-count)) ∙ ap answer same
 
 -- ---- a plan of bytes, part after part
 
-pub plan-of-content : (plan : List ℕ) → ((i : ℕ) → getD plan i 0 < 256) → firstOf (planTests plan) ≡ 0
-    → planBytes (contentOf (widthOf plan) (wordsOf plan) (expectedOf plan)) ≡ plan
+pub plan-of-content : (plan : List ℕ) → ((i : ℕ) → getD plan i 0 < 256) → Taken plan
+    → planBytes (planContent (fileWidth plan) (fileWords plan) (fileExpected plan)) ≡ plan
 unfolding planBytes
-plan-of-content plan small h =
-    let t : Taken plan = taken plan h in
-    let q = countOf plan in
+plan-of-content plan small t =
+    let q = fileCount plan in
     let long : length plan ≡ planLength q = t .exact in
-    let same : length (wordsOf plan) ≡ q = plan-words-length plan in
-    let p1 : bytesOf 2 (widthOf plan) ≡ take 2 (drop 0 plan) = number-bytes plan small 2 0 (omega arith) in
-    let p2 : bytesOf 2 (length (wordsOf plan)) ≡ take 2 (drop 2 plan) = ap (bytesOf 2) same ∙ number-bytes plan small 2 2 (omega arith) in
-    let p3 : wordBytes (wordsOf plan) ≡ take (8 * q) (drop 4 plan) = words-bytes plan small q 4 (omega arith) in
-    let p4 : bytesOf 2 (length (wordsOf plan)) ≡ take 2 (drop (againAt q) plan) =
+    let same : length (fileWords plan) ≡ q = plan-words-length plan in
+    let p1 : bytesOf 2 (fileWidth plan) ≡ take 2 (drop 0 plan) = number-bytes plan small 2 0 (omega arith) in
+    let p2 : bytesOf 2 (length (fileWords plan)) ≡ take 2 (drop 2 plan) = ap (bytesOf 2) same ∙ number-bytes plan small 2 2 (omega arith) in
+    let p3 : wordBytes (fileWords plan) ≡ take (8 * q) (drop 4 plan) = words-bytes plan small q 4 (omega arith) in
+    let p4 : bytesOf 2 (length (fileWords plan)) ≡ take 2 (drop (againAt q) plan) =
     ap (bytesOf 2) (same ∙ sym (t .again)) ∙ number-bytes plan small 2 (againAt q) (omega arith)
     in
-    let p5 : bytesOf (bitBytes (length (wordsOf plan))) (expectedOf plan) ≡ take (bitBytes q) (drop (bitsAt q) plan) =
-    ap (λ (n : ℕ). bytesOf (bitBytes n) (expectedOf plan)) same ∙ number-bytes plan small (bitBytes q) (bitsAt q) (omega arith)
+    let p5 : bytesOf (bitBytes (length (fileWords plan))) (fileExpected plan) ≡ take (bitBytes q) (drop (bitsAt q) plan) =
+    ap (λ (n : ℕ). bytesOf (bitBytes n) (fileExpected plan)) same ∙ number-bytes plan small (bitBytes q) (bitsAt q) (omega arith)
     in
     let rest : length (drop (bitsAt q) plan) ≤ bitBytes q = omega (arith, length-drop (bitsAt q) plan) in
     let j5 : take (bitBytes q) (drop (bitsAt q) plan) ≡ drop (bitsAt q) plan = take-all (bitBytes q) (drop (bitsAt q) plan) rest in

@@ -17,10 +17,10 @@ use Rattle.numbers.proofs.FileLaws.{sets-parts, front-sets}
 use Rattle.word.proofs.ReplyLaws.{replied-refusal, none-applies}
 use Rattle.combinations.specs.Reduced.{isReduced}
 use Rattle.reduced_list.specs.WordCount.{badWordCount}
 use Rattle.plan_file.specs.Layout.{planLength}
-use Rattle.plan_file.specs.Writing.{PlanContent, contentOf, wordCount, planBytes, writeTests, writeReply, saidWritten}
-use Rattle.plan_file.specs.declared.Written.{Written}
-use Rattle.plan_file.specs.declared.Written.the-variants.{Done, Refused}
+use Rattle.plan_writer.specs.Writing.{PlanContent, planContent, wordCount, planBytes, planWriteTests, planWriteReply, said}
+use Rattle.plan_writer.specs.declared.Written.{Written}
+use Rattle.plan_writer.specs.declared.Written.the-variants.{Done, Refused}
 
 -- ---- the low bytes of a word: those still to be written stand in `rest`
 
@@ -52,7 +52,7 @@ length-plan-bytes k =
     simp (length-append, bytes-of-length, length-word-bytes) (omega arith)
 
 written-file : (m : ℕ) (ws : List ℕ) (e : ℕ) (l : List ℕ)
-    → sets l 0 (planBytes (contentOf m ws e))
+    → sets l 0 (planBytes (planContent m ws e))
     ≡ sets (sets (sets (sets (sets l 0 (bytesOf 2 m)) 2 (bytesOf 2 (length ws))) 4 (wordBytes ws)) (4 + 8 * length ws) (bytesOf 2 (length ws))) (6 + 8 * length ws) (bytesOf ((length ws + 7) / 8) e)
 unfolding planBytes
 written-file m ws e l =
@@ -69,15 +69,15 @@ same-long l l′ vs i e = ap length e ∙ length-sets l i vs
 pub parts-written : (m : ℕ) (ws : List ℕ) (e : ℕ) (l l1 l2 l3 l4 l5 : List ℕ) → l1 ≡ sets l 0 (bytesOf 2 m) → l2 ≡ sets l1 2 (bytesOf 2 (length ws))
     → l3 ≡ sets l2 4 (wordBytes ws) → l4 ≡ sets l3 (4 + 8 * length ws) (bytesOf 2 (length ws))
     → (6 + 8 * length ws + (length ws + 7) / 8 ≤ length l4 → l5 ≡ sets l4 (6 + 8 * length ws) (bytesOf ((length ws + 7) / 8) e))
-    → planLength (length ws) ≤ length l → l5 ≡ front (planBytes (contentOf m ws e)) l
+    → planLength (length ws) ≤ length l → l5 ≡ front (planBytes (planContent m ws e)) l
 parts-written m ws e l l1 l2 l3 l4 l5 e1 e2 e3 e4 e5 h =
     let long : length l4 ≡ length l =
     same-long l3 l4 (bytesOf 2 (length ws)) (4 + 8 * length ws) e4 ∙ same-long l2 l3 (wordBytes ws) 4 e3
     ∙ same-long l1 l2 (bytesOf 2 (length ws)) 2 e2 ∙ same-long l l1 (bytesOf 2 m) 0 e1
     in
     let last : l5 ≡ sets l4 (6 + 8 * length ws) (bytesOf ((length ws + 7) / 8) e) = e5 (omega arith) in
-    let whole : l5 ≡ sets l 0 (planBytes (contentOf m ws e)) = cc (written-file m ws e l) in
-    whole ∙ front-sets (planBytes (contentOf m ws e)) l (omega (arith, length-plan-bytes (contentOf m ws e)))
+    let whole : l5 ≡ sets l 0 (planBytes (planContent m ws e)) = cc (written-file m ws e l) in
+    whole ∙ front-sets (planBytes (planContent m ws e)) l (omega (arith, length-plan-bytes (planContent m ws e)))
 
 -- ---- the writer's numbers
 
@@ -95,8 +95,8 @@ pub record NoneApplies (k : PlanContent) (room : ℕ) : Type 0 where
   pub bits : beyond (wordCount k) (k .expected) ≡ false
   pub room-left : ltb room (planLength (wordCount k)) ≡ false
 
-pub none-of-write : (k : PlanContent) (room : ℕ) → firstOf (writeTests k room) ≡ 0 → NoneApplies k room
-unfolding writeTests
+pub none-of-write : (k : PlanContent) (room : ℕ) → firstOf (planWriteTests k room) ≡ 0 → NoneApplies k room
+unfolding planWriteTests
 none-of-write k room h =
     let a = none-applies (badWidth (k .m)) 18 _ h in
     let h1 = rw a at h in
@@ -109,7 +109,7 @@ none-of-write k room h =
     record { width = a; count = b; words = c; bits = d; room-left = none-applies (ltb room (planLength (wordCount k))) 23 _ h4 }
 
 -- where the writer meets no number, the output has room
-write-room : (k : PlanContent) (room : ℕ) → firstOf (writeTests k room) ≡ 0 → planLength (wordCount k) ≤ room
+write-room : (k : PlanContent) (room : ℕ) → firstOf (planWriteTests k room) ≡ 0 → planLength (wordCount k) ≤ room
 write-room k room h = ltb-false room (planLength (wordCount k)) (none-of-write k room h .room-left)
 
 -- ---- the writer's ways out
@@ -117,27 +117,27 @@ write-room k room h = ltb-false room (planLength (wordCount k)) (none-of-write k
 -- what the writer answers, a, and leaves in the output l, l′
 abbrev pub Ends : PlanContent → List ℕ → Written → List ℕ → Type 0
 Ends k l a l′ =
-    (saidWritten a ≡ writeReply k (length l)) × (l′ ≡ lent (writeReply k (length l)) (planBytes k) l)
+    (said a ≡ planWriteReply k (length l)) × (l′ ≡ lent (planWriteReply k (length l)) (planBytes k) l)
 
-refused-reply : (k : PlanContent) (room n : ℕ) → n ≡ firstOf (writeTests k room) → (n ≡ 0 → ⊥) → writeReply k room ≡ refusal n
-unfolding writeReply
+refused-reply : (k : PlanContent) (room n : ℕ) → n ≡ firstOf (planWriteTests k room) → (n ≡ 0 → ⊥) → planWriteReply k room ≡ refusal n
+unfolding planWriteReply
 refused-reply k room n e h =
     ap (λ (x : ℕ). replied x (planLength (wordCount k))) (sym e) ∙ replied-refusal n (planLength (wordCount k)) h
 
-done-reply : (k : PlanContent) (room : ℕ) → firstOf (writeTests k room) ≡ 0 → writeReply k room ≡ answer (planLength (wordCount k))
-unfolding writeReply
+done-reply : (k : PlanContent) (room : ℕ) → firstOf (planWriteTests k room) ≡ 0 → planWriteReply k room ≡ answer (planLength (wordCount k))
+unfolding planWriteReply
 done-reply k room h = ap (λ (x : ℕ). replied x (planLength (wordCount k))) h
 
-pub ends-refused : (k : PlanContent) (l : List ℕ) (n : ℕ) → n ≡ firstOf (writeTests k (length l)) → (n ≡ 0 → ⊥) → Ends k l (Refused n) l
+pub ends-refused : (k : PlanContent) (l : List ℕ) (n : ℕ) → n ≡ firstOf (planWriteTests k (length l)) → (n ≡ 0 → ⊥) → Ends k l (Refused n) l
 ends-refused k l n e h =
-    let r : writeReply k (length l) ≡ refusal n = refused-reply k (length l) n e h in
+    let r : planWriteReply k (length l) ≡ refusal n = refused-reply k (length l) n e h in
     (sym r, sym (ap (λ (x : Reply ℕ). lent x (planBytes k) l) r))
 
-pub ends-written : (k : PlanContent) (l l′ : List ℕ) (n long : ℕ) → n ≡ firstOf (writeTests k (length l)) → n ≡ 0
+pub ends-written : (k : PlanContent) (l l′ : List ℕ) (n long : ℕ) → n ≡ firstOf (planWriteTests k (length l)) → n ≡ 0
     → (planLength (wordCount k) ≤ length l → l′ ≡ front (planBytes k) l) → long ≡ planLength (wordCount k) → Ends k l (Done long) l′
 ends-written k l l′ n long e z w f =
-    let none : firstOf (writeTests k (length l)) ≡ 0 = sym e ∙ z in
-    let r : writeReply k (length l) ≡ answer (planLength (wordCount k)) = done-reply k (length l) none in (
+    let none : firstOf (planWriteTests k (length l)) ≡ 0 = sym e ∙ z in
+    let r : planWriteReply k (length l) ≡ answer (planLength (wordCount k)) = done-reply k (length l) none in (
       ap answer f ∙ sym r,
       w (write-room k (length l) none) ∙ sym (ap (λ (x : Reply ℕ). lent x (planBytes k) l) r),
     )

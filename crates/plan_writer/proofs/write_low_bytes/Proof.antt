@@ -5,10 +5,10 @@ use native.Mathlib.Omega.{arith}
 use lib.ListN.{length}
 use lib.Seq.{sets}
 use Rattle.numbers.specs.Bytes.{bytesOf}
-use Rattle.plan_file.proofs.WriteLaws.{bytes-start, bytes-turn, bytes-end}
+use Rattle.plan_writer.proofs.WriteLaws.{bytes-start, bytes-turn, bytes-end}
 use borrow.Author.Needs.{needs}
-use Rattle.plan_file.proofs.write_low_bytes.Statement.{statement}
-use Rattle.plan_file.proofs.write_low_bytes.Tie as tie
+use Rattle.plan_writer.proofs.write_low_bytes.Statement.{statement}
+use Rattle.plan_writer.proofs.write_low_bytes.Tie as tie
 
 abbrev Inv-loop : tie.InvT-loop
 Inv-loop out₀ at n x rest₀ i₀ out rest i = (i ≤ n) × (at + n ≤ length out₀) × (length out ≡ length out₀) × (sets out (at + i) (bytesOf (n - i) rest) ≡ sets out₀ at (bytesOf n x))
@@ -44,12 +44,13 @@ loop-less : tie.Need-loop-less Inv-loop μ-loop
 loop-less c = search needs
 
 loop-again : tie.Need-loop-again Inv-loop μ-loop
-loop-again c = (
-  search needs,
-  search needs,
-  search needs,
-  bytes-turn _ _ _ _ _ _ _ _ (search needs) (c .before .before .before .before .before .loop .inv .3) (c .before .before .write-byte .ensures),
-)
+loop-again c =
+    let so-far = c .before .before .before .before .before .loop .inv .3 in (
+      search needs,
+      search needs,
+      search needs,
+      bytes-turn _ _ _ _ _ _ _ _ (search needs) so-far (c .before .before .write-byte .ensures),
+    )
 
 same-length : tie.Need-same-length Inv-loop μ-loop
 same-length c = search needs

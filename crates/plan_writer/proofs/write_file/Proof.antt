@@ -1,8 +1,8 @@
 -- `write_file` meets its contract: the parts one after the other are the file.
-use Rattle.plan_file.proofs.WriteLaws.{parts-written}
+use Rattle.plan_writer.proofs.WriteLaws.{parts-written}
 use borrow.Author.Needs.{needs}
-use Rattle.plan_file.proofs.write_file.Statement.{statement}
-use Rattle.plan_file.proofs.write_file.Tie as tie
+use Rattle.plan_writer.proofs.write_file.Statement.{statement}
+use Rattle.plan_writer.proofs.write_file.Tie as tie
 
 write-count-requires : tie.Need-write-count-requires
 write-count-requires c κs = search needs
@@ -39,7 +39,11 @@ same-length c = search needs
 
 returns : tie.Need-returns
 returns c =
-    parts-written _ _ _ _ _ _ _ _ _ (c .before .before .before .before .before .before .before .before .before .before .before .before .before .before .before .before .before .before .write-count .ensures) (c .before .before .before .before .before .before .before .before .before .before .before .before .before .before .write-count2 .ensures) (c .before .before .before .before .before .before .before .before .before .before .write-words .ensures) (c .before .before .before .before .before .before .write-count3 .ensures) (c .before .before .write-low-bytes .ensures)
+    let width-written = c .before .before .before .before .before .before .before .before .before .before .before .before .before .before .before .before .before .before .write-count .ensures in
+    let count-written = c .before .before .before .before .before .before .before .before .before .before .before .before .before .before .write-count2 .ensures in
+    let words-written = c .before .before .before .before .before .before .before .before .before .before .write-words .ensures in
+    let again-written = c .before .before .before .before .before .before .write-count3 .ensures in
+    parts-written _ _ _ _ _ _ _ _ _ width-written count-written words-written again-written (c .before .before .write-low-bytes .ensures)
 
 pub write-file-spec : {M : Type 1} → statement M
 write-file-spec =
