@@ -1,3 +1,4 @@
 pub mod CellLaws
 pub mod SpareLaws
 pub mod RowLaws
+pub mod ListLaws

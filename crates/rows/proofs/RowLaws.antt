@@ -18,7 +18,7 @@ use Rattle.word.specs.Some.{anyBelow}
 use Rattle.word.proofs.Laws.{bit-cases, or-zero-left, or-zero-right}
 use Rattle.word.proofs.WordLaws.{below-top}
 use Rattle.word.proofs.SomeLaws.{any-below-none, any-below-false}
-use Rattle.word.proofs.BoolLaws.{or-false-left, or-false-right}
+use Rattle.word.proofs.BoolLaws.{or-false-left, or-false-right, and-none}
 use Rattle.rows.specs.Row.{rowBytes, cell, spareSet}
 use Rattle.rows.proofs.CellLaws.{cell-lt}
 use Rattle.rows.specs.Lists.{sharesBit}
@@ -115,11 +115,7 @@ not-both (suc (suc x)) y hx hy e = let z : ⊥ = omega arith in absurd z
 
 both-not : (x y : ℕ) → min x y ≡ 0 → (eqb x 1 && eqb y 1) ≡ false
 both-not zero y e = refl
-both-not (suc x) zero e = both-off (eqb (suc x) 1)
-  where
-    both-off : (b : Bool) → (b && false) ≡ false
-    both-off true = refl
-    both-off false = refl
+both-not (suc x) zero e = and-none (eqb (suc x) 1)
 both-not (suc x) (suc y) e = let z : ⊥ = omega arith in absurd z
 
 abbrev pub BothSet : List ℕ → List ℕ → ℕ → Bool

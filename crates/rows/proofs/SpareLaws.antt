@@ -14,13 +14,9 @@ use Rattle.word.specs.Word.{digit}
 use Rattle.word.specs.Some.{anyBelow}
 use Rattle.word.proofs.Laws.{bit-cases, mod2-lt}
 use Rattle.word.proofs.SomeLaws.{any-below-ext}
-use Rattle.word.proofs.BoolLaws.{or-true-right}
+use Rattle.word.proofs.BoolLaws.{or-true-right, or-none}
 use Rattle.rows.specs.Row.{rowBytes, cell, spareSet}
 use Rattle.word.proofs.WordLaws.{below-top}
-
-or-none : (b : Bool) → (b || false) ≡ b
-or-none true = refl
-or-none false = refl
 
 -- a word with a bit set is not 0
 not-clear : (i w : ℕ) → w ≡ 0 → digit i w ≡ 1 → ⊥

@@ -53,3 +53,11 @@ or-true-left a b h = rw h
 pub or-true-right : (a b : Bool) → b ≡ true → (a || b) ≡ true
 or-true-right true b h = refl
 or-true-right false b h = h
+
+pub or-none : (b : Bool) → (b || false) ≡ b
+or-none true = refl
+or-none false = refl
+
+pub and-none : (b : Bool) → (b && false) ≡ false
+and-none true = refl
+and-none false = refl

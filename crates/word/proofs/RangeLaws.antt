@@ -7,7 +7,7 @@ use native.Mathlib.Numerals.{add-one}
 use native.Mathlib.Omega.{arith}
 use Rattle.word.specs.Some.{anyBelow}
 use Rattle.word.proofs.SomeLaws.{any-below-true}
-use Rattle.word.proofs.BoolLaws.{or-false}
+use Rattle.word.proofs.BoolLaws.{or-false, or-none}
 
 -- two tests are the same where each fails if the other does
 pub same-failures : (a b : Bool) → (a ≡ false → b ≡ false) → (b ≡ false → a ≡ false) → a ≡ b
@@ -61,11 +61,7 @@ any-below-pairs (suc n) f =
 
 pub any-below-add : (m n : ℕ) (f : ℕ → Bool) → anyBelow (m + n) f ≡ (anyBelow m f || anyBelow n (λ k. f (m + k)))
 unfolding anyBelow
-any-below-add m zero f = ap (λ (k : ℕ). anyBelow k f) (add-zero m) ∙ or-none (anyBelow m f)
-  where
-    or-none : (b : Bool) → b ≡ (b || false)
-    or-none true = refl
-    or-none false = refl
+any-below-add m zero f = ap (λ (k : ℕ). anyBelow k f) (add-zero m) ∙ sym (or-none (anyBelow m f))
 any-below-add m (suc n) f =
     ap (λ (k : ℕ). anyBelow k f) (add-suc m n)
     ∙ ap (λ (b : Bool). b || f (m + n)) (any-below-add m n f)

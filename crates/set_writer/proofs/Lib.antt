@@ -1,0 +1,4 @@
+pub mod WriteLaws
+pub mod ContentLaws
+pub mod FileLaws
+pub mod RoundTrip
