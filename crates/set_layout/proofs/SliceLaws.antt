@@ -77,23 +77,18 @@ module _ (set : List ℕ) where
   -- ---- the rows by their place and stride: what `value_rows` and `mark_rows` promise of r
 
   module _ (n : ℕ) (r : Rows) (en : n ≡ chainsOf set) where
-    place-of : (i t : ℕ) → r .at ≡ i → r .stride ≡ 2 * rowBytes n → r .at + r .stride * t ≡ i + 2 * rowBytes n * t
-    place-of i t ea es = ap₂ (λ (x y : ℕ). x + y * t) ea es
+    -- rows of which the first stands at place `at n 0` and each 2 B bytes after the one before
+    row-placed : (at : ℕ → ℕ → ℕ) → ((t : ℕ) → at n 0 + 2 * rowBytes n * t ≡ at n t)
+        → (r .at ≡ at n 0) × (r .stride ≡ 2 * rowBytes n) × (r .bytes ≡ rowBytes n)
+        → (t : ℕ) → rowOf set r t ≡ take (rowBytes (chainsOf set)) (drop (at (chainsOf set) t) set)
+    row-placed at steps h t =
+        ap₂ (λ (k i : ℕ). take k (drop i set)) (h .2) (ap₂ (λ (x y : ℕ). x + y * t) (h .0) (h .1) ∙ steps t)
+        ∙ ap (λ (c : ℕ). take (rowBytes c) (drop (at c t) set)) en
 
     pub value-rows-row : (r .at ≡ valueAt n 0) × (r .stride ≡ 2 * rowBytes n) × (r .bytes ≡ rowBytes n) → (t : ℕ) → rowOf set r t ≡ valueRow set t
     unfolding valueRow
-    value-rows-row h t =
-        let place : r .at + r .stride * t ≡ valueAt n t =
-        place-of (valueAt n 0) t (h .0) (h .1) ∙ omega (arith, mul-zero (2 * rowBytes n))
-        in
-        ap₂ (λ (k i : ℕ). take k (drop i set)) (h .2) place
-        ∙ ap (λ (c : ℕ). take (rowBytes c) (drop (valueAt c t) set)) en
+    value-rows-row = row-placed valueAt (λ t. omega (arith, mul-zero (2 * rowBytes n)))
 
     pub mark-rows-row : (r .at ≡ markAt n 0) × (r .stride ≡ 2 * rowBytes n) × (r .bytes ≡ rowBytes n) → (t : ℕ) → rowOf set r t ≡ markRow set t
     unfolding markRow
-    mark-rows-row h t =
-        let place : r .at + r .stride * t ≡ markAt n t =
-        place-of (markAt n 0) t (h .0) (h .1) ∙ omega (arith, mul-zero (2 * rowBytes n))
-        in
-        ap₂ (λ (k i : ℕ). take k (drop i set)) (h .2) place
-        ∙ ap (λ (c : ℕ). take (rowBytes c) (drop (markAt c t) set)) en
+    mark-rows-row = row-placed markAt (λ t. omega (arith, mul-zero (2 * rowBytes n)))

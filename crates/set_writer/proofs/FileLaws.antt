@@ -18,7 +18,7 @@ use Rattle.numbers.proofs.FileLaws.{sets-parts, front-sets}
 use Rattle.rows.specs.Row.{rowBytes}
 use Rattle.register.specs.Circuit.{badTaps, badChains, badSpread, tooManySlices}
 use Rattle.set_layout.specs.Layout.{tapsAt, chainsAt, spreadAt, slicesAt, rowsAt, setLength}
-use Rattle.set_writer.specs.Writing.{SetContent, contentChains, headBytes, sliceBytes, setBytes, badRows, spareInLists, valuedInLists, setWriteTests, setWriteReply, saidWritten}
+use Rattle.set_writer.specs.Writing.{SetContent, contentChains, headBytes, sliceBytes, setBytes, badRows, spareInLists, valuedInLists, setWriteTests, setWriteReply, saidSetWritten}
 use Rattle.set_writer.specs.declared.Written.{Written}
 use Rattle.set_writer.specs.declared.Written.the-variants.{Done, Refused}
 use Rattle.word.proofs.TestLaws.{none-and-rest}
@@ -113,7 +113,7 @@ file-written k l l₁ l₂ w e₁ e₂ =
 
 -- what the call answers, r, and leaves in the output l, l′
 abbrev pub Writes : SetContent → List ℕ → Written → List ℕ → Type 0
-Writes k l r l′ = (saidWritten r ≡ setWriteReply k (length l)) × (l′ ≡ lent (setWriteReply k (length l)) (setBytes k) l)
+Writes k l r l′ = (saidSetWritten r ≡ setWriteReply k (length l)) × (l′ ≡ lent (setWriteReply k (length l)) (setBytes k) l)
 
 pub writes-refused : (k : SetContent) (l : List ℕ) (n : ℕ) → n ≡ firstOf (setWriteTests k (length l)) → (n ≡ 0 → ⊥) → Writes k l (Refused n) l
 unfolding setWriteReply

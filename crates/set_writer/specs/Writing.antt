@@ -13,7 +13,7 @@
 --   valuedInLists k     document 01, 10: an unknown cell has its value bit set
 --   setWriteTests k room   the numbers that the writer meets, in order, for an output of `room` bytes
 --   setWriteReply k room   its reply: the length of the file
---   saidWritten w       the paper's reading of what the writer hands back
+--   saidSetWritten w       the paper's reading of what the writer hands back
 use mathlib.Core.Bool.{Bool, not, _||_}
 use mathlib.Core.List.{List, [], _∷_, _++_}
 use Prim.Native.Nat.{ℕ, _*_}
@@ -88,6 +88,6 @@ setWriteTests k room =
 unfoldable pub setWriteReply : SetContent → ℕ → Reply ℕ
 setWriteReply k room = reply (setWriteTests k room) (setLength (contentChains k) (k .s))
 
-abbrev pub saidWritten : Written → Reply ℕ
-saidWritten (Done n) = answer n
-saidWritten (Refused n) = refusal n
+abbrev pub saidSetWritten : Written → Reply ℕ
+saidSetWritten (Done n) = answer n
+saidSetWritten (Refused n) = refusal n

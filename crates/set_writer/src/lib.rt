@@ -11,7 +11,7 @@ ghost use Rattle.numbers.specs.Joined.{joined};
 ghost use Rattle.rows.specs.Row.{rowBytes};
 ghost use Rattle.rows.specs.Lists.{listRow, spareIn};
 ghost use Rattle.set_layout.specs.Layout.{rowsAt, setLength};
-ghost use Rattle.set_writer.specs.Writing.{setContent, headBytes, sliceBytes, setBytes, setWriteTests, setWriteReply, saidWritten};
+ghost use Rattle.set_writer.specs.Writing.{setContent, headBytes, sliceBytes, setBytes, setWriteTests, setWriteReply, saidSetWritten};
 
 // What the set writer answers: the length of the file, or the first number that applies.
 pub enum Written {
@@ -146,7 +146,7 @@ pub fn write_set(
     s: u64,
     out: &mut [u8],
 ) -> Written
-    ensures answer { λ r. ⌜ saidWritten r ≡ setWriteReply (setContent m taps (now (spread .entry)) (now (values .entry)) (now (marks .entry)) s) (length (now (out .entry))) ⌝ }
+    ensures answer { λ r. ⌜ saidSetWritten r ≡ setWriteReply (setContent m taps (now (spread .entry)) (now (values .entry)) (now (marks .entry)) s) (length (now (out .entry))) ⌝ }
     ensures file { λ _. ⌜ now (out .exit) ≡ lent (setWriteReply (setContent m taps (now (spread .entry)) (now (values .entry)) (now (marks .entry)) s) (length (now (out .entry)))) (setBytes (setContent m taps (now (spread .entry)) (now (values .entry)) (now (marks .entry)) s)) (now (out .entry)) ⌝ }
 {
     let number = first_write_refusal(m, taps, spread, values, marks, s, out.len());

@@ -2,17 +2,20 @@
 use mathlib.Core.Path.{_≡_, refl, sym, ap, ap₂, _∙_}
 use mathlib.Core.Bool.{Bool, true, false, not}
 use mathlib.Core.List.{List, [], _∷_}
-use Prim.Native.Nat.{ℕ, _+_, _≤_, _<_}
+use mathlib.Core.Logic.{dite}
+use Prim.Native.Nat.{ℕ, _+_, _-_, _≤_, _<_, min}
+use native.Mathlib.Decide.{ℕ-discrete}
 use native.Mathlib.Omega.{arith}
 use borrow.Author.Tests.{lt-ltb, ltb-true, not-false}
 use lib.Dec.{ltb}
 use lib.ListN.{length, take, drop}
 use Rattle.word.specs.Reply.{Reply, answer, refusal, replied, firstOf, _when_}
 use Rattle.word.proofs.ReplyLaws.{replied-refusal, replied-answered, refuses, passes}
+use Rattle.numbers.proofs.PartLaws.{part-clamped}
 use Rattle.rows.specs.Row.{rowBytes}
-use Rattle.set_layout.specs.Layout.{chainsOf, slicesOf, valueAt, markAt, valueRow, markRow}
+use Rattle.set_layout.specs.Layout.{setLength, chainsOf, slicesOf, valueAt, markAt, valueRow, markRow}
 use Rattle.set_file.specs.Reading.{setTests}
-use Rattle.slice_rows.specs.Rows.{Stretch, rowTests, rowReply, valueReply, markReply, stretch, saidPlace}
+use Rattle.slice_rows.specs.Rows.{Stretch, rowTests, rowReply, valueReply, markReply, stretch, stretchAt, saidPlace}
 use Rattle.slice_rows.specs.declared.Place.{Place}
 use Rattle.slice_rows.specs.declared.Place.the-variants.{At, Declined}
 use Rattle.word.proofs.TestLaws.{none-and-rest, first-of-later, first-of-sooner, first-of-none, replied-answer, replied-alike}
@@ -117,12 +120,51 @@ module _ (set : List ℕ) (t : ℕ) where
 
 -- ---- the stretch that a place names
 
-module _ (set row : List ℕ) (p : Place) where
-  pub stretch-there : (a b : ℕ) → p ≡ At a b → row ≡ take b (drop a set) → row ≡ stretch (saidPlace p) set
-  stretch-there a b e r = r ∙ ap (λ (x : Place). stretch (saidPlace x) set) (sym e)
+pub stretch-declined : (set : List ℕ) (at : ℕ × ℕ) (p : Place) (n : ℕ) → p ≡ Declined n
+    → ([] ≡ stretch (saidPlace p) set) × ((at .0 ≡ at .0) × (at .1 ≡ at .1 + min (stretchAt (saidPlace p)) (length set)))
+stretch-declined set at p n e = (
+  ap (λ (x : Place). stretch (saidPlace x) set) (sym e),
+  (refl, omega arith ∙ ap (λ (x : Place). at .1 + min (stretchAt (saidPlace x)) (length set)) (sym e)),
+)
 
-  pub stretch-said : (r : Reply Stretch) → saidPlace p ≡ r → row ≡ stretch (saidPlace p) set → row ≡ stretch r set
-  stretch-said r e h = h ∙ ap (λ (x : Reply Stretch). stretch x set) e
+module _ (set row : List ℕ) (p : Place) where
+  pub stretch-there : (a b start end : ℕ) → p ≡ At a b → start ≡ min (a + 0) (length set) → end ≡ min (start + b) (length set)
+      → row ≡ take (end - start) (drop start set) → row ≡ stretch (saidPlace p) set
+  stretch-there a b start end e es ee r =
+      r ∙ part-clamped set a b start end es ee ∙ ap (λ (x : Place). stretch (saidPlace x) set) (sym e)
+
+pub place-there : (set : List ℕ) (p : Place) (a b start o : ℕ) → p ≡ At a b → start ≡ min (a + 0) (length set)
+    → start + o ≡ o + min (stretchAt (saidPlace p)) (length set)
+place-there set p a b start o e es =
+    let here : start + o ≡ o + min a (length set) = omega (arith, es) in
+    here ∙ ap (λ (x : Place). o + min (stretchAt (saidPlace x)) (length set)) (sym e)
+
+module _ (set : List ℕ) (t : ℕ) where
+  row-inside : (i : ℕ) → (t < slicesOf set → length set ≡ setLength (chainsOf set) (slicesOf set) → i ≤ length set)
+      → stretchAt (rowReply set t i) ≤ length set
+  unfolding rowReply
+  row-inside i h =
+      dite (ℕ-discrete (firstOf (rowTests set t)) 0)
+      (λ (z : firstOf (rowTests set t) ≡ 0).
+      let there = row-accepted set t z in
+      rw (row-answers set t i z) (h (there .1) (there .0 .long)))
+      (λ (d : firstOf (rowTests set t) ≡ 0 → ⊥). rw (row-refuses set t (firstOf (rowTests set t)) i refl d) (omega arith))
+
+  pub value-inside-set : stretchAt (valueReply set t) ≤ length set
+  value-inside-set = row-inside (valueAt (chainsOf set) t) (λ b long. omega (arith, slice-inside set long t b))
+
+  pub mark-inside-set : stretchAt (markReply set t) ≤ length set
+  mark-inside-set = row-inside (markAt (chainsOf set) t) (λ b long. omega (arith, slice-inside set long t b))
+
+module _ (set row : List ℕ) (at place : ℕ × ℕ) (p : Place) where
+  pub row-lent : (r : Reply Stretch) → saidPlace p ≡ r → stretchAt r ≤ length set
+      → (row ≡ stretch (saidPlace p) set) × ((place .0 ≡ at .0) × (place .1 ≡ at .1 + min (stretchAt (saidPlace p)) (length set)))
+      → (row ≡ stretch r set) × ((place .0 ≡ at .0) × (place .1 ≡ at .1 + stretchAt r))
+  row-lent r e inside h =
+      let whole : min (stretchAt r) (length set) ≡ stretchAt r = omega (arith, inside) in (
+        h .0 ∙ ap (λ (x : Reply Stretch). stretch x set) e,
+        (h .1 .0, h .1 .1 ∙ ap (λ (x : Reply Stretch). at .1 + min (stretchAt x) (length set)) e ∙ ap (λ (x : ℕ). at .1 + x) whole),
+      )
 
 -- ---- the rows of an accepted set
 

@@ -8,6 +8,7 @@
 --   valueReply set t    .. for its value row
 --   markReply set t     .. for its row of unknown marks
 --   stretch r set       the part of the set that the reply r names; nothing in a refusal
+--   stretchAt r         the place of its first byte in the set; 0 in a refusal
 --   saidPlace p         the paper's reading of what the companion hands back
 use mathlib.Core.Bool.{not}
 use mathlib.Core.List.{List, [], _∷_, _++_}
@@ -40,6 +41,10 @@ markReply set t = rowReply set t (markAt (chainsOf set) t)
 abbrev pub stretch : Reply Stretch → List ℕ → List ℕ
 stretch (answer p) set = take (p .bytes) (drop (p .start) set)
 stretch (refusal n) set = []
+
+abbrev pub stretchAt : Reply Stretch → ℕ
+stretchAt (answer p) = p .start
+stretchAt (refusal n) = 0
 
 abbrev pub saidPlace : Place → Reply Stretch
 saidPlace (At i k) = answer (record { start = i; bytes = k })

@@ -2,10 +2,12 @@
 // its parts stand. Every function is total.
 ghost use mathlib.Core.Path.{_≡_};
 ghost use mathlib.Core.Bool.{not};
+ghost use Prim.Native.Nat.{_+_, min};
 ghost use lib.Dec.{ltb};
+ghost use lib.ListN.{length};
 ghost use Rattle.word.specs.Reply.{firstOf};
 ghost use Rattle.set_layout.specs.Layout.{slicesOf};
-ghost use Rattle.slice_rows.specs.Rows.{rowTests, valueReply, markReply, stretch, saidPlace};
+ghost use Rattle.slice_rows.specs.Rows.{rowTests, valueReply, markReply, stretch, stretchAt, saidPlace};
 
 // Where a row stands in the set: its first byte and how many, or the first number that applies.
 pub enum Place {
@@ -63,26 +65,33 @@ pub fn mark_place(set: &[u8], slice: u64) -> Place
     }
 }
 
-// The part of the set that a place names; empty where it is declined.
+// The part of the set that a place names, as far as it is there; empty where it is declined.
 fn stretch_at(set: &[u8], place: Place) -> &[u8]
-    ensures { λ r. ⌜ now r ≡ stretch (saidPlace place) (now (set .entry)) ⌝ }
+    ensures bytes { λ r. ⌜ now r ≡ stretch (saidPlace place) (now (set .entry)) ⌝ }
+    ensures place { λ r. ⌜ (r .ptr .0 ≡ set .entry .ptr .0) × (r .ptr .1 ≡ set .entry .ptr .1 + min (stretchAt (saidPlace place)) (length (now (set .entry)))) ⌝ }
 {
     let Place::At { start, bytes } = place else {
         return &set[..0];
     };
-    numbers::part(set, start, bytes)
+    let at = numbers::moved(start, 0, set.len());
+    let end = numbers::moved(at, bytes, set.len());
+    &set[at..end]
 }
 
-// The value row of a slice, the stretch of the set itself; empty where `value_place` declines.
+// The value row of a slice, the stretch of the set itself: its bytes, in the memory where they stand; empty where `value_place`
+// declines.
 pub fn value_row(set: &[u8], slice: u64) -> &[u8]
-    ensures { λ r. ⌜ now r ≡ stretch (valueReply (now (set .entry)) slice) (now (set .entry)) ⌝ }
+    ensures bytes { λ r. ⌜ now r ≡ stretch (valueReply (now (set .entry)) slice) (now (set .entry)) ⌝ }
+    ensures place { λ r. ⌜ (r .ptr .0 ≡ set .entry .ptr .0) × (r .ptr .1 ≡ set .entry .ptr .1 + stretchAt (valueReply (now (set .entry)) slice)) ⌝ }
 {
     stretch_at(set, value_place(set, slice))
 }
 
-// The row of unknown marks of a slice, the stretch of the set itself; empty where `mark_place` declines.
+// The row of unknown marks of a slice, the stretch of the set itself: its bytes, in the memory where they stand; empty where
+// `mark_place` declines.
 pub fn mark_row(set: &[u8], slice: u64) -> &[u8]
-    ensures { λ r. ⌜ now r ≡ stretch (markReply (now (set .entry)) slice) (now (set .entry)) ⌝ }
+    ensures bytes { λ r. ⌜ now r ≡ stretch (markReply (now (set .entry)) slice) (now (set .entry)) ⌝ }
+    ensures place { λ r. ⌜ (r .ptr .0 ≡ set .entry .ptr .0) × (r .ptr .1 ≡ set .entry .ptr .1 + stretchAt (markReply (now (set .entry)) slice)) ⌝ }
 {
     stretch_at(set, mark_place(set, slice))
 }

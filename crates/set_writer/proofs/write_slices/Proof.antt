@@ -5,7 +5,8 @@ use Rattle.numbers.specs.Joined.{joined}
 use Rattle.set_writer.specs.Writing.{sliceBytes}
 use lib.Seq.{sets}
 use native.Mathlib.Omega.{arith}
-use Prim.Native.Nat.{ℕ, _*_, _≤_, _-_}
+use Prim.Native.Nat.{ℕ, _+_, _*_, _≤_, _-_}
+use lib.ListN.{length}
 use mathlib.Core.Path.{ap, _∙_}
 use Rattle.set_writer.proofs.write_slices.Statement.{statement}
 use Rattle.set_writer.proofs.write_slices.Tie as tie
@@ -41,7 +42,15 @@ part-write-bytes-start : tie.Need-part-write-bytes-start Inv-loop μ-loop
 part-write-bytes-start c = search needs
 
 part-write-bytes-end : tie.Need-part-write-bytes-end Inv-loop μ-loop
-part-write-bytes-end c = inside-first _ _ _ (c .before .if1 .left)
+part-write-bytes-end c =
+    let left = c .before in
+    let entry = left .before .before .before .before .before .before .before .before .args in
+    let end = left .before .before .loop .from + left .before .before .before .before .row-bytes .result in
+    omega (
+      arith,
+      inside-first (length (entry .values .now)) (length (entry .marks .now)) end (left .if1 .left),
+      inside-second (length (entry .values .now)) (length (entry .marks .now)) end (left .if1 .left),
+    )
 
 write-bytes-requires : tie.Need-write-bytes-requires Inv-loop μ-loop
 write-bytes-requires c κs = search needs
@@ -56,7 +65,15 @@ part-write-bytes-start-2 : tie.Need-part-write-bytes-start-2 Inv-loop μ-loop
 part-write-bytes-start-2 c = search needs
 
 part-write-bytes-end-2 : tie.Need-part-write-bytes-end-2 Inv-loop μ-loop
-part-write-bytes-end-2 c = inside-second _ _ _ (c .before .before .before .before .before .before .if1 .left)
+part-write-bytes-end-2 c =
+    let left = c .before .before .before .before .before .before in
+    let entry = left .before .before .before .before .before .before .before .before .args in
+    let end = left .before .before .loop .from + left .before .before .before .before .row-bytes .result in
+    omega (
+      arith,
+      inside-first (length (entry .values .now)) (length (entry .marks .now)) end (left .if1 .left),
+      inside-second (length (entry .values .now)) (length (entry .marks .now)) end (left .if1 .left),
+    )
 
 write-bytes-requires-2 : tie.Need-write-bytes-requires-2 Inv-loop μ-loop
 write-bytes-requires-2 c κs = search needs
