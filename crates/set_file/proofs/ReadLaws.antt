@@ -1,5 +1,6 @@
 -- Each way out of the set reader, what it answers and hands back beside it, and what a taken set is:
 --
+--   refused-set        the number of a refused set is the first of its tests that applies
 --   TakenFrom set k    the taken set k is what the file `set` gives: its circuit, n and s
 --   taken-set          .. where the reader answered with k's register, n and s and gave k's spread words beside
 -- Assumes nothing.
@@ -9,8 +10,9 @@ use Prim.Native.Nat.{ℕ, _≤_, min}
 use native.Mathlib.Omega.{arith}
 use lib.ListN.{length, take, drop}
 use lib.Seq.{take-at}
-use Rattle.word.specs.Reply.{Reply, answer, refusal, firstOf, front, lent}
+use Rattle.word.specs.Reply.{Reply, answer, refusal, firstOf, numberOf, front, lent}
 use Rattle.word.proofs.ReplyLaws.{refused-leaves, answered-writes}
+use Rattle.word.proofs.TestLaws.{replied-not-zero}
 use Rattle.register.specs.Circuit.{circuit}
 use Rattle.register.specs.declared.Register.{Register}
 use Rattle.set_layout.specs.Layout.{widthOf, tapsOf, chainsOf, spreadOf, slicesOf, circuitOf, noWords}
@@ -19,7 +21,7 @@ use Rattle.set_file.specs.Reading.{SetParts, setTests, setPartsOf, setRe
 use Rattle.set_file.specs.declared.SetAnswer.{SetAnswer}
 use Rattle.set_file.specs.declared.SetAnswer.the-variants.{Read, Refused}
 use Rattle.set_file.specs.declared.Taken.{Taken}
-use Rattle.set_file.proofs.Laws.{accepted, accepted-width, accepted-chains, set-answers, set-answer-parts, set-answer-none}
+use Rattle.set_file.proofs.Laws.{accepted, accepted-width, accepted-chains, set-answers, set-answer-parts, set-answer-none, set-refusal-first}
 
 -- what the reader answers, a, and the words beside it, ws
 abbrev pub Reads : List ℕ → SetAnswer → List ℕ → Type 0
@@ -43,6 +45,19 @@ reads-answer set ws n m t k s r e z em et er ek es w =
     (w (accepted-chains set (accepted set none) .1))
     in
     (out .0, (out .1, er .2))
+
+-- ---- a refused set
+
+-- n is the number that `number_of` gives
+pub refused-set : (set ws : List ℕ) (a : SetAnswer) (k n : ℕ) → Reads set a ws → a ≡ Refused k → n ≡ numberOf (said a)
+    → (n ≡ firstOf (setTests set)) × (n ≡ 0 → ⊥)
+unfolding setReply
+refused-set set ws a k n reads e en =
+    let refused : setReply set ≡ refusal k = sym (reads .0) ∙ ap said e in
+    let same : n ≡ k = en ∙ ap (λ (x : SetAnswer). numberOf (said x)) e in (
+      same ∙ sym (set-refusal-first set k refused),
+      λ z. replied-not-zero (firstOf (setTests set)) (setPartsOf set) k refused (sym same ∙ z),
+    )
 
 -- ---- a taken set
 

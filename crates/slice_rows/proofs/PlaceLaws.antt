@@ -18,7 +18,7 @@ use Rattle.set_file.specs.Reading.{setTests}
 use Rattle.slice_rows.specs.Rows.{Stretch, rowTests, rowReply, valueReply, markReply, stretch, stretchAt, saidPlace}
 use Rattle.slice_rows.specs.declared.Place.{Place}
 use Rattle.slice_rows.specs.declared.Place.the-variants.{At, Declined}
-use Rattle.word.proofs.TestLaws.{none-and-rest, first-of-later, first-of-sooner, first-of-none, replied-answer, replied-alike}
+use Rattle.word.proofs.TestLaws.{none-and-rest, first-sooner, first-later, none-of-both, replied-answer, replied-alike}
 use Rattle.set_layout.proofs.SliceLaws.{slice-inside}
 use Rattle.set_file.proofs.Laws.{Accepted, accepted, value-row-length, mark-row-length, set-numbered}
 
@@ -31,29 +31,24 @@ module _ (set : List ℕ) (t : ℕ) where
 
   pub row-set-refused : (n : ℕ) → n ≡ firstOf (setTests set) → (n ≡ 0 → ⊥) → n ≡ firstOf (rowTests set t)
   unfolding rowTests
-  row-set-refused n e h = e ∙ sym (first-of-sooner (setTests set) _ (λ z. h (e ∙ z)))
-
-  row-later : firstOf (setTests set) ≡ 0 → firstOf (rowTests set t) ≡ firstOf (11 when not (ltb t (slicesOf set)) ∷ [])
-  unfolding rowTests
-  row-later z = first-of-later (setTests set) _ (set-numbered set) z
+  row-set-refused = first-sooner (setTests set) _
 
   pub row-past : (n : ℕ) (r : Bool) → n ≡ firstOf (setTests set) → n ≡ 0 → r ≡ not (ltb t (slicesOf set)) → r ≡ true → 11 ≡ firstOf (rowTests set t)
-  row-past n r e z er on = refuses (not (ltb t (slicesOf set))) r 11 0 er on ∙ sym (row-later (sym e ∙ z))
+  unfolding rowTests
+  row-past n r e z er on = first-later (setTests set) _ n 11 (set-numbered set) e z (refuses (not (ltb t (slicesOf set))) r 11 0 er on)
 
   pub row-there : (n : ℕ) (r : Bool) → n ≡ firstOf (setTests set) → n ≡ 0 → r ≡ not (ltb t (slicesOf set)) → r ≡ false → 0 ≡ firstOf (rowTests set t)
-  row-there n r e z er off = passes (not (ltb t (slicesOf set))) r 11 0 0 er off refl ∙ sym (row-later (sym e ∙ z))
+  unfolding rowTests
+  row-there n r e z er off = first-later (setTests set) _ n 0 (set-numbered set) e z (passes (not (ltb t (slicesOf set))) r 11 0 0 er off refl)
 
   -- ---- the reply
 
-  set-none : firstOf (rowTests set t) ≡ 0 → firstOf (setTests set) ≡ 0
-  unfolding rowTests
-  set-none h = first-of-none (setTests set) _ h
-
   pub row-accepted : firstOf (rowTests set t) ≡ 0 → Accepted set × (t < slicesOf set)
+  unfolding rowTests
   row-accepted h =
-      let z : firstOf (setTests set) ≡ 0 = set-none h in
-      let below : not (ltb t (slicesOf set)) ≡ false = none-and-rest (not (ltb t (slicesOf set))) 10 0 (sym (row-later z) ∙ h) .0 in
-      (accepted set z, ltb-true t (slicesOf set) (not-false (ltb t (slicesOf set)) below))
+      let none = none-of-both (setTests set) _ (set-numbered set) h in
+      let below : not (ltb t (slicesOf set)) ≡ false = none-and-rest (not (ltb t (slicesOf set))) 10 0 (none .1) .0 in
+      (accepted set (none .0), ltb-true t (slicesOf set) (not-false (ltb t (slicesOf set)) below))
 
   pub row-answers : (i : ℕ) → firstOf (rowTests set t) ≡ 0 → rowReply set t i ≡ answer (rowFrom set i)
   unfolding rowReply
