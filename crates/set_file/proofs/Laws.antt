@@ -14,7 +14,7 @@ use Rattle.word.specs.Reply.{answer, refusal, replied, firstOf}
 use Rattle.word.proofs.WordLaws.{good-width}
 use Rattle.word.proofs.SomeLaws.{any-below-false}
 use Rattle.word.proofs.BoolLaws.{or-false-right}
-use Rattle.word.proofs.ReplyLaws.{replied-refusal, replied-answered}
+use Rattle.word.proofs.ReplyLaws.{replied-answered, refused-reply}
 use Rattle.word.proofs.TestLaws.{none-and-rest, numbered, replied-answer, replied-number}
 use Rattle.rows.specs.Row.{rowBytes, spareSet}
 use Rattle.register.specs.Circuit.{badTaps, badChains, badSpread}
@@ -37,7 +37,7 @@ set-answers set h = replied-answered (firstOf (setTests set)) (setPartsOf set) h
 
 pub set-refuses : (set : List ℕ) (n : ℕ) → n ≡ firstOf (setTests set) → (n ≡ 0 → ⊥) → setReply set ≡ refusal n
 unfolding setReply
-set-refuses set n e h = ap (λ (k : ℕ). replied k (setPartsOf set)) (sym e) ∙ replied-refusal n (setPartsOf set) h
+set-refuses set n e h = sym (refused-reply (firstOf (setTests set)) n (setPartsOf set) e h)
 
 pub set-answer-parts : (set : List ℕ) (p : SetParts) → setReply set ≡ answer p → p ≡ setPartsOf set
 unfolding setReply

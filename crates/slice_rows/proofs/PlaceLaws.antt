@@ -10,7 +10,7 @@ use borrow.Author.Tests.{lt-ltb, ltb-true, not-false}
 use lib.Dec.{ltb}
 use lib.ListN.{length, take, drop}
 use Rattle.word.specs.Reply.{Reply, answer, refusal, replied, firstOf, _when_}
-use Rattle.word.proofs.ReplyLaws.{replied-refusal, replied-answered, refuses, passes}
+use Rattle.word.proofs.ReplyLaws.{refused-reply, replied-answered, refuses, passes}
 use Rattle.numbers.proofs.PartLaws.{part-clamped}
 use Rattle.rows.specs.Row.{rowBytes}
 use Rattle.set_layout.specs.Layout.{setLength, chainsOf, slicesOf, valueAt, markAt, valueRow, markRow}
@@ -56,8 +56,7 @@ module _ (set : List ℕ) (t : ℕ) where
 
   pub row-refuses : (n i : ℕ) → n ≡ firstOf (rowTests set t) → (n ≡ 0 → ⊥) → rowReply set t i ≡ refusal n
   unfolding rowReply
-  row-refuses n i e h =
-      ap (λ (k : ℕ). replied k (rowFrom set i)) (sym e) ∙ replied-refusal n (rowFrom set i) h
+  row-refuses n i e h = sym (refused-reply (firstOf (rowTests set t)) n (rowFrom set i) e h)
 
   -- a place that is named is the row's own
   pub record Named (i a b : ℕ) : Type 0 where

@@ -31,16 +31,20 @@ replied-answered n a z = ap (λ (k : ℕ). replied k a) z
 
 -- ---- the two ways out of a call whose first number is k: what it answers, and the lent list that it leaves
 
+pub refused-reply : {A : Type 0} (k n : ℕ) (a : A) → n ≡ k → (n ≡ 0 → ⊥) → refusal n ≡ replied k a
+refused-reply k n a e h = sym (replied-refusal n a h) ∙ ap (λ (i : ℕ). replied i a) e
+
+pub answered-reply : {A : Type 0} (k n : ℕ) (a b : A) → n ≡ k → n ≡ 0 → b ≡ a → answer b ≡ replied k a
+answered-reply k n a b e z eb = ap answer eb ∙ sym (replied-answered k a (sym e ∙ z))
+
 -- a refusal leaves the list as it was
 pub refused-leaves : {A : Type 0} {B : Type 0} (k n : ℕ) (a : A) (vs l : List B) → n ≡ k → (n ≡ 0 → ⊥)
     → (refusal n ≡ replied k a) × (l ≡ lent (replied k a) vs l)
-refused-leaves k n a vs l e h =
-    let r : replied k a ≡ refusal n = ap (λ (i : ℕ). replied i a) (sym e) ∙ replied-refusal n a h in
-    (sym r, sym (ap (λ x. lent x vs l) r))
+refused-leaves k n a vs l e h = let r = refused-reply k n a e h in (r, ap (λ x. lent x vs l) r)
 
 -- an answer writes its front
 pub answered-writes : {A : Type 0} {B : Type 0} (k n : ℕ) (a b : A) (vs l l′ : List B) → n ≡ k → n ≡ 0 → b ≡ a → l′ ≡ front vs l
     → (answer b ≡ replied k a) × (l′ ≡ lent (replied k a) vs l)
 answered-writes k n a b vs l l′ e z eb w =
-    let r : replied k a ≡ answer a = replied-answered k a (sym e ∙ z) in
-    (ap answer eb ∙ sym r, w ∙ sym (ap (λ x. lent x vs l) r))
+    let r = answered-reply k n a b e z eb in
+    (r, w ∙ ap (λ x. lent x vs l) r)
