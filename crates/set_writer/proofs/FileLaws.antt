@@ -1,77 +1,50 @@
--- The set writer: what a content that is written knows, and each way out of the call. Assumes nothing.
+-- The set writer's file: how long it is, its parts written one after the other, and each way out of the call. Assumes nothing.
 use mathlib.Core.Path.{_≡_, refl, sym, ap, ap₂, _∙_}
 use mathlib.Core.Bool.{false}
 use mathlib.Core.List.{List, _++_}
 use Prim.Native.Nat.{ℕ, _+_, _*_, _≤_, _<_}
 use native.Mathlib.Omega.{arith}
-use borrow.Author.Tests.{ltb-false, le-ltb}
-use lib.Dec.{ltb}
-use lib.ListN.{length}
+use lib.ListN.{length, length-append}
 use lib.Seq.{sets}
-use Rattle.word.specs.Word.{badWidth}
-use Rattle.numbers.specs.Bytes.{bytesOf, wordBytes}
-use Rattle.numbers.specs.Joined.{joined}
 use Rattle.word.specs.Reply.{answer, firstOf, front, lent}
 use Rattle.word.proofs.ReplyLaws.{replied-answered, refused-leaves, answered-writes}
+use Rattle.numbers.specs.Bytes.{bytesOf, wordBytes}
+use Rattle.numbers.specs.Joined.{joined}
 use Rattle.numbers.proofs.ByteLaws.{bytes-of-length, length-word-bytes}
 use Rattle.numbers.proofs.FileLaws.{sets-parts, front-sets}
 use Rattle.rows.specs.Row.{rowBytes}
-use Rattle.register.specs.Circuit.{badTaps, badChains, badSpread, tooManySlices}
-use Rattle.set_layout.specs.Layout.{tapsAt, chainsAt, spreadAt, slicesAt, rowsAt, setLength}
-use Rattle.set_writer.specs.Writing.{SetContent, contentChains, headBytes, sliceBytes, setBytes, badRows, spareInLists, valuedInLists, setWriteTests, setWriteReply, saidSetWritten}
+use Rattle.set_layout.specs.Layout.{tapsAt, chainsAt, spreadAt, slicesAt, headLength, rowsAt, setLength}
+use Rattle.set_content.specs.Content.{SetContent, contentChains, badRows, setWriteTests}
+use Rattle.set_content.proofs.ContentLaws.{Writable, writable, chains-small, values-length, marks-length}
+use Rattle.set_writer.specs.Writing.{headBytes, sliceBytes, setBytes, setWriteReply, saidSetWritten}
 use Rattle.set_writer.specs.declared.Written.{Written}
 use Rattle.set_writer.specs.declared.Written.the-variants.{Done, Refused}
-use Rattle.word.proofs.TestLaws.{none-and-rest}
-use Rattle.set_writer.proofs.ContentLaws.{chains-small, values-length, marks-length, head-length, set-bytes-length}
+use Rattle.set_writer.proofs.WriteLaws.{slices-length}
 
--- ---- a content to which no number applies
+-- ---- how long the file is
 
-pub record Writable (k : SetContent) (room : ℕ) : Type 0 where
-  pub width : badWidth (k .m) ≡ false
-  pub taps : badTaps (k .m) (k .taps) ≡ false
-  pub chains : badChains (contentChains k) ≡ false
-  pub spread : badSpread (k .m) (k .spread) ≡ false
-  pub slices : k .s ≤ 512
-  pub rows : badRows k ≡ false
-  pub clean : spareInLists k ≡ false
-  pub unvalued : valuedInLists k ≡ false
-  pub fits : setLength (contentChains k) (k .s) ≤ room
+module _ (m taps : ℕ) (ws : List ℕ) (s : ℕ) where
+  pub head-length : length (headBytes m taps ws s) ≡ headLength (length ws)
+  unfolding headBytes
+  head-length =
+      simp length-append
+      (omega
+      (arith, bytes-of-length 2 m, bytes-of-length 8 taps, bytes-of-length 2 (length ws), length-word-bytes ws, bytes-of-length 2 s))
 
-pub writable : (k : SetContent) (room : ℕ) → firstOf (setWriteTests k room) ≡ 0 → Writable k room
-unfolding setWriteTests
-writable k room h =
-    let p2 = none-and-rest (badWidth (k .m)) 1 _ h in
-    let p3 = none-and-rest (badTaps (k .m) (k .taps)) 2 _ (p2 .1) in
-    let p4 = none-and-rest (badChains (contentChains k)) 3 _ (p3 .1) in
-    let p6 = none-and-rest (badSpread (k .m) (k .spread)) 5 _ (p4 .1) in
-    let p7 = none-and-rest (tooManySlices (k .s)) 6 _ (p6 .1) in
-    let p8 = none-and-rest (badRows k) 7 _ (p7 .1) in
-    let p9 = none-and-rest (spareInLists k) 8 _ (p8 .1) in
-    let p10 = none-and-rest (valuedInLists k) 9 _ (p9 .1) in
-    let p24 = none-and-rest (ltb room (setLength (contentChains k) (k .s))) 23 _ (p10 .1) in
-    record {
-      width = p2 .0;
-      taps = p3 .0;
-      chains = p4 .0;
-      spread = p6 .0;
-      slices = ltb-false 512 (k .s) (p7 .0);
-      rows = p8 .0;
-      clean = p9 .0;
-      unvalued = p10 .0;
-      fits = ltb-false room (setLength (contentChains k) (k .s)) (p24 .0);
-    }
+module _ (k : SetContent) (rows : badRows k ≡ false) where
+  pub set-bytes-length : length (setBytes k) ≡ setLength (contentChains k) (k .s)
+  unfolding setBytes
+  set-bytes-length =
+      length-append (headBytes (k .m) (k .taps) (k .spread) (k .s)) (joined (sliceBytes (contentChains k) (k .values) (k .marks)) (k .s))
+      ∙ omega (
+        arith,
+        head-length (k .m) (k .taps) (k .spread) (k .s),
+        slices-length (contentChains k) (k .values) (k .marks) (k .s) (omega (arith, values-length k rows)) (omega (arith, marks-length k rows)),
+      )
 
 pub write-answers : (k : SetContent) (room : ℕ) → firstOf (setWriteTests k room) ≡ 0 → setWriteReply k room ≡ answer (setLength (contentChains k) (k .s))
 unfolding setWriteReply
 write-answers k room h = replied-answered (firstOf (setWriteTests k room)) (setLength (contentChains k) (k .s)) h
-
--- a content that is right in each part meets no number
-pub writable-back : (k : SetContent) (room : ℕ) → Writable k room → firstOf (setWriteTests k room) ≡ 0
-unfolding setWriteTests
-writable-back k room w =
-    let few : tooManySlices (k .s) ≡ false = le-ltb 512 (k .s) (w .slices) in
-    let last : ltb room (setLength (contentChains k) (k .s)) ≡ false = le-ltb room (setLength (contentChains k) (k .s)) (w .fits) in
-    rw (w .width, w .taps, w .chains, w .spread, few, w .rows, w .clean, w .unvalued, last)
 
 -- ---- the bytes before the rows
 

@@ -1,4 +1,3 @@
 pub mod WriteLaws
-pub mod ContentLaws
 pub mod FileLaws
 pub mod RoundTrip

@@ -49,10 +49,11 @@ use Rattle.set_file.specs.Reading.{spareInRows, valuedInRows, setTests, SetPart
 use Rattle.set_file.proofs.Laws.{Accepted, accepted, accepted-back, value-row-length, mark-row-length, set-answers}
 use Rattle.slice_rows.specs.Rows.{valueReply, markReply, stretch}
 use Rattle.slice_rows.proofs.PlaceLaws.{value-stretch, mark-stretch}
-use Rattle.set_writer.specs.Writing.{SetContent, setContent, contentIn, contentChains, headBytes, sliceBytes, setBytes, badRows, spareInLists, valuedInLists, setWriteTests, setWriteReply}
+use Rattle.set_content.specs.Content.{SetContent, setContent, contentIn, contentChains, badRows, spareInLists, valuedInLists, setWriteTests}
+use Rattle.set_content.proofs.ContentLaws.{Writable, writable, writable-back, chains-small, values-length, marks-length}
+use Rattle.set_writer.specs.Writing.{headBytes, sliceBytes, setBytes, setWriteReply}
 use Rattle.set_writer.proofs.WriteLaws.{slice-length}
-use Rattle.set_writer.proofs.ContentLaws.{chains-small, values-length, marks-length, head-length, set-bytes-length}
-use Rattle.set_writer.proofs.FileLaws.{Writable, writable, writable-back, write-answers}
+use Rattle.set_writer.proofs.FileLaws.{head-length, set-bytes-length, write-answers}
 
 -- ---- a set file and a content
 

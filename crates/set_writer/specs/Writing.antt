@@ -1,53 +1,22 @@
--- The set writer. Document 01: "The set writer takes the tap word, spread words and the two lists of rows, and the width and
--- slice count." It meets 2, 3, 4, 6, 7, 8, 9, 10 and 24 and answers with the length of the file.
+-- The set writer: it meets the numbers of its content (`set_content/specs/Content`, setWriteTests) and answers with the length of
+-- the file.
 --
---   SetContent          what the writer is handed: m, the tap word, the spread words, the value rows, the mark rows, s
---   setContent m t ws v k s   the content of these
---   contentIn set       the content of a set file: what the writer is handed to write it again
---   contentChains k     document 01: n
 --   headBytes m t ws s  the bytes before the rows: m and the tap word, n and the spread words, s
 --   sliceBytes n v k t  slice t of the lists v and k of rows of n chains: its value row and its row of unknown marks
 --   setBytes k          the set file of the content k
---   badRows k           document 01, 8: the length of a list of rows isn't what the counts give
---   spareInLists k      document 01, 9: a row has a spare bit set
---   valuedInLists k     document 01, 10: an unknown cell has its value bit set
---   setWriteTests k room   the numbers that the writer meets, in order, for an output of `room` bytes
---   setWriteReply k room   its reply: the length of the file
---   saidSetWritten w       the paper's reading of what the writer hands back
-use mathlib.Core.Bool.{Bool, not, _||_}
-use mathlib.Core.List.{List, [], _∷_, _++_}
-use Prim.Native.Nat.{ℕ, _*_}
-use lib.Dec.{eqb, ltb}
+--   setWriteReply k room   the writer's reply for an output of `room` bytes: the length of the file
+--   saidSetWritten w    the paper's reading of what the writer hands back
+use mathlib.Core.List.{List, _++_}
+use Prim.Native.Nat.{ℕ}
 use lib.ListN.{length}
-use Rattle.word.specs.Word.{badWidth}
-use Rattle.word.specs.Reply.{Test, _when_, Reply, answer, refusal, reply}
+use Rattle.word.specs.Reply.{Reply, answer, refusal, reply}
 use Rattle.numbers.specs.Bytes.{bytesOf, wordBytes}
 use Rattle.numbers.specs.Joined.{joined}
-use Rattle.rows.specs.Row.{rowBytes}
-use Rattle.rows.specs.Lists.{listRow, spareIn, valuedUnknown}
-use Rattle.register.specs.Circuit.{badTaps, badChains, badSpread, tooManySlices}
-use Rattle.set_layout.specs.Layout.{setLength, widthOf, tapsOf, spreadOf, slicesOf, valuesOf, marksOf}
+use Rattle.rows.specs.Lists.{listRow}
+use Rattle.set_layout.specs.Layout.{setLength}
+use Rattle.set_content.specs.Content.{SetContent, contentChains, setWriteTests}
 use Rattle.set_writer.specs.declared.Written.{Written}
 use Rattle.set_writer.specs.declared.Written.the-variants.{Done, Refused}
-
-pub record SetContent : Type 0 where
-  pub m : ℕ
-  pub taps : ℕ
-  pub spread : List ℕ
-  pub values : List ℕ
-  pub marks : List ℕ
-  pub s : ℕ
-
-abbrev pub setContent : ℕ → ℕ → List ℕ → List ℕ → List ℕ → ℕ → SetContent
-setContent m t ws v k s = record { m = m; taps = t; spread = ws; values = v; marks = k; s = s }
-
-abbrev pub contentIn : List ℕ → SetContent
-contentIn set = setContent (widthOf set) (tapsOf set) (spreadOf set) (valuesOf set) (marksOf set) (slicesOf set)
-
-abbrev pub contentChains : SetContent → ℕ
-contentChains k = length (k .spread)
-
--- ---- the file
 
 unfoldable pub headBytes : ℕ → ℕ → List ℕ → ℕ → List ℕ
 headBytes m t ws s = bytesOf 2 m ++ (bytesOf 8 t ++ (bytesOf 2 (length ws) ++ (wordBytes ws ++ bytesOf 2 s)))
@@ -57,33 +26,6 @@ sliceBytes n v k t = listRow n v t ++ listRow n k t
 
 unfoldable pub setBytes : SetContent → List ℕ
 setBytes k = headBytes (k .m) (k .taps) (k .spread) (k .s) ++ joined (sliceBytes (contentChains k) (k .values) (k .marks)) (k .s)
-
--- ---- the call
-
-abbrev pub badRows : SetContent → Bool
-badRows k =
-    not (eqb (length (k .values)) (rowBytes (contentChains k) * k .s)) || not (eqb (length (k .marks)) (rowBytes (contentChains k) * k .s))
-
-abbrev pub spareInLists : SetContent → Bool
-spareInLists k =
-    spareIn (contentChains k) (listRow (contentChains k) (k .values)) (k .s) || spareIn (contentChains k) (listRow (contentChains k) (k .marks)) (k .s)
-
-abbrev pub valuedInLists : SetContent → Bool
-valuedInLists k =
-    valuedUnknown (contentChains k) (listRow (contentChains k) (k .values)) (listRow (contentChains k) (k .marks)) (k .s)
-
-unfoldable pub setWriteTests : SetContent → ℕ → List Test
-setWriteTests k room =
-    2 when badWidth (k .m)
-    ∷ 3 when badTaps (k .m) (k .taps)
-    ∷ 4 when badChains (contentChains k)
-    ∷ 6 when badSpread (k .m) (k .spread)
-    ∷ 7 when tooManySlices (k .s)
-    ∷ 8 when badRows k
-    ∷ 9 when spareInLists k
-    ∷ 10 when valuedInLists k
-    ∷ 24 when ltb room (setLength (contentChains k) (k .s))
-    ∷ []
 
 unfoldable pub setWriteReply : SetContent → ℕ → Reply ℕ
 setWriteReply k room = reply (setWriteTests k room) (setLength (contentChains k) (k .s))

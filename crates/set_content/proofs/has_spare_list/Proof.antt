@@ -2,8 +2,8 @@
 use mathlib.Core.Bool.{Bool, _||_}
 use mathlib.Core.Path.{ap₂}
 use borrow.Author.Needs.{needs}
-use Rattle.set_writer.proofs.has_spare_list.Statement.{statement}
-use Rattle.set_writer.proofs.has_spare_list.Tie as tie
+use Rattle.set_content.proofs.has_spare_list.Statement.{statement}
+use Rattle.set_content.proofs.has_spare_list.Tie as tie
 
 has-spare-row-requires : tie.Need-has-spare-row-requires
 has-spare-row-requires c κs = search needs

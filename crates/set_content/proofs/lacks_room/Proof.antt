@@ -2,8 +2,8 @@
 use lib.Dec.{ltb}
 use mathlib.Core.Path.{ap}
 use borrow.Author.Needs.{needs}
-use Rattle.set_writer.proofs.lacks_room.Statement.{statement}
-use Rattle.set_writer.proofs.lacks_room.Tie as tie
+use Rattle.set_content.proofs.lacks_room.Statement.{statement}
+use Rattle.set_content.proofs.lacks_room.Tie as tie
 
 set-length-requires : tie.Need-set-length-requires
 set-length-requires c κs = search needs

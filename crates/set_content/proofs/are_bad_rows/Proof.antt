@@ -5,8 +5,8 @@ use Prim.Native.Nat.{ℕ}
 use mathlib.Core.Bool.{not, _||_}
 use mathlib.Core.Path.{ap}
 use borrow.Author.Needs.{needs}
-use Rattle.set_writer.proofs.are_bad_rows.Statement.{statement}
-use Rattle.set_writer.proofs.are_bad_rows.Tie as tie
+use Rattle.set_content.proofs.are_bad_rows.Statement.{statement}
+use Rattle.set_content.proofs.are_bad_rows.Tie as tie
 
 rows-length-requires : tie.Need-rows-length-requires
 rows-length-requires c κs = search needs

@@ -1,11 +1,11 @@
--- `first_write_refusal` meets its contract: one test for each number, in the order of the list.
-use Rattle.set_writer.proofs.ContentLaws.{chains-small, slices-small, valued-of-lists}
+-- `write_refusal` meets its contract: one test for each number, in the order of the list.
+use Rattle.set_content.proofs.ContentLaws.{chains-small, slices-small, valued-of-lists}
 use mathlib.Core.Path.{_≡_}
-use Rattle.set_writer.specs.Writing.{SetContent, setContent, contentChains, valuedInLists, setWriteTests}
+use Rattle.set_content.specs.Content.{SetContent, setContent, contentChains, valuedInLists, setWriteTests}
 use Rattle.word.proofs.ReplyLaws.{refusals}
 use borrow.Author.Needs.{needs}
-use Rattle.set_writer.proofs.first_write_refusal.Statement.{statement}
-use Rattle.set_writer.proofs.first_write_refusal.Tie as tie
+use Rattle.set_content.proofs.write_refusal.Statement.{statement}
+use Rattle.set_content.proofs.write_refusal.Tie as tie
 
 is-bad-width-requires : tie.Need-is-bad-width-requires
 is-bad-width-requires c κs = search needs
@@ -100,8 +100,8 @@ returns-10 : tie.Need-returns-10
 unfolding setWriteTests
 returns-10 c = let shared = valued (c .before .before .before) in search refusals depth 24 fits 40000
 
-pub first-write-refusal-spec : {M : Type 1} → statement M
-first-write-refusal-spec =
+pub write-refusal-spec : {M : Type 1} → statement M
+write-refusal-spec =
     tie.close
     (tie.spec
     is-bad-width-requires
