@@ -51,6 +51,13 @@ pub fn driven_word(spread: &[u64], row: &[u8]) -> u64
     drive
 }
 
+// The words as they came. An array read out of a struct's field is known to have all its places once it was handed over by itself.
+pub fn all_words(words: [u64; 256]) -> [u64; 256]
+    ensures { λ r. ⌜ (r ≡ words) × (length r ≡ 256) ⌝ }
+{
+    words
+}
+
 fn no_entries() -> [u64; 1024]
     ensures { λ r. ⌜ r ≡ replicate 1024 0 ⌝ }
 {

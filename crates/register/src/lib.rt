@@ -52,6 +52,39 @@ pub fn is_bad_slices(s: u64) -> bool
     Register::LARGEST_SLICES < s
 }
 
+// A width, 64 at most.
+pub fn width_limit(m: u64) -> u64
+    ensures { λ r. ⌜ r ≡ min m 64 ⌝ }
+{
+    if m < Register::LARGEST_WIDTH {
+        m
+    } else {
+        Register::LARGEST_WIDTH
+    }
+}
+
+// A number of chains, 256 at most.
+pub fn chain_limit(n: u16) -> usize
+    ensures { λ r. ⌜ r ≡ min n 256 ⌝ }
+{
+    if (n as u64) < Register::LARGEST_CHAINS {
+        n as usize
+    } else {
+        Register::LARGEST_CHAINS as usize
+    }
+}
+
+// A number of slices, 512 at most.
+pub fn slice_limit(s: u16) -> u16
+    ensures { λ r. ⌜ r ≡ min s 512 ⌝ }
+{
+    if (s as u64) < Register::LARGEST_SLICES {
+        s
+    } else {
+        Register::LARGEST_SLICES as u16
+    }
+}
+
 // The place of the highest bit of a register of width m: m - 1, and no place outside a word.
 fn top_place(m: u64) -> u64
     ensures { λ r. ⌜ r ≡ min m 64 - 1 ⌝ }
@@ -113,6 +146,17 @@ impl Register {
         ensures { λ r. ⌜ (r .m ≡ m) × (r .taps ≡ taps) × (r .state ≡ 0) ⌝ }
     {
         Register { m, taps, state: 0 }
+    }
+
+    // The same register with this state.
+    pub fn holding(self, state: u64) -> Register
+        ensures { λ r. ⌜ (r .m ≡ self .m) × (r .taps ≡ self .taps) × (r .state ≡ state) ⌝ }
+    {
+        Register {
+            m: self.m,
+            taps: self.taps,
+            state,
+        }
     }
 
     // The register after one clock in which the chains drive this word; its width and tap word stay. It meets no number:

@@ -1,5 +1,6 @@
 pub mod CellLaws
 pub mod SpareLaws
 pub mod RowLaws
+pub mod ListLaws
 pub mod DigitLaws
 pub mod MarkLaws

@@ -1,9 +1,8 @@
 // Rows of cells: a slice's cells, eight to a byte, and lists of rows. It sees words and numbers; it knows no register and no file.
 // Every function is total.
 ghost use mathlib.Core.Path.{_≡_};
-ghost use Rattle.word.specs.Some.{anyBelow};
 ghost use Rattle.rows.specs.Row.{rowBytes, cell, spareSet};
-ghost use Rattle.rows.specs.Lists.{listRow, rowOf, sharesBit};
+ghost use Rattle.rows.specs.Lists.{listRow, rowOf, sharesBit, spareIn};
 
 // Where a response's rows stand in a list of bytes: `bytes` bytes each, the first at place `at` and each `stride` bytes after the
 // one before.
@@ -46,7 +45,7 @@ pub fn row_of(list: &[u8], rows: Rows, t: u16) -> &[u8]
 
 // The same as `has_spare_row`, by one byte of each row.
 fn finds_spare_row(n: usize, rows: &[u8], count: usize) -> bool
-    ensures { λ r. ⌜ r ≡ anyBelow count (λ t. spareSet n (listRow n (now (rows .entry)) t)) ⌝ }
+    ensures { λ r. ⌜ r ≡ spareIn n (listRow n (now (rows .entry))) count ⌝ }
 {
     let bytes = row_bytes(n);
     let mut at = 0;
@@ -68,7 +67,7 @@ fn finds_spare_row(n: usize, rows: &[u8], count: usize) -> bool
 // Whether one of the first `count` rows of a list of rows of n chains has a spare bit set; a row past the end of the list is
 // all 0. Rows of whole bytes have none.
 pub fn has_spare_row(n: usize, rows: &[u8], count: usize) -> bool
-    ensures { λ r. ⌜ r ≡ anyBelow count (λ t. spareSet n (listRow n (now (rows .entry)) t)) ⌝ }
+    ensures { λ r. ⌜ r ≡ spareIn n (listRow n (now (rows .entry))) count ⌝ }
 {
     if n % 8 == 0 {
         return false;

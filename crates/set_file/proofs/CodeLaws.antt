@@ -3,7 +3,7 @@ use mathlib.Core.Path.{_≡_, sym, ap, ap₂, _∙_}
 use mathlib.Core.Bool.{Bool, true, false, not, _||_}
 use mathlib.Core.List.{List}
 use Prim.Native.Nat.{ℕ, suc, _+_, _-_, _*_, _≤_, _<_}
-use native.Mathlib.Nat.{mul-le-mul-left, le-trans, mul-add, mul-one, mul-zero}
+use native.Mathlib.Nat.{mul-add, mul-one, mul-zero}
 use native.Mathlib.Numerals.{add-one}
 use native.Mathlib.Omega.{arith}
 use borrow.Author.Tests.{eqb-true, not-false}
@@ -14,39 +14,35 @@ use Rattle.word.specs.Some.{anyBelow}
 use Rattle.rows.specs.Row.{rowBytes, spareSet}
 use Rattle.chains.specs.Driven.{badSpread}
 use Rattle.chains.proofs.Laws.{bad-spread-turn, bad-spread-ended}
-use Rattle.set_file.specs.Layout.{spreadAt, rowsAt, setLength, widthOf, chainsOf, spreadOf, slicesOf, valueAt, markAt, valueRow, markRow}
-use Rattle.set_file.specs.Reading.{spareInRows, valuedUnknown}
-use Rattle.rows.specs.Lists.{listRow}
+use Rattle.set_layout.specs.Layout.{spreadAt, rowsAt, setLength, widthOf, chainsOf, spreadOf, slicesOf, valueAt, markAt, valueRow, markRow}
+use Rattle.set_file.specs.Reading.{spareInRows, valuedInRows}
 use Rattle.rows.specs.Lists.{sharesBit}
 use Rattle.word.proofs.RangeLaws.{none-passed, one-passed, one-found, all-passed}
 use Rattle.rows.proofs.RowLaws.{SpareRow, spare-rows-none}
-use Rattle.set_file.proofs.SliceLaws.{rowsOf, spare-of-rows, slice-inside, valued-of-bytes}
+use Rattle.set_layout.proofs.SliceLaws.{rowsOf, slice-inside}
+use Rattle.set_file.proofs.RowTests.{spare-of-rows, valued-of-bytes}
 use Rattle.word.specs.Word.{beyond}
 use Rattle.numbers.specs.Bytes.{wordAt, wordsAt}
 use Rattle.numbers.proofs.FileLaws.{word-at-place}
 use Rattle.numbers.proofs.ByteLaws.{length-words-at}
-
--- counts of 2 bytes keep a set's length small
-pub rows-small : (b s : ℕ) → b ≤ 8192 → s ≤ 65536 → b * s ≤ 536870912
-rows-small b s hb hs = le-trans (mul-le-mul-left b hs) (omega arith)
 
 -- ---- number 6: the spread words before c aren't bad, so that those from c on decide
 
 abbrev pub Sought : List ℕ → ℕ → ℕ → ℕ → Type 0
 Sought set m n c = (c ≤ n) × (badSpread m (drop c (wordsAt set spreadAt n)) ≡ badSpread m (wordsAt set spreadAt n))
 
-sought-turn : (set : List ℕ) (m n c w : ℕ) (r b : Bool) → Sought set m n c → c < n → w ≡ wordAt set (12 + 8 * c) → r ≡ (eqb w 0 || beyond m w)
+sought-turn : (set : List ℕ) (m n c w : ℕ) (r b : Bool) → Sought set m n c → c < n → w ≡ wordAt set (spreadAt + 8 * c) → r ≡ (eqb w 0 || beyond m w)
     → r ≡ b → (b || badSpread m (drop (suc c) (wordsAt set spreadAt n))) ≡ badSpread m (wordsAt set spreadAt n)
 sought-turn set m n c w r b i l e h g =
     bad-spread-turn m (wordsAt set spreadAt n) c b (omega (arith, l, length-words-at set spreadAt n)) (i .1)
     (ap (λ (x : ℕ). eqb x 0 || beyond m x) (word-at-place set spreadAt n c l ∙ sym e) ∙ sym h ∙ g)
 
-pub sought-found : (set : List ℕ) (m n c w : ℕ) (r : Bool) → m ≡ widthOf set → n ≡ chainsOf set → Sought set m n c → c < n → w ≡ wordAt set (12 + 8 * c)
+pub sought-found : (set : List ℕ) (m n c w : ℕ) (r : Bool) → m ≡ widthOf set → n ≡ chainsOf set → Sought set m n c → c < n → w ≡ wordAt set (spreadAt + 8 * c)
     → r ≡ (eqb w 0 || beyond m w) → r ≡ true → true ≡ badSpread (widthOf set) (spreadOf set)
 sought-found set m n c w r em en i l e h g =
     sought-turn set m n c w r true i l e h g ∙ ap₂ (λ (x y : ℕ). badSpread x (wordsAt set spreadAt y)) em en
 
-pub sought-next : (set : List ℕ) (m n c w : ℕ) (r : Bool) → Sought set m n c → c < n → w ≡ wordAt set (12 + 8 * c) → r ≡ (eqb w 0 || beyond m w)
+pub sought-next : (set : List ℕ) (m n c w : ℕ) (r : Bool) → Sought set m n c → c < n → w ≡ wordAt set (spreadAt + 8 * c) → r ≡ (eqb w 0 || beyond m w)
     → r ≡ false → Sought set m n (c + 1)
 sought-next set m n c w r i l e h g = (
   omega (arith, l),
@@ -120,7 +116,7 @@ module _ (set : List ℕ) (t at bytes : ℕ) (u : Unshared set t at) (eb : bytes
 -- ---- the three ways out: the set ends too soon, a bit is shared, no slice shares one
 
 abbrev pub Valued : List ℕ → Bool → Type 0
-Valued set r = length set ≡ setLength (chainsOf set) (slicesOf set) → spareInRows set ≡ false → r ≡ valuedUnknown set
+Valued set r = length set ≡ setLength (chainsOf set) (slicesOf set) → spareInRows set ≡ false → r ≡ valuedInRows set
 
 pub valued-short : (set : List ℕ) (t at bytes s : ℕ) → Unshared set t at → bytes ≡ rowBytes (chainsOf set) → s ≡ slicesOf set → t < s
     → length set < at + bytes + bytes → Valued set false
@@ -133,11 +129,11 @@ module _ (set : List ℕ) (small : (i : ℕ) → getD set i 0 < 256) where
       → r ≡ true → Valued set true
   valued-found t at bytes s r u eb es l er on long clean =
       one-found (SharedIn set) (slicesOf set) t (rw es at l) (sym (rows-lent set t at bytes u eb r er) ∙ on)
-      ∙ valued-of-bytes set long clean small
+      ∙ valued-of-bytes set clean long small
 
   pub valued-none : (t at s : ℕ) → Unshared set t at → s ≡ slicesOf set → t ≡ s → Valued set false
   valued-none t at s u es e long clean =
-      all-passed (SharedIn set) (slicesOf set) t (u .none) (e ∙ es) ∙ valued-of-bytes set long clean small
+      all-passed (SharedIn set) (slicesOf set) t (u .none) (e ∙ es) ∙ valued-of-bytes set clean long small
 
 -- ---- what the tests before leave
 

@@ -1,11 +1,11 @@
 -- The laws that the crates above cite: what an accepted set knows, and what the reader's reply says of its set. A set is
 -- accepted where none of the numbers 1 to 10 applies to it. Assumes nothing.
-use mathlib.Core.Path.{_≡_, sym, ap, _∙_}
+use mathlib.Core.Path.{_≡_, refl, sym, ap, _∙_}
 use mathlib.Core.Bool.{true, false, not, _&&_, _||_}
 use mathlib.Core.List.{List}
 use Prim.Native.Nat.{ℕ, _≤_, _<_}
 use native.Mathlib.Omega.{arith}
-use borrow.Author.Tests.{eq-eqb, ltb-false, eqb-true, not-false}
+use borrow.Author.Tests.{eq-eqb, le-ltb, ltb-false, eqb-true, not-false}
 use lib.Dec.{eqb, ltb}
 use lib.ListN.{length}
 use Rattle.word.specs.Word.{badWidth}
@@ -14,38 +14,43 @@ use Rattle.word.specs.Reply.{answer, refusal, replied, firstOf}
 use Rattle.word.proofs.WordLaws.{good-width}
 use Rattle.word.proofs.SomeLaws.{any-below-false}
 use Rattle.word.proofs.BoolLaws.{or-false-right}
-use Rattle.word.proofs.ReplyLaws.{replied-refusal}
-use Rattle.word.proofs.TestLaws.{none-and-rest, replied-answer, replied-number}
+use Rattle.word.proofs.ReplyLaws.{replied-answered, refused-reply}
+use Rattle.word.proofs.TestLaws.{none-and-rest, numbered, replied-answer, replied-number}
 use Rattle.rows.specs.Row.{rowBytes, spareSet}
 use Rattle.register.specs.Circuit.{badTaps, badChains}
 use Rattle.chains.specs.Driven.{badSpread}
-use Rattle.set_file.specs.Layout.{spreadAt, slicesAt, rowsAt, setLength, widthOf, tapsOf, chainsOf, spreadOf, slicesOf, valueRow, markRow, values, marks}
-use Rattle.set_file.specs.Reading.{badSlices, spareInRows, valuedUnknown, setTests, SetParts, partsOf, setReply}
-use Rattle.set_file.proofs.LayoutLaws.{good-chains}
-use Rattle.set_file.proofs.SliceLaws as slices
-use Rattle.numbers.proofs.ByteLaws.{length-words-at}
+use Rattle.set_layout.specs.Layout.{chainsAt, spreadAt, slicesAt, headLength, setLength, widthOf, tapsOf, chainsOf, spreadOf, slicesOf, valueRow, markRow, values, marks}
+use Rattle.set_file.specs.Reading.{badSlices, spareInRows, valuedInRows, setTests, SetParts, setPartsOf, setReply}
+use Rattle.set_layout.proofs.LayoutLaws.{good-chains}
+use Rattle.set_layout.proofs.SliceLaws as slices
+use Rattle.set_file.proofs.RowTests as tests
 
--- ---- the reader's reply
+-- ---- the reader's tests and its reply
 
-pub set-answers : (set : List ℕ) → firstOf (setTests set) ≡ 0 → setReply set ≡ answer (partsOf set)
+-- each of the tests has a number, so that tests after them decide where none applies
+pub set-numbered : (set : List ℕ) → numbered (setTests set) ≡ true
+unfolding setTests
+set-numbered set = refl
+
+pub set-answers : (set : List ℕ) → firstOf (setTests set) ≡ 0 → setReply set ≡ answer (setPartsOf set)
 unfolding setReply
-set-answers set h = ap (λ (n : ℕ). replied n (partsOf set)) h
+set-answers set h = replied-answered (firstOf (setTests set)) (setPartsOf set) h
 
 pub set-refuses : (set : List ℕ) (n : ℕ) → n ≡ firstOf (setTests set) → (n ≡ 0 → ⊥) → setReply set ≡ refusal n
 unfolding setReply
-set-refuses set n e h = ap (λ (k : ℕ). replied k (partsOf set)) (sym e) ∙ replied-refusal n (partsOf set) h
+set-refuses set n e h = sym (refused-reply (firstOf (setTests set)) n (setPartsOf set) e h)
 
-pub set-answer-parts : (set : List ℕ) (p : SetParts) → setReply set ≡ answer p → p ≡ partsOf set
+pub set-answer-parts : (set : List ℕ) (p : SetParts) → setReply set ≡ answer p → p ≡ setPartsOf set
 unfolding setReply
-set-answer-parts set p h = replied-answer (firstOf (setTests set)) (partsOf set) p h .1
+set-answer-parts set p h = replied-answer (firstOf (setTests set)) (setPartsOf set) p h .1
 
 pub set-answer-none : (set : List ℕ) (p : SetParts) → setReply set ≡ answer p → firstOf (setTests set) ≡ 0
 unfolding setReply
-set-answer-none set p h = replied-answer (firstOf (setTests set)) (partsOf set) p h .0
+set-answer-none set p h = replied-answer (firstOf (setTests set)) (setPartsOf set) p h .0
 
 pub set-refusal-first : (set : List ℕ) (k : ℕ) → setReply set ≡ refusal k → firstOf (setTests set) ≡ k
 unfolding setReply
-set-refusal-first set k h = replied-number (firstOf (setTests set)) (partsOf set) k h
+set-refusal-first set k h = replied-number (firstOf (setTests set)) (setPartsOf set) k h
 
 -- ---- an accepted set
 
@@ -57,34 +62,31 @@ pub record Accepted (set : List ℕ) : Type 0 where
   pub slices : slicesOf set ≤ 512
   pub long : length set ≡ setLength (chainsOf set) (slicesOf set)
   pub clean : spareInRows set ≡ false
-  pub unvalued : valuedUnknown set ≡ false
+  pub unvalued : valuedInRows set ≡ false
 
 pub accepted : (set : List ℕ) → firstOf (setTests set) ≡ 0 → Accepted set
 unfolding setTests badSlices
 accepted set h =
-    let p1 = none-and-rest (ltb (length set) 10) 0 _ h in
+    let p1 = none-and-rest (ltb (length set) chainsAt) 0 _ h in
     let p2 = none-and-rest (badWidth (widthOf set)) 1 _ (p1 .1) in
     let p3 = none-and-rest (badTaps (widthOf set) (tapsOf set)) 2 _ (p2 .1) in
-    let p4 = none-and-rest (ltb (length set) 12 || badChains (chainsOf set)) 3 _ (p3 .1) in
+    let p4 = none-and-rest (ltb (length set) spreadAt || badChains (chainsOf set)) 3 _ (p3 .1) in
     let p5 = none-and-rest (ltb (length set) (slicesAt (chainsOf set))) 4 _ (p4 .1) in
     let p6 = none-and-rest (badSpread (widthOf set) (spreadOf set)) 5 _ (p5 .1) in
     let p7 = none-and-rest (badSlices set) 6 _ (p6 .1) in
     let p8 = none-and-rest (not (eqb (length set) (setLength (chainsOf set) (slicesOf set)))) 7 _ (p7 .1) in
     let p9 = none-and-rest (spareInRows set) 8 _ (p8 .1) in
-    let p10 = none-and-rest (valuedUnknown set) 9 _ (p9 .1) in
+    let p10 = none-and-rest (valuedInRows set) 9 _ (p9 .1) in
     record {
       width = p2 .0;
       taps = p3 .0;
-      chains = or-false-right (ltb (length set) 12) (badChains (chainsOf set)) (p4 .0);
+      chains = or-false-right (ltb (length set) spreadAt) (badChains (chainsOf set)) (p4 .0);
       spread = p6 .0;
-      slices = ltb-false 512 (slicesOf set) (or-false-right (ltb (length set) (rowsAt (chainsOf set))) (ltb 512 (slicesOf set)) (p7 .0));
+      slices = ltb-false 512 (slicesOf set) (or-false-right (ltb (length set) (headLength (chainsOf set))) (ltb 512 (slicesOf set)) (p7 .0));
       long = eqb-true (length set) _ (not-false _ (p8 .0));
       clean = p9 .0;
       unvalued = p10 .0;
     }
-
-pub spread-length : (set : List ℕ) → length (spreadOf set) ≡ chainsOf set
-spread-length set = length-words-at set spreadAt (chainsOf set)
 
 module _ (set : List ℕ) (a : Accepted set) where
   pub accepted-width : (1 ≤ widthOf set) × (widthOf set ≤ 64)
@@ -100,14 +102,13 @@ module _ (set : List ℕ) (a : Accepted set) where
   mark-row-length = slices.mark-row-length set (a .long)
 
   pub value-row-clean : (t : ℕ) → t < slicesOf set → spareSet (chainsOf set) (valueRow set t) ≡ false
-  value-row-clean = slices.value-row-clean set (a .clean)
+  value-row-clean = tests.value-row-clean set (a .clean)
 
   pub mark-row-clean : (t : ℕ) → t < slicesOf set → spareSet (chainsOf set) (markRow set t) ≡ false
-  mark-row-clean = slices.mark-row-clean set (a .clean)
+  mark-row-clean = tests.mark-row-clean set (a .clean)
 
   -- document 01: "An unknown cell's value bit is 0."
   pub unknown-unvalued : (t c : ℕ) → t < slicesOf set → c < chainsOf set → values set t c ≡ 1 → marks set t c ≡ 1 → ⊥
-  unfolding valuedUnknown
   unknown-unvalued t c ht hc v k =
       let off : (eqb (values set t c) 1 && eqb (marks set t c) 1) ≡ false =
       any-below-false (chainsOf set) (λ c. eqb (values set t c) 1 && eqb (marks set t c) 1)
@@ -116,3 +117,16 @@ module _ (set : List ℕ) (a : Accepted set) where
       let on : (eqb (values set t c) 1 && eqb (marks set t c) 1) ≡ true = rw (eq-eqb (values set t c) 1 v, eq-eqb (marks set t c) 1 k) in
       let z : _≡_ {A = ℕ} 0 1 = cc in
       omega arith
+
+-- a set that is right in each part meets no number
+pub accepted-back : (set : List ℕ) → Accepted set → firstOf (setTests set) ≡ 0
+unfolding setTests badSlices
+accepted-back set a =
+    let n = chainsOf set in
+    let b1 : ltb (length set) chainsAt ≡ false = le-ltb (length set) chainsAt (omega (arith, a .long)) in
+    let b4 : ltb (length set) spreadAt ≡ false = le-ltb (length set) spreadAt (omega (arith, a .long)) in
+    let b5 : ltb (length set) (slicesAt n) ≡ false = le-ltb (length set) (slicesAt n) (omega (arith, a .long)) in
+    let b7 : ltb (length set) (headLength n) ≡ false = le-ltb (length set) (headLength n) (omega (arith, a .long)) in
+    let few : ltb 512 (slicesOf set) ≡ false = le-ltb 512 (slicesOf set) (a .slices) in
+    let b8 = eq-eqb (length set) (setLength n (slicesOf set)) (a .long) in
+    rw (b1, a .width, a .taps, b4, a .chains, b5, a .spread, b7, few, b8, a .clean, a .unvalued)

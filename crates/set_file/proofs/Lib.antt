@@ -1,10 +1,4 @@
-pub mod LayoutLaws
-pub mod SliceLaws
+pub mod RowTests
 pub mod CodeLaws
 pub mod Laws
 pub mod ReadLaws
-pub mod PlaceLaws
-pub mod WriteLaws
-pub mod ContentLaws
-pub mod FileLaws
-pub mod RoundTrip

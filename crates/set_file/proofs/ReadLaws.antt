@@ -1,33 +1,100 @@
--- Each way out of the set reader, and what it answers and hands back beside it. Assumes nothing.
-use mathlib.Core.Path.{_≡_, sym, ap, _∙_}
+-- Each way out of the set reader, what it answers and hands back beside it, and what a taken set is:
+--
+--   refused-set        the number of a refused set is the first of its tests that applies
+--   TakenFrom set k    the taken set k is what the file `set` gives: its circuit, n and s
+--   taken-set          .. where the reader answered with k's register, n and s and gave k's spread words beside
+-- Assumes nothing.
+use mathlib.Core.Path.{_≡_, refl, sym, ap, ap₂, _∙_}
 use mathlib.Core.List.{List}
-use Prim.Native.Nat.{ℕ, _≤_}
-use lib.ListN.{replicate}
-use Rattle.word.specs.Reply.{Reply, answer, refusal, firstOf, front, lent}
-use Rattle.set_file.specs.Layout.{widthOf, tapsOf, chainsOf, spreadOf, slicesOf}
-use Rattle.set_file.specs.Reading.{SetParts, setTests, partsOf, setReply, spreadBeside, said}
-use Rattle.set_file.specs.Code.{noWords}
+use Prim.Native.Nat.{ℕ, _≤_, min}
+use native.Mathlib.Omega.{arith}
+use lib.ListN.{length, take, drop}
+use lib.Seq.{take-at}
+use Rattle.word.specs.Reply.{Reply, answer, refusal, firstOf, numberOf, front, lent}
+use Rattle.word.proofs.ReplyLaws.{refused-leaves, answered-writes}
+use Rattle.word.proofs.TestLaws.{replied-not-zero}
+use Rattle.register.specs.Circuit.{circuit}
+use Rattle.register.specs.declared.Register.{Register}
+use Rattle.set_layout.specs.Layout.{widthOf, tapsOf, chainsOf, spreadOf, slicesOf, circuitOf, noWords}
+use Rattle.set_layout.proofs.LayoutLaws.{spread-length}
+use Rattle.set_file.specs.Reading.{SetParts, setTests, setPartsOf, setReply, spreadBeside, said, startOf, takenCircuit}
 use Rattle.set_file.specs.declared.SetAnswer.{SetAnswer}
 use Rattle.set_file.specs.declared.SetAnswer.the-variants.{Read, Refused}
-use Rattle.set_file.proofs.Laws.{accepted, accepted-chains, set-answers, set-refuses}
+use Rattle.set_file.specs.declared.Taken.{Taken}
+use Rattle.set_file.proofs.Laws.{accepted, accepted-width, accepted-chains, set-answers, set-answer-parts, set-answer-none, set-refusal-first}
 
 -- what the reader answers, a, and the words beside it, ws
 abbrev pub Reads : List ℕ → SetAnswer → List ℕ → Type 0
-Reads set a ws = (said a ≡ setReply set) × (ws ≡ spreadBeside set)
+Reads set a ws = (said a ≡ setReply set) × ((ws ≡ spreadBeside set) × (startOf a ≡ 0))
 
 pub reads-refused : (set ws : List ℕ) (n : ℕ) → n ≡ firstOf (setTests set) → (n ≡ 0 → ⊥) → ws ≡ noWords → Reads set (Refused n) ws
-unfolding spreadBeside noWords
+unfolding spreadBeside setReply
 reads-refused set ws n e h w =
-    let r : setReply set ≡ refusal n = set-refuses set n e h in
-    (sym r, w ∙ sym (ap (λ (x : Reply SetParts). lent x (spreadOf set) (replicate 256 0)) r))
+    let out = refused-leaves (firstOf (setTests set)) n (setPartsOf set) (spreadOf set) noWords e h in
+    (out .0, (w ∙ out .1, refl))
 
-pub reads-answer : (set ws : List ℕ) (n m t k s : ℕ) → n ≡ firstOf (setTests set) → n ≡ 0 → m ≡ widthOf set → t ≡ tapsOf set
-    → k ≡ chainsOf set → s ≡ slicesOf set → (chainsOf set ≤ 256 → ws ≡ front (spreadOf set) noWords) → Reads set (Read m t k s) ws
-unfolding spreadBeside noWords
-reads-answer set ws n m t k s e z em et ek es w =
+pub reads-answer : (set ws : List ℕ) (n m t k s : ℕ) (r : Register) → n ≡ firstOf (setTests set) → n ≡ 0 → m ≡ widthOf set → t ≡ tapsOf set
+    → (r .m ≡ m) × (r .taps ≡ t) × (r .state ≡ 0) → k ≡ chainsOf set → s ≡ slicesOf set
+    → (chainsOf set ≤ 256 → ws ≡ front (spreadOf set) noWords) → Reads set (Read r k s) ws
+unfolding spreadBeside setReply
+reads-answer set ws n m t k s r e z em et er ek es w =
     let none : firstOf (setTests set) ≡ 0 = sym e ∙ z in
-    let r : setReply set ≡ answer (partsOf set) = set-answers set none in
-    let parts : said (Read m t k s) ≡ answer (partsOf set) = rw (em, et, ek, es) in (
-      parts ∙ sym r,
-      w (accepted-chains set (accepted set none) .1) ∙ sym (ap (λ (x : Reply SetParts). lent x (spreadOf set) (replicate 256 0)) r),
+    let parts : record { m = r .m; taps = r .taps; n = k; s = s } ≡ setPartsOf set = rw (er .0 ∙ em, er .1 ∙ et, ek, es) in
+    let out =
+    answered-writes (firstOf (setTests set)) n (setPartsOf set) (record { m = r .m; taps = r .taps; n = k; s = s }) (spreadOf set) noWords ws e z parts
+    (w (accepted-chains set (accepted set none) .1))
+    in
+    (out .0, (out .1, er .2))
+
+-- ---- a refused set
+
+-- n is the number that `number_of` gives
+pub refused-set : (set ws : List ℕ) (a : SetAnswer) (k n : ℕ) → Reads set a ws → a ≡ Refused k → n ≡ numberOf (said a)
+    → (n ≡ firstOf (setTests set)) × (n ≡ 0 → ⊥)
+unfolding setReply
+refused-set set ws a k n reads e en =
+    let refused : setReply set ≡ refusal k = sym (reads .0) ∙ ap said e in
+    let same : n ≡ k = en ∙ ap (λ (x : SetAnswer). numberOf (said x)) e in (
+      same ∙ sym (set-refusal-first set k refused),
+      λ z. replied-not-zero (firstOf (setTests set)) (setPartsOf set) k refused (sym same ∙ z),
     )
+
+-- ---- a taken set
+
+pub record TakenFrom (set : List ℕ) (k : Taken) : Type 0 where
+  pub none : firstOf (setTests set) ≡ 0
+  pub width : k .register .m ≡ widthOf set
+  pub taps : k .register .taps ≡ tapsOf set
+  pub start : k .register .state ≡ 0
+  pub chains : k .n ≡ chainsOf set
+  pub slices : k .s ≡ slicesOf set
+  pub spread : take (k .n) (k .spread) ≡ spreadOf set
+  pub circuit : takenCircuit k ≡ circuitOf set
+
+pub taken-set : (set ws : List ℕ) (a : SetAnswer) (r : Register) (n s : ℕ) → Reads set a ws → a ≡ Read r n s
+    → TakenFrom set (record { register = r; n = n; s = s; spread = ws })
+unfolding spreadBeside front
+taken-set set ws a r n s reads e =
+    let said-parts : setReply set ≡ answer (record { m = r .m; taps = r .taps; n = n; s = s }) = sym (reads .0) ∙ ap said e in
+    let none : firstOf (setTests set) ≡ 0 = set-answer-none set _ said-parts in
+    let parts : record { m = r .m; taps = r .taps; n = n; s = s } ≡ setPartsOf set = set-answer-parts set _ said-parts in
+    let width : r .m ≡ widthOf set = ap (λ (p : SetParts). p .m) parts in
+    let taps : r .taps ≡ tapsOf set = ap (λ (p : SetParts). p .taps) parts in
+    let chains : n ≡ chainsOf set = ap (λ (p : SetParts). p .n) parts in
+    let beside : ws ≡ front (spreadOf set) noWords =
+    reads .1 .0 ∙ ap (λ (x : Reply SetParts). lent x (spreadOf set) noWords) (set-answers set none)
+    in
+    let words : take n ws ≡ spreadOf set =
+    ap (take n) beside ∙ take-at (spreadOf set) (drop (length (spreadOf set)) noWords) n (spread-length set ∙ sym chains)
+    in
+    let few : min (r .m) 64 ≡ widthOf set = omega (arith, width, accepted-width set (accepted set none) .1) in
+    record {
+      none = none;
+      width = width;
+      taps = taps;
+      start = sym (ap startOf e) ∙ reads .1 .1;
+      chains = chains;
+      slices = ap (λ (p : SetParts). p .s) parts;
+      spread = words;
+      circuit = rw (few, taps, words);
+    }

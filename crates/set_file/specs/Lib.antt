@@ -1,5 +1,1 @@
-pub mod Layout
 pub mod Reading
-pub mod Rows
-pub mod Writing
-pub mod Code

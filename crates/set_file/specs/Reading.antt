@@ -1,53 +1,53 @@
 -- The set reader. Document 01: "The set reader answers with m, the tap word, n, s and 256 spread words, zero from n on";
--- "An array that belongs to an answer stands beside it and is all zero in a refusal".
+-- "An array that belongs to an answer stands beside it and is all zero in a refusal"; the register "starts at zero".
 --
 --   badSlices set        document 01, 7: the slice count is absent or above 512
 --   spareInRows set      document 01, 9: a row of the set has a spare bit set
---   valuedUnknown set    document 01, 10: an unknown cell has its value bit set
+--   valuedInRows set     document 01, 10: an unknown cell has its value bit set
 --   setTests set         the numbers 1 to 10, in order
 --   SetParts             what the reader answers
---   partsOf set          .. of the set: m, the tap word, n and s
+--   setPartsOf set       .. of the set: m, the tap word, n and s
 --   setReply set         its reply
---   spreadBeside r ws    the 256 words beside the reply r: the words ws and zeros after an answer, zeros after a refusal
+--   spreadBeside set     the 256 words beside the reply: the spread words and zeros after an answer, zeros after a refusal
 --   said a               the paper's reading of what the reader hands back
-use mathlib.Core.Bool.{Bool, not, _&&_, _||_}
+--   startOf a            the state of the register that it hands back; 0 of a refusal
+--   takenCircuit k       the register and the chains of a taken set
+use mathlib.Core.Bool.{Bool, not, _||_}
 use mathlib.Core.List.{List, [], _∷_}
-use Prim.Native.Nat.{ℕ}
+use Prim.Native.Nat.{ℕ, min}
 use lib.Dec.{eqb, ltb}
-use lib.ListN.{length, replicate}
+use lib.ListN.{length, take}
 use Rattle.word.specs.Word.{badWidth}
-use Rattle.word.specs.Some.{anyBelow}
 use Rattle.word.specs.Reply.{Test, _when_, Reply, answer, refusal, reply, lent}
-use Rattle.rows.specs.Row.{spareSet}
-use Rattle.register.specs.Circuit.{badTaps, badChains}
+use Rattle.rows.specs.Lists.{spareIn, valuedUnknown}
+use Rattle.register.specs.Circuit.{Circuit, circuit, badTaps, badChains, tooManySlices}
 use Rattle.chains.specs.Driven.{badSpread}
-use Rattle.set_file.specs.Layout.{slicesAt, rowsAt, setLength, widthOf, tapsOf, chainsOf, spreadOf, slicesOf, valueRow, markRow, values, marks}
+use Rattle.set_layout.specs.Layout.{chainsAt, spreadAt, slicesAt, headLength, setLength, widthOf, tapsOf, chainsOf, spreadOf, slicesOf, valueRow, markRow, noWords}
 use Rattle.set_file.specs.declared.SetAnswer.{SetAnswer}
 use Rattle.set_file.specs.declared.SetAnswer.the-variants.{Read, Refused}
+use Rattle.set_file.specs.declared.Taken.{Taken}
 
 unfoldable pub badSlices : List ℕ → Bool
-badSlices set = ltb (length set) (rowsAt (chainsOf set)) || ltb 512 (slicesOf set)
+badSlices set = ltb (length set) (headLength (chainsOf set)) || tooManySlices (slicesOf set)
 
-unfoldable pub spareInRows : List ℕ → Bool
-spareInRows set =
-    anyBelow (slicesOf set) (λ t. spareSet (chainsOf set) (valueRow set t) || spareSet (chainsOf set) (markRow set t))
+abbrev pub spareInRows : List ℕ → Bool
+spareInRows set = spareIn (chainsOf set) (valueRow set) (slicesOf set) || spareIn (chainsOf set) (markRow set) (slicesOf set)
 
-unfoldable pub valuedUnknown : List ℕ → Bool
-valuedUnknown set =
-    anyBelow (slicesOf set) (λ t. anyBelow (chainsOf set) (λ c. eqb (values set t c) 1 && eqb (marks set t c) 1))
+abbrev pub valuedInRows : List ℕ → Bool
+valuedInRows set = valuedUnknown (chainsOf set) (valueRow set) (markRow set) (slicesOf set)
 
 unfoldable pub setTests : List ℕ → List Test
 setTests set =
-    1 when ltb (length set) 10
+    1 when ltb (length set) chainsAt
     ∷ 2 when badWidth (widthOf set)
     ∷ 3 when badTaps (widthOf set) (tapsOf set)
-    ∷ 4 when (ltb (length set) 12 || badChains (chainsOf set))
+    ∷ 4 when (ltb (length set) spreadAt || badChains (chainsOf set))
     ∷ 5 when ltb (length set) (slicesAt (chainsOf set))
     ∷ 6 when badSpread (widthOf set) (spreadOf set)
     ∷ 7 when badSlices set
     ∷ 8 when not (eqb (length set) (setLength (chainsOf set) (slicesOf set)))
     ∷ 9 when spareInRows set
-    ∷ 10 when valuedUnknown set
+    ∷ 10 when valuedInRows set
     ∷ []
 
 pub record SetParts : Type 0 where
@@ -56,15 +56,22 @@ pub record SetParts : Type 0 where
   pub n : ℕ
   pub s : ℕ
 
-abbrev pub partsOf : List ℕ → SetParts
-partsOf set = record { m = widthOf set; taps = tapsOf set; n = chainsOf set; s = slicesOf set }
+abbrev pub setPartsOf : List ℕ → SetParts
+setPartsOf set = record { m = widthOf set; taps = tapsOf set; n = chainsOf set; s = slicesOf set }
 
 unfoldable pub setReply : List ℕ → Reply SetParts
-setReply set = reply (setTests set) (partsOf set)
+setReply set = reply (setTests set) (setPartsOf set)
 
 unfoldable pub spreadBeside : List ℕ → List ℕ
-spreadBeside set = lent (setReply set) (spreadOf set) (replicate 256 0)
+spreadBeside set = lent (setReply set) (spreadOf set) noWords
 
 abbrev pub said : SetAnswer → Reply SetParts
-said (Read w t k l) = answer (record { m = w; taps = t; n = k; s = l })
+said (Read r k l) = answer (record { m = r .m; taps = r .taps; n = k; s = l })
 said (Refused n) = refusal n
+
+abbrev pub startOf : SetAnswer → ℕ
+startOf (Read r k l) = r .state
+startOf (Refused n) = 0
+
+abbrev pub takenCircuit : Taken → Circuit
+takenCircuit k = circuit (min (k .register .m) 64) (k .register .taps) (take (k .n) (k .spread))

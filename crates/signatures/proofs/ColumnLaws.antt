@@ -3,6 +3,7 @@
 use mathlib.Core.Path.{_≡_, refl, sym, ap, ap₂, _∙_}
 use mathlib.Core.Bool.{Bool, false, true, cond, _&&_}
 use mathlib.Core.Logic.{⊎-elim}
+use mathlib.Core.List.{_++_}
 use Prim.Native.Nat.{ℕ, zero, suc, _+_, _-_, _^_, _≤_, _<_}
 use native.Mathlib.Nat.{eq-or-lt-of-le, le-of-suc-le-suc, not-suc-le-zero}
 use native.Mathlib.Omega.{arith}
@@ -117,6 +118,19 @@ module _ (k : Circuit) (s : ℕ) (u : Response) where
   length-columns-below hu (suc t) =
       length-append (columnsBelow k s u t) (sliceColumns k s u t (chains k))
       ∙ ap₂ _+_ (length-columns-below hu t) (length-slice-columns hu t (chains k))
+
+  -- ---- the marks alone decide which columns there are
+
+  slice-columns-ext : (v : Response) (t c : ℕ) → ((d : ℕ) → u t d ≡ v t d) → sliceColumns k s u t c ≡ sliceColumns k s v t c
+  unfolding sliceColumns
+  slice-columns-ext v t zero h = refl
+  slice-columns-ext v t (suc c) h =
+      ap₂ _++_ (slice-columns-ext v t c h) (ap (λ (d : ℕ). listed d (column k s t c)) (h c))
+
+  pub columns-ext : (v : Response) (t : ℕ) → ((t c : ℕ) → u t c ≡ v t c) → columnsBelow k s u t ≡ columnsBelow k s v t
+  unfolding columnsBelow
+  columns-ext v zero h = refl
+  columns-ext v (suc t) h = ap₂ _++_ (columns-ext v t h) (slice-columns-ext v t (chains k) (h t))
 
   -- ---- no column has a bit at or above the width
 

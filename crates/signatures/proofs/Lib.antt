@@ -2,3 +2,4 @@ pub mod SignatureLaws
 pub mod ColumnLaws
 pub mod DifferenceLaws
 pub mod FillingLaws
+pub mod SetLaws

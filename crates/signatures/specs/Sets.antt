@@ -13,7 +13,7 @@ use mathlib.Core.List.{List}
 use Prim.Native.Nat.{ℕ}
 use Rattle.rows.specs.Row.{cell}
 use Rattle.rows.specs.Lists.{listRow}
-use Rattle.set_file.specs.Layout.{circuitOf, slicesOf, values, marks}
+use Rattle.set_layout.specs.Layout.{circuitOf, slicesOf, values, marks}
 use Rattle.signatures.specs.Signature.{Response}
 use Rattle.signatures.specs.Given.{Given, KnownCell, FillingOf, ExplainedBy, columnsFor, unknownsFor, zeroSignatureFor}
 

@@ -1,10 +1,11 @@
 -- A chain of tests, each of which refuses with its number: at each way out the first number that applies is known from what
 -- the tests before it answered. Assumes nothing.
-use mathlib.Core.Path.{_≡_, refl, sym, _∙_}
+use mathlib.Core.Path.{_≡_, refl, sym, ap, _∙_}
 use mathlib.Core.Bool.{Bool, true, false, cond}
+use mathlib.Core.List.{List}
 use Prim.Native.Nat.{ℕ, zero, suc}
 use native.Mathlib.Omega.{arith}
-use Rattle.word.specs.Reply.{refusal, replied}
+use Rattle.word.specs.Reply.{Reply, answer, refusal, replied, front, lent}
 
 -- a test that applies gives its number
 pub refuses : (b r : Bool) (n k : ℕ) → r ≡ b → r ≡ true → n ≡ cond b n k
@@ -24,3 +25,26 @@ none-applies false n k h = refl
 pub replied-refusal : {A : Type 0} (n : ℕ) (a : A) → (n ≡ 0 → ⊥) → replied n a ≡ refusal n
 replied-refusal zero a h = absurd (h refl)
 replied-refusal (suc n) a h = refl
+
+pub replied-answered : {A : Type 0} (n : ℕ) (a : A) → n ≡ 0 → replied n a ≡ answer a
+replied-answered n a z = ap (λ (k : ℕ). replied k a) z
+
+-- ---- the two ways out of a call whose first number is k: what it answers, and the lent list that it leaves
+
+pub refused-reply : {A : Type 0} (k n : ℕ) (a : A) → n ≡ k → (n ≡ 0 → ⊥) → refusal n ≡ replied k a
+refused-reply k n a e h = sym (replied-refusal n a h) ∙ ap (λ (i : ℕ). replied i a) e
+
+pub answered-reply : {A : Type 0} (k n : ℕ) (a b : A) → n ≡ k → n ≡ 0 → b ≡ a → answer b ≡ replied k a
+answered-reply k n a b e z eb = ap answer eb ∙ sym (replied-answered k a (sym e ∙ z))
+
+-- a refusal leaves the list as it was
+pub refused-leaves : {A : Type 0} {B : Type 0} (k n : ℕ) (a : A) (vs l : List B) → n ≡ k → (n ≡ 0 → ⊥)
+    → (refusal n ≡ replied k a) × (l ≡ lent (replied k a) vs l)
+refused-leaves k n a vs l e h = let r = refused-reply k n a e h in (r, ap (λ x. lent x vs l) r)
+
+-- an answer writes its front
+pub answered-writes : {A : Type 0} {B : Type 0} (k n : ℕ) (a b : A) (vs l l′ : List B) → n ≡ k → n ≡ 0 → b ≡ a → l′ ≡ front vs l
+    → (answer b ≡ replied k a) × (l′ ≡ lent (replied k a) vs l)
+answered-writes k n a b vs l l′ e z eb w =
+    let r = answered-reply k n a b e z eb in
+    (r, w ∙ ap (λ x. lent x vs l) r)

@@ -37,6 +37,19 @@ first-of-none ts us h =
     dite (ℕ-discrete (firstOf ts) 0) (λ (z : firstOf ts ≡ 0). z)
     (λ (d : firstOf ts ≡ 0 → ⊥). absurd (d (sym (first-of-sooner ts us d) ∙ h)))
 
+-- ---- a call whose tests are another call's and then its own: n is the first number of the other's
+
+pub first-sooner : (ts us : List Test) (n : ℕ) → n ≡ firstOf ts → (n ≡ 0 → ⊥) → n ≡ firstOf (ts ++ us)
+first-sooner ts us n e h = e ∙ sym (first-of-sooner ts us (λ z. h (e ∙ z)))
+
+pub first-later : (ts us : List Test) (n k : ℕ) → numbered ts ≡ true → n ≡ firstOf ts → n ≡ 0 → k ≡ firstOf us → k ≡ firstOf (ts ++ us)
+first-later ts us n k d e z h = h ∙ sym (first-of-later ts us d (sym e ∙ z))
+
+pub none-of-both : (ts us : List Test) → numbered ts ≡ true → firstOf (ts ++ us) ≡ 0 → (firstOf ts ≡ 0) × (firstOf us ≡ 0)
+none-of-both ts us d h = let none : firstOf ts ≡ 0 = first-of-none ts us h in (none, sym (first-of-later ts us d none) ∙ h)
+
+-- ---- what a reply says of its tests
+
 pub replied-answer : {A : Type 0} (n : ℕ) (a p : A) → replied n a ≡ answer p → (n ≡ 0) × (p ≡ a)
 replied-answer zero a p h = (refl, cc)
 replied-answer (suc n) a p h = let z : _≡_ {A = ℕ} 0 1 = cc in let w : ⊥ = omega arith in absurd w
@@ -44,6 +57,10 @@ replied-answer (suc n) a p h = let z : _≡_ {A = ℕ} 0 1 = cc in let w : ⊥ =
 pub replied-number : {A : Type 0} (n : ℕ) (a : A) (k : ℕ) → replied n a ≡ refusal k → n ≡ k
 replied-number zero a k h = let z : _≡_ {A = ℕ} 0 1 = cc in let w : ⊥ = omega arith in absurd w
 replied-number (suc n) a k h = cc
+
+pub replied-not-zero : {A : Type 0} (n : ℕ) (a : A) (k : ℕ) → replied n a ≡ refusal k → k ≡ 0 → ⊥
+replied-not-zero zero a k h z = let y : _≡_ {A = ℕ} 0 1 = cc in omega arith
+replied-not-zero (suc n) a k h z = let y : suc n ≡ k = replied-number (suc n) a k h in omega arith
 
 -- a reply whose tests refuse with the number k refuses so whatever its answer would be
 pub replied-alike : {A : Type 0} {B : Type 0} (n : ℕ) (a : A) (b : B) (k : ℕ) → replied n a ≡ refusal k → replied n b ≡ refusal k

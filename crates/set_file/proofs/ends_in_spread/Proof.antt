@@ -1,5 +1,5 @@
 -- `ends_in_spread` meets its contract.
-use Rattle.set_file.specs.Layout.{slicesAt}
+use Rattle.set_layout.specs.Layout.{slicesAt}
 use lib.ListN.{length}
 use lib.Dec.{ltb}
 use mathlib.Core.Path.{ap, _∙_}

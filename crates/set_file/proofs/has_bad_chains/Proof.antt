@@ -1,5 +1,6 @@
 -- `has_bad_chains` meets its contract.
 use Rattle.register.specs.Circuit.{badChains}
+use Rattle.set_layout.specs.Layout.{spreadAt}
 use lib.ListN.{length}
 use lib.Dec.{ltb}
 use mathlib.Core.Bool.{Bool, _||_}
@@ -18,7 +19,7 @@ is-bad-chains-requires : tie.Need-is-bad-chains-requires
 is-bad-chains-requires c κs = search needs
 
 returns : tie.Need-returns
-returns c = ap (λ (b : Bool). ltb (length (c .before .before .before .args .set .now)) 12 || b) (c .is-bad-chains .ensures ∙ ap badChains (c .before .chain-count .ensures))
+returns c = ap (λ (b : Bool). ltb (length (c .before .before .before .args .set .now)) spreadAt || b) (c .is-bad-chains .ensures ∙ ap badChains (c .before .chain-count .ensures))
 
 pub has-bad-chains-spec : {M : Type 1} → statement M
 has-bad-chains-spec =

@@ -12,8 +12,8 @@ Inv-loop set m n c₀ c = Sought set m n c
 abbrev μ-loop : tie.MeasureT-loop
 μ-loop set m n c₀ c = n - c
 
-read-count-requires : tie.Need-read-count-requires Inv-loop μ-loop
-read-count-requires c κs = search needs
+register-width-requires : tie.Need-register-width-requires Inv-loop μ-loop
+register-width-requires c κs = search needs
 
 chain-count-requires : tie.Need-chain-count-requires Inv-loop μ-loop
 chain-count-requires c κs = search needs
@@ -38,7 +38,7 @@ is-bad-spread-word-requires c κs = search needs
 
 returns : tie.Need-returns Inv-loop μ-loop
 returns c =
-    sought-found _ _ _ _ _ _ (c .before .before .before .before .before .before .read-count .ensures .0) (c .before .before .before .before .before .chain-count .ensures) (c .before .before .before .before .loop .inv) (c .before .before .before .loop-test .taken) (c .before .before .read-word .ensures) (c .before .is-bad-spread-word .ensures) (c .if1 .taken)
+    sought-found _ _ _ _ _ _ (c .before .before .before .before .before .before .register-width .ensures) (c .before .before .before .before .before .chain-count .ensures) (c .before .before .before .before .loop .inv) (c .before .before .before .loop-test .taken) (c .before .before .read-word .ensures) (c .before .is-bad-spread-word .ensures) (c .if1 .taken)
 
 add-c : tie.Need-add-c Inv-loop μ-loop
 add-c c = search needs
@@ -50,7 +50,7 @@ loop-again : tie.Need-loop-again Inv-loop μ-loop
 loop-again c = sought-next _ _ _ _ _ _ (c .before .before .before .before .loop .inv) (c .before .before .before .loop-test .taken) (c .before .before .read-word .ensures) (c .before .is-bad-spread-word .ensures) (c .if1 .left)
 
 returns-2 : tie.Need-returns-2 Inv-loop μ-loop
-returns-2 c = sought-none _ _ _ _ (c .before .before .before .read-count .ensures .0) (c .before .before .chain-count .ensures) (c .before .loop .inv) (search needs)
+returns-2 c = sought-none _ _ _ _ (c .before .before .before .register-width .ensures) (c .before .before .chain-count .ensures) (c .before .loop .inv) (search needs)
 
 pub has-bad-spread-spec : {M : Type 1} → statement M
 has-bad-spread-spec =
@@ -58,7 +58,7 @@ has-bad-spread-spec =
     (tie.spec
     Inv-loop
     μ-loop
-    read-count-requires
+    register-width-requires
     chain-count-requires
     loop-holds
     cast-chain

@@ -5,18 +5,18 @@ use Rattle.register.specs.Circuit.{badTaps}
 use Rattle.set_file.proofs.has_bad_taps.Statement.{statement}
 use Rattle.set_file.proofs.has_bad_taps.Tie as tie
 
-read-count-requires : tie.Need-read-count-requires
-read-count-requires c κs = search needs
+register-width-requires : tie.Need-register-width-requires
+register-width-requires c κs = search needs
 
-read-word-requires : tie.Need-read-word-requires
-read-word-requires c κs = search needs
+tap-word-requires : tie.Need-tap-word-requires
+tap-word-requires c κs = search needs
 
 is-bad-taps-requires : tie.Need-is-bad-taps-requires
 is-bad-taps-requires c κs = search needs
 
 returns : tie.Need-returns
-returns c = c .is-bad-taps .ensures ∙ ap₂ badTaps (c .before .before .read-count .ensures .0) (c .before .read-word .ensures)
+returns c = c .is-bad-taps .ensures ∙ ap₂ badTaps (c .before .before .register-width .ensures) (c .before .tap-word .ensures)
 
 pub has-bad-taps-spec : {M : Type 1} → statement M
 has-bad-taps-spec =
-    tie.close (tie.spec read-count-requires read-word-requires is-bad-taps-requires returns)
+    tie.close (tie.spec register-width-requires tap-word-requires is-bad-taps-requires returns)

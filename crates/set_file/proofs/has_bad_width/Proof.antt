@@ -5,14 +5,14 @@ use Rattle.word.specs.Word.{badWidth}
 use Rattle.set_file.proofs.has_bad_width.Statement.{statement}
 use Rattle.set_file.proofs.has_bad_width.Tie as tie
 
-read-count-requires : tie.Need-read-count-requires
-read-count-requires c κs = search needs
+register-width-requires : tie.Need-register-width-requires
+register-width-requires c κs = search needs
 
 is-bad-width-requires : tie.Need-is-bad-width-requires
 is-bad-width-requires c κs = search needs
 
 returns : tie.Need-returns
-returns c = c .is-bad-width .ensures ∙ ap badWidth (c .before .read-count .ensures .0)
+returns c = c .is-bad-width .ensures ∙ ap badWidth (c .before .register-width .ensures)
 
 pub has-bad-width-spec : {M : Type 1} → statement M
-has-bad-width-spec = tie.close (tie.spec read-count-requires is-bad-width-requires returns)
+has-bad-width-spec = tie.close (tie.spec register-width-requires is-bad-width-requires returns)

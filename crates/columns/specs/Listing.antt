@@ -1,0 +1,24 @@
+-- Listing the columns. Document 01: "Listing the columns answers with the number of unknown cells"; 14: "The lent column list is
+-- shorter than the number of unknown cells." The call meets the set's 1 to 10, then 14, and fills the front of the lent list.
+--
+--   listTests set room   the numbers that the call meets, in order, for a lent list of `room` places
+--   listReply set room   its reply: the number of unknown cells
+--   saidListed a         the paper's reading of what the call hands back
+use mathlib.Core.List.{List, [], _∷_, _++_}
+use Prim.Native.Nat.{ℕ}
+use lib.Dec.{ltb}
+use Rattle.word.specs.Reply.{Test, _when_, Reply, answer, refusal, reply}
+use Rattle.set_file.specs.Reading.{setTests}
+use Rattle.signatures.specs.Sets.{unknownsOf, placesOf}
+use Rattle.columns.specs.declared.Listed.{Listed}
+use Rattle.columns.specs.declared.Listed.the-variants.{Count, Declined}
+
+unfoldable pub listTests : List ℕ → ℕ → List Test
+listTests set room = setTests set ++ 14 when ltb room (placesOf set) ∷ []
+
+unfoldable pub listReply : List ℕ → ℕ → Reply ℕ
+listReply set room = reply (listTests set room) (unknownsOf set)
+
+abbrev pub saidListed : Listed → Reply ℕ
+saidListed (Count n) = answer n
+saidListed (Declined n) = refusal n

@@ -1,3 +1,0 @@
-pub mod Code
-pub mod Signing
-pub mod Listing

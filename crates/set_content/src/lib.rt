@@ -1,0 +1,78 @@
+// What the set writer is handed, and the numbers that it meets with it: 2, 3, 4, 6, 7, 8, 9, 10 and 24. It sees rows, the register's
+// limits and where the parts of a set stand; it writes nothing. Every function is total.
+ghost use mathlib.Core.Path.{_≡_};
+ghost use mathlib.Core.Bool.{not, _||_};
+ghost use Prim.Native.Nat.{_*_};
+ghost use lib.Dec.{eqb, ltb};
+ghost use lib.ListN.{length};
+ghost use Rattle.word.specs.Reply.{firstOf};
+ghost use Rattle.rows.specs.Row.{rowBytes};
+ghost use Rattle.rows.specs.Lists.{listRow, spareIn};
+ghost use Rattle.set_layout.specs.Layout.{setLength};
+ghost use Rattle.set_content.specs.Content.{setContent, setWriteTests};
+
+// Number 8: whether the length of a list of rows isn't that of s rows of n chains.
+fn are_bad_rows(n: u16, s: u16, values: &[u8], marks: &[u8]) -> bool
+    ensures { λ r. ⌜ r ≡ (not (eqb (length (now (values .entry))) (rowBytes n * s)) || not (eqb (length (now (marks .entry))) (rowBytes n * s))) ⌝ }
+{
+    let bytes = set_layout::rows_length(n, s);
+    (values.len() != bytes) | (marks.len() != bytes)
+}
+
+// Number 9: whether one of the first s rows of either list has a spare bit set.
+fn has_spare_list(n: usize, s: usize, values: &[u8], marks: &[u8]) -> bool
+    ensures { λ r. ⌜ r ≡ (spareIn n (listRow n (now (values .entry))) s || spareIn n (listRow n (now (marks .entry))) s) ⌝ }
+{
+    rows::has_spare_row(n, values, s) | rows::has_spare_row(n, marks, s)
+}
+
+// Number 24: whether `room` bytes are too few for a set of n chains and s slices.
+fn lacks_room(room: usize, n: u16, s: u16) -> bool
+    ensures { λ r. ⌜ r ≡ ltb room (setLength n s) ⌝ }
+{
+    room < set_layout::set_length(n, s)
+}
+
+// The first number that the writer meets with this input and an output of `room` bytes; 0 where none applies.
+pub fn write_refusal(
+    m: u64,
+    taps: u64,
+    spread: &[u64],
+    values: &[u8],
+    marks: &[u8],
+    s: u64,
+    room: usize,
+) -> u64
+    ensures { λ r. ⌜ r ≡ firstOf (setWriteTests (setContent m taps (now (spread .entry)) (now (values .entry)) (now (marks .entry)) s) room) ⌝ }
+{
+    if word::is_bad_width(m) {
+        return 2;
+    }
+    if register::is_bad_taps(m, taps) {
+        return 3;
+    }
+    if register::is_bad_chains(spread.len() as u64) {
+        return 4;
+    }
+    if chains::is_bad_spread(m, spread) {
+        return 6;
+    }
+    if register::is_bad_slices(s) {
+        return 7;
+    }
+    let n = spread.len() as u16;
+    let slices = s as u16;
+    if are_bad_rows(n, slices, values, marks) {
+        return 8;
+    }
+    if has_spare_list(n as usize, slices as usize, values, marks) {
+        return 9;
+    }
+    if rows::share_a_bit(values, marks) {
+        return 10;
+    }
+    if lacks_room(room, n, slices) {
+        return 24;
+    }
+    0
+}

@@ -1,0 +1,102 @@
+-- The set file. Document 01, "Files": "Set: m, then the tap word; n, then n spread words; s, then s slices, each a value row
+-- and a row of unknown marks. An unknown cell's value bit is 0."
+--
+--   tapsAt              the place of the tap word; m stands at place 0
+--   chainsAt            the place of n
+--   spreadAt            the place of the first spread word
+--   slicesAt n          the place of the slice count, for n chains
+--   headLength n        the bytes before the rows
+--   rowsAt n            the place of the first row
+--   valueAt n t         the place of slice t's value row
+--   markAt n t          the place of slice t's row of unknown marks
+--   setLength n s       the bytes of a set of n chains and s slices
+--   widthOf set         document 01: m
+--   tapsOf set          the tap word
+--   chainsOf set        document 01: n
+--   spreadOf set        the n spread words
+--   slicesOf set        document 01: s
+--   circuitOf set       the register and its chains
+--   valueRow set t      slice t's value row
+--   markRow set t       slice t's row of unknown marks
+--   valuesOf set        document 01, "the two lists of rows": the value rows of all slices, one after the other
+--   marksOf set         .. and their rows of unknown marks
+--   values set t c      the value bit of chain c in slice t
+--   marks set t c       its mark: 1 where the cell is unknown
+--   noWords             256 zero words
+use mathlib.Core.List.{List}
+use Prim.Native.Nat.{ℕ, _+_, _*_}
+use lib.ListN.{take, drop, replicate}
+use Rattle.numbers.specs.Bytes.{countAt, wordAt, wordsAt}
+use Rattle.numbers.specs.Joined.{joined}
+use Rattle.rows.specs.Row.{Cells, cell, rowBytes}
+use Rattle.register.specs.Circuit.{Circuit, circuit}
+
+-- ---- the places, each from the one before
+
+abbrev pub tapsAt : ℕ
+tapsAt = 2
+
+abbrev pub chainsAt : ℕ
+chainsAt = tapsAt + 8
+
+abbrev pub spreadAt : ℕ
+spreadAt = chainsAt + 2
+
+abbrev pub slicesAt : ℕ → ℕ
+slicesAt n = spreadAt + 8 * n
+
+abbrev pub headLength : ℕ → ℕ
+headLength n = slicesAt n + 2
+
+abbrev pub rowsAt : ℕ → ℕ
+rowsAt n = headLength n
+
+abbrev pub valueAt : ℕ → ℕ → ℕ
+valueAt n t = rowsAt n + 2 * rowBytes n * t
+
+abbrev pub markAt : ℕ → ℕ → ℕ
+markAt n t = valueAt n t + rowBytes n
+
+abbrev pub setLength : ℕ → ℕ → ℕ
+setLength n s = rowsAt n + 2 * rowBytes n * s
+
+-- ---- the parts
+
+abbrev pub widthOf : List ℕ → ℕ
+widthOf set = countAt set 0
+
+abbrev pub tapsOf : List ℕ → ℕ
+tapsOf set = wordAt set tapsAt
+
+abbrev pub chainsOf : List ℕ → ℕ
+chainsOf set = countAt set chainsAt
+
+abbrev pub spreadOf : List ℕ → List ℕ
+spreadOf set = wordsAt set spreadAt (chainsOf set)
+
+abbrev pub slicesOf : List ℕ → ℕ
+slicesOf set = countAt set (slicesAt (chainsOf set))
+
+abbrev pub circuitOf : List ℕ → Circuit
+circuitOf set = circuit (widthOf set) (tapsOf set) (spreadOf set)
+
+unfoldable pub valueRow : List ℕ → ℕ → List ℕ
+valueRow set t = take (rowBytes (chainsOf set)) (drop (valueAt (chainsOf set) t) set)
+
+unfoldable pub markRow : List ℕ → ℕ → List ℕ
+markRow set t = take (rowBytes (chainsOf set)) (drop (markAt (chainsOf set) t) set)
+
+abbrev pub valuesOf : List ℕ → List ℕ
+valuesOf set = joined (valueRow set) (slicesOf set)
+
+abbrev pub marksOf : List ℕ → List ℕ
+marksOf set = joined (markRow set) (slicesOf set)
+
+abbrev pub values : List ℕ → ℕ → Cells
+values set t = cell (valueRow set t)
+
+abbrev pub marks : List ℕ → ℕ → Cells
+marks set t = cell (markRow set t)
+
+unfoldable pub noWords : List ℕ
+noWords = replicate 256 0

@@ -1,0 +1,135 @@
+// The set file of document 01: where each of its parts stands, and the parts before its rows, as the set gives them. It sees
+// numbers, rows and the register's limits; it knows no refusal. A part past the end of the set counts as 0. Every function is
+// total.
+ghost use mathlib.Core.Path.{_≡_};
+ghost use Prim.Native.Nat.{_*_, _≤_};
+ghost use Rattle.word.specs.Reply.{front};
+ghost use Rattle.rows.specs.Row.{rowBytes};
+ghost use Rattle.set_layout.specs.Layout.{slicesAt, headLength, rowsAt, setLength, widthOf, tapsOf, chainsOf, spreadOf, slicesOf, valueAt, markAt, noWords};
+
+// The places of the tap word, of n and of the first spread word; m stands at place 0.
+pub const TAPS_AT: usize = 2;
+
+pub const CHAINS_AT: usize = 10;
+
+pub const SPREAD_AT: usize = 12;
+
+// The place of the slice count, for n chains.
+pub fn slices_at(n: u16) -> usize
+    ensures { λ r. ⌜ r ≡ slicesAt n ⌝ }
+{
+    let chains = n as usize;
+    SPREAD_AT + 8 * chains
+}
+
+// The bytes before the rows, for n chains.
+pub fn head_length(n: u16) -> usize
+    ensures { λ r. ⌜ r ≡ headLength n ⌝ }
+{
+    slices_at(n) + 2
+}
+
+// The place of the first row, for n chains.
+pub fn rows_at(n: u16) -> usize
+    ensures { λ r. ⌜ r ≡ rowsAt n ⌝ }
+{
+    head_length(n)
+}
+
+// The bytes of s rows of n chains. Counts of 2 bytes keep it small.
+pub fn rows_length(n: u16, s: u16) -> usize
+    ensures { λ r. ⌜ (r ≡ rowBytes n * s) × (r ≤ 536870912) ⌝ }
+{
+    let slices = s as usize;
+    rows::row_bytes(n as usize) * slices
+}
+
+// The place of slice t's value row, for n chains.
+pub fn value_at(n: u16, t: u16) -> usize
+    ensures { λ r. ⌜ r ≡ valueAt n t ⌝ }
+{
+    rows_at(n) + 2 * rows_length(n, t)
+}
+
+// The bytes of a set of n chains and s slices.
+pub fn set_length(n: u16, s: u16) -> usize
+    ensures { λ r. ⌜ r ≡ setLength n s ⌝ }
+{
+    value_at(n, s)
+}
+
+// m, as the set gives it.
+pub fn register_width(set: &[u8]) -> u64
+    ensures { λ r. ⌜ r ≡ widthOf (now (set .entry)) ⌝ }
+{
+    numbers::read_count(set, 0)
+}
+
+// The tap word, as the set gives it.
+pub fn tap_word(set: &[u8]) -> u64
+    ensures { λ r. ⌜ r ≡ tapsOf (now (set .entry)) ⌝ }
+{
+    numbers::read_word(set, TAPS_AT)
+}
+
+// n, as the set gives it.
+pub fn chain_count(set: &[u8]) -> u16
+    ensures { λ r. ⌜ r ≡ chainsOf (now (set .entry)) ⌝ }
+{
+    numbers::read_count(set, CHAINS_AT) as u16
+}
+
+// s, as the set gives it.
+pub fn slice_count(set: &[u8]) -> u16
+    ensures { λ r. ⌜ r ≡ slicesOf (now (set .entry)) ⌝ }
+{
+    numbers::read_count(set, slices_at(chain_count(set))) as u16
+}
+
+// 256 zero words.
+pub fn no_words() -> [u64; 256]
+    ensures { λ r. ⌜ r ≡ noWords ⌝ }
+{
+    [0u64; 256]
+}
+
+// The spread words, as the set gives them, up to 256, and zeros after them.
+pub fn spread_words(set: &[u8]) -> [u64; 256]
+    ensures { λ r. ⌜ (chainsOf (now (set .entry)) ≤ 256 → r ≡ front (spreadOf (now (set .entry))) noWords) ⌝ }
+{
+    let n = chain_count(set) as usize;
+    let mut words = no_words();
+    let mut c = 0;
+    while c < n {
+        if register::Register::LARGEST_CHAINS <= c as u64 {
+            return words;
+        }
+        words[c] = numbers::read_word(set, SPREAD_AT + 8 * c);
+        c += 1;
+    }
+    words
+}
+
+// The value rows of a set of n chains.
+pub fn value_rows(n: u16) -> rows::Rows
+    ensures { λ r. ⌜ (r .at ≡ valueAt n 0) × (r .stride ≡ 2 * rowBytes n) × (r .bytes ≡ rowBytes n) ⌝ }
+{
+    let bytes = rows::row_bytes(n as usize) as u32;
+    rows::Rows {
+        at: rows_at(n) as u32,
+        stride: 2 * bytes,
+        bytes,
+    }
+}
+
+// The rows of unknown marks of a set of n chains.
+pub fn mark_rows(n: u16) -> rows::Rows
+    ensures { λ r. ⌜ (r .at ≡ markAt n 0) × (r .stride ≡ 2 * rowBytes n) × (r .bytes ≡ rowBytes n) ⌝ }
+{
+    let rows = value_rows(n);
+    rows::Rows {
+        at: rows.at + rows.bytes,
+        stride: rows.stride,
+        bytes: rows.bytes,
+    }
+}

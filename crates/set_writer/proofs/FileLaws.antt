@@ -1,0 +1,113 @@
+-- The set writer's file: how long it is, its parts written one after the other, and each way out of the call. Assumes nothing.
+use mathlib.Core.Path.{_≡_, refl, sym, ap, ap₂, _∙_}
+use mathlib.Core.Bool.{false}
+use mathlib.Core.List.{List, _++_}
+use Prim.Native.Nat.{ℕ, _+_, _*_, _≤_, _<_}
+use native.Mathlib.Omega.{arith}
+use lib.ListN.{length, length-append}
+use lib.Seq.{sets}
+use Rattle.word.specs.Reply.{answer, firstOf, front, lent}
+use Rattle.word.proofs.ReplyLaws.{replied-answered, refused-leaves, answered-writes}
+use Rattle.numbers.specs.Bytes.{bytesOf, wordBytes}
+use Rattle.numbers.specs.Joined.{joined}
+use Rattle.numbers.proofs.ByteLaws.{bytes-of-length, length-word-bytes}
+use Rattle.numbers.proofs.FileLaws.{sets-parts, front-sets}
+use Rattle.rows.specs.Row.{rowBytes}
+use Rattle.set_layout.specs.Layout.{tapsAt, chainsAt, spreadAt, slicesAt, headLength, rowsAt, setLength}
+use Rattle.set_content.specs.Content.{SetContent, contentChains, badRows, setWriteTests}
+use Rattle.set_content.proofs.ContentLaws.{Writable, writable, chains-small, values-length, marks-length}
+use Rattle.set_writer.specs.Writing.{headBytes, sliceBytes, setBytes, setWriteReply, saidSetWritten}
+use Rattle.set_writer.specs.declared.Written.{Written}
+use Rattle.set_writer.specs.declared.Written.the-variants.{Done, Refused}
+use Rattle.set_writer.proofs.WriteLaws.{slices-length}
+
+-- ---- how long the file is
+
+module _ (m taps : ℕ) (ws : List ℕ) (s : ℕ) where
+  pub head-length : length (headBytes m taps ws s) ≡ headLength (length ws)
+  unfolding headBytes
+  head-length =
+      simp length-append
+      (omega
+      (arith, bytes-of-length 2 m, bytes-of-length 8 taps, bytes-of-length 2 (length ws), length-word-bytes ws, bytes-of-length 2 s))
+
+module _ (k : SetContent) (rows : badRows k ≡ false) where
+  pub set-bytes-length : length (setBytes k) ≡ setLength (contentChains k) (k .s)
+  unfolding setBytes
+  set-bytes-length =
+      length-append (headBytes (k .m) (k .taps) (k .spread) (k .s)) (joined (sliceBytes (contentChains k) (k .values) (k .marks)) (k .s))
+      ∙ omega (
+        arith,
+        head-length (k .m) (k .taps) (k .spread) (k .s),
+        slices-length (contentChains k) (k .values) (k .marks) (k .s) (omega (arith, values-length k rows)) (omega (arith, marks-length k rows)),
+      )
+
+pub write-answers : (k : SetContent) (room : ℕ) → firstOf (setWriteTests k room) ≡ 0 → setWriteReply k room ≡ answer (setLength (contentChains k) (k .s))
+unfolding setWriteReply
+write-answers k room h = replied-answered (firstOf (setWriteTests k room)) (setLength (contentChains k) (k .s)) h
+
+-- ---- the bytes before the rows
+
+module _ (m taps : ℕ) (ws : List ℕ) (s : ℕ) where
+  pub head-written : (n : ℕ) (l l₁ l₂ l₃ l₄ l₅ : List ℕ) → l₁ ≡ sets l 0 (bytesOf 2 m) → l₂ ≡ sets l₁ tapsAt (bytesOf 8 taps)
+      → l₃ ≡ sets l₂ chainsAt (bytesOf 2 (length ws)) → l₄ ≡ sets l₃ spreadAt (wordBytes ws) → n ≡ slicesAt (length ws)
+      → l₅ ≡ sets l₄ n (bytesOf 2 s) → l₅ ≡ sets l 0 (headBytes m taps ws s)
+  unfolding headBytes
+  head-written n l l₁ l₂ l₃ l₄ l₅ e₁ e₂ e₃ e₄ en e₅ =
+      let a = bytesOf 2 m in
+      let b = bytesOf 8 taps in
+      let c = bytesOf 2 (length ws) in
+      let d = wordBytes ws in
+      let e = bytesOf 2 s in
+      let at = slicesAt (length ws) in
+      let p₁ : 0 + length a ≡ tapsAt = omega (arith, bytes-of-length 2 m) in
+      let p₂ : tapsAt + length b ≡ chainsAt = omega (arith, bytes-of-length 8 taps) in
+      let p₃ : chainsAt + length c ≡ spreadAt = omega (arith, bytes-of-length 2 (length ws)) in
+      let p₄ : spreadAt + length d ≡ at = ap (λ (x : ℕ). spreadAt + x) (length-word-bytes ws) in
+      e₅ ∙ ap₂ (λ (x : List ℕ) (i : ℕ). sets x i e) e₄ en ∙ sym (sets-parts d e l₃ spreadAt at p₄)
+      ∙ ap (λ (x : List ℕ). sets x spreadAt (d ++ e)) e₃ ∙ sym (sets-parts c (d ++ e) l₂ chainsAt spreadAt p₃)
+      ∙ ap (λ (x : List ℕ). sets x chainsAt (c ++ (d ++ e))) e₂ ∙ sym (sets-parts b (c ++ (d ++ e)) l₁ tapsAt chainsAt p₂)
+      ∙ ap (λ (x : List ℕ). sets x tapsAt (b ++ (c ++ (d ++ e)))) e₁ ∙ sym (sets-parts a (b ++ (c ++ (d ++ e))) l 0 tapsAt p₁)
+
+-- the head and then the rows are the file
+file-written : (k : SetContent) (l l₁ l₂ : List ℕ) → Writable k (length l) → l₁ ≡ sets l 0 (headBytes (k .m) (k .taps) (k .spread) (k .s))
+    → l₂ ≡ sets l₁ (rowsAt (contentChains k)) (joined (sliceBytes (contentChains k) (k .values) (k .marks)) (k .s))
+    → l₂ ≡ front (setBytes k) l
+unfolding setBytes
+file-written k l l₁ l₂ w e₁ e₂ =
+    let head = headBytes (k .m) (k .taps) (k .spread) (k .s) in
+    let slices = joined (sliceBytes (contentChains k) (k .values) (k .marks)) (k .s) in
+    e₂
+    ∙ ap (λ (x : List ℕ). sets x (rowsAt (contentChains k)) slices) e₁
+    ∙ sym (sets-parts head slices l 0 (rowsAt (contentChains k)) (omega (arith, head-length (k .m) (k .taps) (k .spread) (k .s))))
+    ∙ front-sets (setBytes k) l (omega (arith, set-bytes-length k (w .rows), w .fits))
+
+-- ---- the two ways out of the call
+
+-- what the call answers, r, and leaves in the output l, l′
+abbrev pub Writes : SetContent → List ℕ → Written → List ℕ → Type 0
+Writes k l r l′ = (saidSetWritten r ≡ setWriteReply k (length l)) × (l′ ≡ lent (setWriteReply k (length l)) (setBytes k) l)
+
+pub writes-refused : (k : SetContent) (l : List ℕ) (n : ℕ) → n ≡ firstOf (setWriteTests k (length l)) → (n ≡ 0 → ⊥) → Writes k l (Refused n) l
+unfolding setWriteReply
+writes-refused k l n e h = refused-leaves (firstOf (setWriteTests k (length l))) n (setLength (contentChains k) (k .s)) (setBytes k) l e h
+
+module _ (k : SetContent) (l : List ℕ) (n : ℕ) (e : n ≡ firstOf (setWriteTests k (length l))) (z : n ≡ 0) where
+  written : Writable k (length l)
+  written = writable k (length l) (sym e ∙ z)
+
+  pub written-chains : contentChains k < 65536
+  written-chains = chains-small (contentChains k) false (sym (written .chains)) refl
+
+  pub written-slices : k .s < 65536
+  written-slices = omega (arith, written .slices)
+
+  pub writes-done : (c : ℕ) (l₁ l₂ : List ℕ) → c ≡ setLength (contentChains k) (k .s)
+      → l₁ ≡ sets l 0 (headBytes (k .m) (k .taps) (k .spread) (k .s))
+      → (length (k .values) ≡ rowBytes (contentChains k) * k .s → length (k .marks) ≡ rowBytes (contentChains k) * k .s
+      → l₂ ≡ sets l₁ (rowsAt (contentChains k)) (joined (sliceBytes (contentChains k) (k .values) (k .marks)) (k .s)))
+      → Writes k l (Done c) l₂
+  unfolding setWriteReply
+  writes-done c l₁ l₂ ec e₁ e₂ =
+      answered-writes (firstOf (setWriteTests k (length l))) n (setLength (contentChains k) (k .s)) c (setBytes k) l l₂ e z ec
+      (file-written k l l₁ l₂ written e₁ (e₂ (values-length k (written .rows)) (marks-length k (written .rows))))

@@ -1,0 +1,3 @@
+pub mod WriteLaws
+pub mod FileLaws
+pub mod RoundTrip

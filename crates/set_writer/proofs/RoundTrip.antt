@@ -1,0 +1,382 @@
+-- What the set writer writes the set reader and the row calls read back, and a set that is accepted is the file of its content:
+--
+--   Holds k set        the set file `set` gives m, the tap word, the spread words, s and the rows of the content k
+--   written-holds      .. as the file that the writer makes of k does
+--   ReadBack k         what the set reader and the row calls answer of that file
+--   written-set        .. so they give back what the writer was handed
+--   written-output     .. and that file is the front of the output, as many bytes as the writer answers with
+--   content-holds      an accepted set gives its own content
+--   file-of-content    an accepted set that gives the content k is the file of k
+--   set-of-content     .. and so it is the file of its own content
+--   content-written    the writer takes the content of an accepted set, where the output has room for it
+--   one-file           two accepted sets with the same m, tap word, spread words, s and rows are the same file
+-- .. and at the height of the calls, with the whole content as one value:
+--   content-back       the content of the file that the writer makes of k is k
+--   written-again      the content of an accepted set, written, is that set at the front of the output
+--   one-content        two accepted sets with one content are one file
+-- Assumes nothing.
+use mathlib.Core.Path.{_≡_, refl, sym, ap, ap₂, _∙_}
+use mathlib.Core.Bool.{Bool, false, not, _||_}
+use mathlib.Core.List.{List, [], _++_, append-assoc}
+use Prim.Native.Nat.{ℕ, _+_, _*_, _^_, _≤_, _<_}
+use native.Mathlib.Nat.{lt-of-lt-of-le}
+use native.Mathlib.Omega.{arith}
+use borrow.Author.Tests.{eq-eqb}
+use lib.ListN.{length, getD, take, drop, length-append, length-drop}
+use lib.Pow.{pow-mono}
+use lib.Seq.{take-at, drop-at}
+use Rattle.word.specs.Word.{badWidth}
+use Rattle.word.specs.Reply.{Reply, answer, firstOf, front, lent}
+use Rattle.word.proofs.BoolLaws.{or-false}
+use Rattle.word.proofs.TestLaws.{replied-answer}
+use Rattle.word.proofs.WordLaws.{good-width}
+use Rattle.numbers.specs.Bytes.{countAt, wordAt, wordsAt, bytesOf, wordBytes}
+use Rattle.numbers.specs.Joined.{joined}
+use Rattle.numbers.proofs.ByteLaws.{bytes-of-length, length-word-bytes}
+use Rattle.numbers.proofs.FileLaws.{number-back, words-back, number-bytes, words-bytes, part-joins}
+use Rattle.numbers.proofs.JoinLaws.{joined-ext, joined-length, joined-row, joined-back}
+use Rattle.rows.specs.Row.{rowBytes}
+use Rattle.rows.specs.Lists.{listRow, spareIn, valuedUnknown}
+use Rattle.rows.proofs.CellLaws.{row-step, list-row-length}
+use Rattle.rows.proofs.ListLaws.{spare-in-ext, valued-ext}
+use Rattle.register.specs.Circuit.{badTaps, badChains}
+use Rattle.chains.specs.Driven.{badSpread}
+use Rattle.register.proofs.Laws.{good-taps}
+use Rattle.chains.proofs.Laws.{good-spread}
+use Rattle.set_layout.specs.Layout.{tapsAt, chainsAt, spreadAt, slicesAt, rowsAt, setLength, widthOf, tapsOf, chainsOf, spreadOf, slicesOf, valueRow, markRow, valuesOf, marksOf, noWords}
+use Rattle.set_layout.proofs.LayoutLaws.{spread-length}
+use Rattle.set_layout.proofs.SliceLaws.{rowsOf}
+use Rattle.set_layout.proofs.SliceLaws as slices
+use Rattle.set_file.specs.Reading.{spareInRows, valuedInRows, setTests, SetParts, setReply, spreadBeside}
+use Rattle.set_file.proofs.Laws.{Accepted, accepted, accepted-back, value-row-length, mark-row-length, set-answers}
+use Rattle.slice_rows.specs.Rows.{valueReply, markReply, stretch}
+use Rattle.slice_rows.proofs.PlaceLaws.{value-stretch, mark-stretch}
+use Rattle.set_content.specs.Content.{SetContent, setContent, contentIn, contentChains, badRows, spareInLists, valuedInLists, setWriteTests}
+use Rattle.set_content.proofs.ContentLaws.{Writable, writable, writable-back, chains-small, values-length, marks-length}
+use Rattle.set_writer.specs.Writing.{headBytes, sliceBytes, setBytes, setWriteReply}
+use Rattle.set_writer.proofs.WriteLaws.{slice-length}
+use Rattle.set_writer.proofs.FileLaws.{head-length, set-bytes-length, write-answers}
+
+-- ---- a set file and a content
+
+pub record Holds (k : SetContent) (set : List ℕ) : Type 0 where
+  pub width : widthOf set ≡ k .m
+  pub taps : tapsOf set ≡ k .taps
+  pub spread : spreadOf set ≡ k .spread
+  pub slices : slicesOf set ≡ k .s
+  pub value-rows : (t : ℕ) → t < k .s → valueRow set t ≡ listRow (contentChains k) (k .values) t
+  pub mark-rows : (t : ℕ) → t < k .s → markRow set t ≡ listRow (contentChains k) (k .marks) t
+
+module _ (k : SetContent) (set : List ℕ) (h : Holds k set) where
+  same-chains : chainsOf set ≡ contentChains k
+  same-chains = sym (spread-length set) ∙ ap length (h .spread)
+
+  -- 9 and 10 are met by the one where they are met by the other
+  same-spare : spareInRows set ≡ spareInLists k
+  same-spare =
+      ap₂ (λ (n s : ℕ). spareIn n (valueRow set) s || spareIn n (markRow set) s) same-chains (h .slices)
+      ∙ ap₂ (λ (a b : Bool). a || b) (spare-in-ext (contentChains k) (k .s) _ _ (h .value-rows)) (spare-in-ext (contentChains k) (k .s) _ _ (h .mark-rows))
+
+  same-valued : valuedInRows set ≡ valuedInLists k
+  same-valued =
+      ap₂ (λ (n s : ℕ). valuedUnknown n (valueRow set) (markRow set) s) same-chains (h .slices)
+      ∙ valued-ext (contentChains k) (k .s) _ _ _ _ (h .value-rows) (h .mark-rows)
+
+same-parts : (a b c d : List ℕ) (n : ℕ) → length a ≡ n → length c ≡ n → a ++ b ≡ c ++ d → (a ≡ c) × (b ≡ d)
+same-parts a b c d n ea ec e =
+    (sym (take-at a b n ea) ∙ ap (take n) e ∙ take-at c d n ec, sym (drop-at a b n ea) ∙ ap (drop n) e ∙ drop-at c d n ec)
+
+-- ---- the file that was written
+
+-- the file, part after part
+file-parts : (k : SetContent)
+    → setBytes k
+    ≡ bytesOf 2 (k .m)
+    ++ (bytesOf 8 (k .taps) ++ (bytesOf 2 (contentChains k) ++ (wordBytes (k .spread) ++ (bytesOf 2 (k .s) ++ joined (sliceBytes (contentChains k) (k .values) (k .marks)) (k .s)))))
+unfolding setBytes headBytes
+file-parts k = simp append-assoc
+
+module _ (k : SetContent) (room : ℕ) (w : Writable k room) where
+  abbrev n : ℕ
+  n = contentChains k
+
+  -- the parts of the head, and the rows
+  abbrev start : List ℕ
+  start = bytesOf 2 (k .m) ++ bytesOf 8 (k .taps)
+
+  abbrev rows : List ℕ
+  rows = joined (sliceBytes n (k .values) (k .marks)) (k .s)
+
+  most-width : k .m ≤ 64
+  most-width = good-width (k .m) (w .width) .1
+
+  chains-fit : n < 256 ^ 2
+  chains-fit = omega (arith, chains-small n false (sym (w .chains)) refl)
+
+  start-long : length start ≡ chainsAt
+  start-long =
+      length-append (bytesOf 2 (k .m)) (bytesOf 8 (k .taps)) ∙ omega (arith, bytes-of-length 2 (k .m), bytes-of-length 8 (k .taps))
+
+  count-long : length (start ++ bytesOf 2 n) ≡ spreadAt
+  count-long = length-append start (bytesOf 2 n) ∙ omega (arith, start-long, bytes-of-length 2 n)
+
+  spread-long : length (start ++ bytesOf 2 n ++ wordBytes (k .spread)) ≡ slicesAt n
+  spread-long = length-append (start ++ bytesOf 2 n) (wordBytes (k .spread)) ∙ omega (arith, count-long, length-word-bytes (k .spread))
+
+  -- the file from n, from its spread words and from s on
+  from-chains : setBytes k ≡ start ++ (bytesOf 2 n ++ (wordBytes (k .spread) ++ (bytesOf 2 (k .s) ++ rows)))
+  from-chains = file-parts k ∙ sym (append-assoc (bytesOf 2 (k .m)) (bytesOf 8 (k .taps)) _)
+
+  from-spread : setBytes k ≡ start ++ bytesOf 2 n ++ (wordBytes (k .spread) ++ (bytesOf 2 (k .s) ++ rows))
+  from-spread = from-chains ∙ sym (append-assoc start (bytesOf 2 n) _)
+
+  from-slices : setBytes k ≡ start ++ bytesOf 2 n ++ wordBytes (k .spread) ++ (bytesOf 2 (k .s) ++ rows)
+  from-slices = from-spread ∙ sym (append-assoc (start ++ bytesOf 2 n) (wordBytes (k .spread)) _)
+
+  written-chains : chainsOf (setBytes k) ≡ n
+  written-chains = ap (λ (s : List ℕ). countAt s chainsAt) from-chains ∙ number-back 2 n start _ chainsAt start-long chains-fit
+
+  written-spread : spreadOf (setBytes k) ≡ k .spread
+  written-spread =
+      ap₂ (λ (s : List ℕ) (c : ℕ). wordsAt s spreadAt c) from-spread written-chains
+      ∙ words-back (k .spread) (start ++ bytesOf 2 n) _ spreadAt count-long
+      (λ j. lt-of-lt-of-le (good-spread (k .m) (k .spread) (w .spread) j) (pow-mono most-width))
+
+  written-slices : slicesOf (setBytes k) ≡ k .s
+  written-slices =
+      ap₂ (λ (s : List ℕ) (c : ℕ). countAt s (slicesAt c)) from-slices written-chains
+      ∙ number-back 2 (k .s) (start ++ bytesOf 2 n ++ wordBytes (k .spread)) _ (slicesAt n) spread-long (omega (arith, w .slices))
+
+  written-long : length (setBytes k) ≡ setLength (chainsOf (setBytes k)) (slicesOf (setBytes k))
+  written-long = set-bytes-length k (w .rows) ∙ ap₂ setLength (sym written-chains) (sym written-slices)
+
+  -- ---- its rows
+
+  written-rows : rowsOf (setBytes k) ≡ rows
+  unfolding setBytes
+  written-rows =
+      ap (λ (c : ℕ). drop (rowsAt c) (setBytes k)) written-chains
+      ∙ drop-at (headBytes (k .m) (k .taps) (k .spread) (k .s)) rows (rowsAt n) (head-length (k .m) (k .taps) (k .spread) (k .s))
+
+  slice-long : (t : ℕ) → t < k .s → length (sliceBytes n (k .values) (k .marks) t) ≡ 2 * rowBytes n
+  slice-long t l =
+      slice-length n (k .values) (k .marks) t (omega (arith, row-step (rowBytes n) t (k .s) l, values-length k (w .rows)))
+      (omega (arith, row-step (rowBytes n) t (k .s) l, marks-length k (w .rows)))
+
+  written-slice : (t : ℕ) → t < k .s → (valueRow (setBytes k) t ≡ listRow n (k .values) t) × (markRow (setBytes k) t ≡ listRow n (k .marks) t)
+  unfolding sliceBytes
+  written-slice t l =
+      same-parts (valueRow (setBytes k) t) (markRow (setBytes k) t) (listRow n (k .values) t) (listRow n (k .marks) t) (rowBytes n)
+      (slices.value-row-length (setBytes k) written-long t (rw written-slices l) ∙ ap rowBytes written-chains)
+      (list-row-length n (k .values) (k .s) t (values-length k (w .rows)) l)
+      (slices.slice-of (setBytes k) t
+      ∙ ap₂ (λ (c : ℕ) (x : List ℕ). take (2 * rowBytes c) (drop (2 * rowBytes c * t) x)) written-chains written-rows
+      ∙ joined-row (2 * rowBytes n) (sliceBytes n (k .values) (k .marks)) (k .s) t slice-long l)
+
+  pub written-holds : Holds k (setBytes k)
+  written-holds = record {
+    width =
+        ap (λ (s : List ℕ). countAt s 0) (file-parts k) ∙ number-back 2 (k .m) [] _ 0 refl (omega (arith, most-width));
+    taps =
+        ap (λ (s : List ℕ). wordAt s tapsAt) (file-parts k)
+        ∙ number-back 8 (k .taps) (bytesOf 2 (k .m)) _ tapsAt (bytes-of-length 2 (k .m))
+        (lt-of-lt-of-le (good-taps (k .m) (k .taps) (w .taps) .1) (pow-mono most-width));
+    spread = written-spread;
+    slices = written-slices;
+    value-rows = λ t l. written-slice t l .0;
+    mark-rows = λ t l. written-slice t l .1;
+  }
+
+  -- two lists of s rows, from the rows that a set gives
+  list-back : (l : List ℕ) (f : ℕ → List ℕ) → length l ≡ rowBytes n * k .s → ((t : ℕ) → t < k .s → f t ≡ listRow n l t) → joined f (k .s) ≡ l
+  unfolding listRow
+  list-back l f long each = joined-ext f (listRow n l) (k .s) each ∙ joined-back (rowBytes n) l (k .s) (omega (arith, long))
+
+  written-content : contentIn (setBytes k) ≡ k
+  written-content =
+      let h : Holds k (setBytes k) = written-holds in
+      let values : valuesOf (setBytes k) ≡ k .values =
+      ap (joined (valueRow (setBytes k))) written-slices ∙ list-back (k .values) (valueRow (setBytes k)) (values-length k (w .rows)) (h .value-rows)
+      in
+      let marks : marksOf (setBytes k) ≡ k .marks =
+      ap (joined (markRow (setBytes k))) written-slices ∙ list-back (k .marks) (markRow (setBytes k)) (marks-length k (w .rows)) (h .mark-rows)
+      in
+      ap₂ (λ (x y : List ℕ). setContent (widthOf (setBytes k)) (tapsOf (setBytes k)) (spreadOf (setBytes k)) x y (slicesOf (setBytes k))) values marks
+      ∙ ap₂ (λ (x y : ℕ). setContent x y (spreadOf (setBytes k)) (k .values) (k .marks) (slicesOf (setBytes k))) (h .width) (h .taps)
+      ∙ ap₂ (λ (x : List ℕ) (y : ℕ). setContent (k .m) (k .taps) x (k .values) (k .marks) y) (h .spread) (h .slices)
+
+  pub written-accepted : Accepted (setBytes k)
+  written-accepted =
+      let h : Holds k (setBytes k) = written-holds in
+      record {
+        width = ap badWidth (h .width) ∙ w .width;
+        taps = ap₂ badTaps (h .width) (h .taps) ∙ w .taps;
+        chains = ap badChains written-chains ∙ w .chains;
+        spread = ap₂ badSpread (h .width) (h .spread) ∙ w .spread;
+        slices = omega (arith, written-slices, w .slices);
+        long = written-long;
+        clean = same-spare k (setBytes k) h ∙ w .clean;
+        unvalued = same-valued k (setBytes k) h ∙ w .unvalued;
+      }
+
+-- ---- what the set reader and the row calls answer of it
+
+pub record ReadBack (k : SetContent) : Type 0 where
+  pub reply : setReply (setBytes k) ≡ answer (record { m = k .m; taps = k .taps; n = contentChains k; s = k .s })
+  pub spread : spreadOf (setBytes k) ≡ k .spread
+  pub beside : spreadBeside (setBytes k) ≡ front (k .spread) noWords
+  pub long : length (setBytes k) ≡ setLength (contentChains k) (k .s)
+  pub value-rows : (t : ℕ) → t < k .s → valueRow (setBytes k) t ≡ listRow (contentChains k) (k .values) t
+  pub mark-rows : (t : ℕ) → t < k .s → markRow (setBytes k) t ≡ listRow (contentChains k) (k .marks) t
+  pub value-stretches : (t : ℕ) → t < k .s → stretch (valueReply (setBytes k) t) (setBytes k) ≡ listRow (contentChains k) (k .values) t
+  pub mark-stretches : (t : ℕ) → t < k .s → stretch (markReply (setBytes k) t) (setBytes k) ≡ listRow (contentChains k) (k .marks) t
+
+-- a content to which none of the writer's numbers applies, with an output of `room` bytes
+pub written-set : (k : SetContent) (room : ℕ) → firstOf (setWriteTests k room) ≡ 0 → ReadBack k
+unfolding spreadBeside
+written-set k room none =
+    let w : Writable k room = writable k room none in
+    let h : Holds k (setBytes k) = written-holds k room w in
+    let taken : firstOf (setTests (setBytes k)) ≡ 0 = accepted-back (setBytes k) (written-accepted k room w) in
+    let parts : setReply (setBytes k) ≡ answer (record { m = k .m; taps = k .taps; n = contentChains k; s = k .s }) =
+    set-answers (setBytes k) taken ∙ rw (h .slices, h .width, h .taps, same-chains k (setBytes k) h)
+    in
+    record {
+      reply = parts;
+      spread = h .spread;
+      beside = ap₂ (λ (r : Reply SetParts) (ws : List ℕ). lent r ws noWords) parts (h .spread);
+      long = set-bytes-length k (w .rows);
+      value-rows = h .value-rows;
+      mark-rows = h .mark-rows;
+      value-stretches = λ t l. value-stretch (setBytes k) taken t (rw (h .slices) l) ∙ h .value-rows t l;
+      mark-stretches = λ t l. mark-stretch (setBytes k) taken t (rw (h .slices) l) ∙ h .mark-rows t l;
+    }
+
+pub content-back : (k : SetContent) (room : ℕ) → firstOf (setWriteTests k room) ≡ 0 → contentIn (setBytes k) ≡ k
+content-back k room none = written-content k room (writable k room none)
+
+pub written-output : (k : SetContent) (l : List ℕ) (n : ℕ) → setWriteReply k (length l) ≡ answer n
+    → take n (lent (setWriteReply k (length l)) (setBytes k) l) ≡ setBytes k
+unfolding setWriteReply front
+written-output k l n e =
+    let done = replied-answer (firstOf (setWriteTests k (length l))) (setLength (contentChains k) (k .s)) n e in
+    let long : length (setBytes k) ≡ n = set-bytes-length k (writable k (length l) (done .0) .rows) ∙ sym (done .1) in
+    ap (λ (r : Reply ℕ). take n (lent r (setBytes k) l)) e ∙ take-at (setBytes k) _ n long
+
+-- ---- an accepted set, part after part
+
+module _ (set : List ℕ) (a : Accepted set) where
+  pub content-holds : Holds (contentIn set) set
+  unfolding listRow
+  content-holds = record {
+    width = refl;
+    taps = refl;
+    spread = refl;
+    slices = refl;
+    value-rows =
+        λ t l.
+        sym (ap (λ (n : ℕ). take (rowBytes n) (drop (rowBytes n * t) (valuesOf set))) (spread-length set)
+        ∙ joined-row (rowBytes (chainsOf set)) (valueRow set) (slicesOf set) t (value-row-length set a) l);
+    mark-rows =
+        λ t l.
+        sym (ap (λ (n : ℕ). take (rowBytes n) (drop (rowBytes n * t) (marksOf set))) (spread-length set)
+        ∙ joined-row (rowBytes (chainsOf set)) (markRow set) (slicesOf set) t (mark-row-length set a) l);
+  }
+
+  content-rows : badRows (contentIn set) ≡ false
+  content-rows =
+      let n : length (spreadOf set) ≡ chainsOf set = spread-length set in
+      or-false _ _
+      (ap not
+      (eq-eqb _ _
+      (joined-length (rowBytes (chainsOf set)) (valueRow set) (slicesOf set) (value-row-length set a) ∙ ap (λ (x : ℕ). rowBytes x * slicesOf set) (sym n))))
+      (ap not
+      (eq-eqb _ _
+      (joined-length (rowBytes (chainsOf set)) (markRow set) (slicesOf set) (mark-row-length set a) ∙ ap (λ (x : ℕ). rowBytes x * slicesOf set) (sym n))))
+
+  content-writable : (room : ℕ) → length set ≤ room → Writable (contentIn set) room
+  content-writable room fits = record {
+    width = a .width;
+    taps = a .taps;
+    chains = ap badChains (spread-length set) ∙ a .chains;
+    spread = a .spread;
+    slices = a .slices;
+    rows = content-rows;
+    clean = sym (same-spare (contentIn set) set content-holds) ∙ a .clean;
+    unvalued = sym (same-valued (contentIn set) set content-holds) ∙ a .unvalued;
+    fits = omega (arith, a .long, ap (λ (n : ℕ). setLength n (slicesOf set)) (spread-length set));
+  }
+
+pub content-written : (set : List ℕ) (room : ℕ) → firstOf (setTests set) ≡ 0 → length set ≤ room → setWriteReply (contentIn set) room ≡ answer (length set)
+content-written set room none fits =
+    let a : Accepted set = accepted set none in
+    write-answers (contentIn set) room (writable-back (contentIn set) room (content-writable set a room fits))
+    ∙ ap answer (ap (λ (n : ℕ). setLength n (slicesOf set)) (spread-length set) ∙ sym (a .long))
+
+pub file-of-content : (set : List ℕ) (k : SetContent) → ((i : ℕ) → getD set i 0 < 256) → firstOf (setTests set) ≡ 0 → Holds k set → setBytes k ≡ set
+unfolding sliceBytes
+file-of-content set k small none h =
+    let a : Accepted set = accepted set none in
+    let n = chainsOf set in
+    let b = rowBytes n in
+    let c : contentChains k ≡ n = sym (same-chains k set h) in
+    let long : length set ≡ setLength n (slicesOf set) = a .long in
+    let p1 : bytesOf 2 (k .m) ≡ take 2 (drop 0 set) = ap (bytesOf 2) (sym (h .width)) ∙ number-bytes set small 2 0 (omega arith) in
+    let p2 : bytesOf 8 (k .taps) ≡ take 8 (drop tapsAt set) = ap (bytesOf 8) (sym (h .taps)) ∙ number-bytes set small 8 tapsAt (omega arith) in
+    let p3 : bytesOf 2 (contentChains k) ≡ take 2 (drop chainsAt set) = ap (bytesOf 2) c ∙ number-bytes set small 2 chainsAt (omega arith) in
+    let p4 : wordBytes (k .spread) ≡ take (8 * n) (drop spreadAt set) =
+    ap wordBytes (sym (h .spread)) ∙ words-bytes set small n spreadAt (omega arith)
+    in
+    let p5 : bytesOf 2 (k .s) ≡ take 2 (drop (slicesAt n) set) =
+    ap (bytesOf 2) (sym (h .slices)) ∙ number-bytes set small 2 (slicesAt n) (omega arith)
+    in
+    let p6 : joined (sliceBytes (contentChains k) (k .values) (k .marks)) (k .s) ≡ drop (rowsAt n) set =
+    joined-ext (sliceBytes (contentChains k) (k .values) (k .marks)) (λ t. take (2 * b) (drop (2 * b * t) (rowsOf set))) (k .s)
+    (λ t l. ap₂ _++_ (sym (h .value-rows t l)) (sym (h .mark-rows t l)) ∙ slices.slice-of set t)
+    ∙ joined-back (2 * b) (rowsOf set) (k .s)
+    (omega (arith, length-drop (rowsAt n) set, ap (λ (s : ℕ). 2 * b * s) (h .slices)))
+    in
+    let j5 : take 2 (drop (slicesAt n) set) ++ drop (rowsAt n) set ≡ drop (slicesAt n) set = part-joins set (slicesAt n) 2 (rowsAt n) (omega arith) in
+    let j4 : take (8 * n) (drop spreadAt set) ++ drop (slicesAt n) set ≡ drop spreadAt set =
+    part-joins set spreadAt (8 * n) (slicesAt n) (omega arith)
+    in
+    let j3 : take 2 (drop chainsAt set) ++ drop spreadAt set ≡ drop chainsAt set = part-joins set chainsAt 2 spreadAt (omega arith) in
+    let j2 : take 8 (drop tapsAt set) ++ drop chainsAt set ≡ drop tapsAt set = part-joins set tapsAt 8 chainsAt (omega arith) in
+    let j1 : take 2 (drop 0 set) ++ drop tapsAt set ≡ drop 0 set = part-joins set 0 2 tapsAt (omega arith) in
+    file-parts k ∙ ap₂ _++_ p1 (ap₂ _++_ p2 (ap₂ _++_ p3 (ap₂ _++_ p4 (ap₂ _++_ p5 p6 ∙ j5) ∙ j4) ∙ j3) ∙ j2) ∙ j1
+
+pub set-of-content : (set : List ℕ) → ((i : ℕ) → getD set i 0 < 256) → firstOf (setTests set) ≡ 0 → setBytes (contentIn set) ≡ set
+set-of-content set small none = file-of-content set (contentIn set) small none (content-holds set (accepted set none))
+
+pub one-file : (one other : List ℕ) → ((i : ℕ) → getD one i 0 < 256) → ((i : ℕ) → getD other i 0 < 256)
+    → firstOf (setTests one) ≡ 0 → firstOf (setTests other) ≡ 0
+    → widthOf one ≡ widthOf other → tapsOf one ≡ tapsOf other → spreadOf one ≡ spreadOf other → slicesOf one ≡ slicesOf other
+    → ((t : ℕ) → t < slicesOf other → valueRow one t ≡ valueRow other t)
+    → ((t : ℕ) → t < slicesOf other → markRow one t ≡ markRow other t)
+    → one ≡ other
+one-file one other small small′ none none′ width taps spread slices rows rows′ =
+    let own : Holds (contentIn other) other = content-holds other (accepted other none′) in
+    let same : Holds (contentIn other) one =
+    record {
+      width = width;
+      taps = taps;
+      spread = spread;
+      slices = slices;
+      value-rows = λ t l. rows t l ∙ own .value-rows t l;
+      mark-rows = λ t l. rows′ t l ∙ own .mark-rows t l;
+    }
+    in
+    sym (file-of-content one (contentIn other) small none same) ∙ set-of-content other small′ none′
+
+-- ---- the whole content as one value
+
+pub written-again : (set l : List ℕ) → ((i : ℕ) → getD set i 0 < 256) → firstOf (setTests set) ≡ 0 → length set ≤ length l
+    → (setWriteReply (contentIn set) (length l) ≡ answer (length set))
+    × (lent (setWriteReply (contentIn set) (length l)) (setBytes (contentIn set)) l ≡ front set l)
+written-again set l small none fits =
+    let r : setWriteReply (contentIn set) (length l) ≡ answer (length set) = content-written set (length l) none fits in
+    (r, ap₂ (λ (x : Reply ℕ) (file : List ℕ). lent x file l) r (set-of-content set small none))
+
+pub one-content : (one other : List ℕ) → ((i : ℕ) → getD one i 0 < 256) → ((i : ℕ) → getD other i 0 < 256)
+    → firstOf (setTests one) ≡ 0 → firstOf (setTests other) ≡ 0 → contentIn one ≡ contentIn other → one ≡ other
+one-content one other small small′ none none′ e = sym (set-of-content one small none) ∙ ap setBytes e ∙ set-of-content other small′ none′

@@ -1,0 +1,156 @@
+-- What has been written and what is left, in the loops of the writer's inner functions. Assumes nothing.
+use mathlib.Core.Path.{_≡_, refl, sym, ap, ap₂, _∙_}
+use mathlib.Core.Bool.{true, false, _||_}
+use mathlib.Core.List.{List, _++_}
+use Prim.Native.Nat.{ℕ, suc, _+_, _-_, _*_, _≤_, _<_, min}
+use native.Mathlib.Nat.{add-zero, mul-add, mul-one, mul-assoc}
+use native.Mathlib.Numerals.{add-one}
+use native.Mathlib.Omega.{arith}
+use native.Mathlib.Decide.{decLt}
+use mathlib.Core.Logic.{dite}
+use borrow.Author.Tests.{ltb-false, le-ltb}
+use lib.Dec.{ltb}
+use lib.ListN.{length, getD, take, drop, set, length-set, length-append, length-take, length-drop, drop-of-length-le}
+use lib.Seq.{drop-cons, sets, length-sets}
+use Rattle.numbers.proofs.FileLaws.{sets-parts}
+use Rattle.numbers.specs.Joined.{joined}
+use Rattle.numbers.proofs.JoinLaws.{joined-length}
+use Rattle.numbers.proofs.WritingLaws.{Writing, writing-start, writing-past, writing-end}
+use Rattle.set_writer.specs.Writing.{sliceBytes}
+use Rattle.word.proofs.BoolLaws.{or-false, or-false-left, or-false-right}
+use Rattle.rows.specs.Row.{rowBytes}
+use Rattle.rows.specs.Lists.{listRow}
+use Rattle.rows.proofs.CellLaws.{row-step}
+use Rattle.set_layout.proofs.LayoutLaws.{rows-small}
+
+-- ---- bytes
+
+abbrev pub BytesLeft : List ℕ → List ℕ → List ℕ → ℕ → ℕ → Type 0
+BytesLeft l₀ l bs at i = Writing l₀ l bs (drop i bs) at (at + i)
+
+pub bytes-start : (l bs : List ℕ) (at : ℕ) → BytesLeft l l bs at 0
+bytes-start l bs at = rw add-zero (writing-start l bs at)
+
+pub bytes-turn : (l₀ l bs : List ℕ) (at i : ℕ) → BytesLeft l₀ l bs at i → i < length bs → BytesLeft l₀ (set l (at + i) (getD bs i 0)) bs at (i + 1)
+bytes-turn l₀ l bs at i w h = record {
+  long = length-set l (at + i) (getD bs i 0) ∙ w .long;
+  rest =
+      let place : at + (i + 1) ≡ suc (at + i) = omega arith in
+      ap₂ (λ (p k : ℕ). sets (set l (at + i) (getD bs i 0)) p (drop k bs)) place (add-one i)
+      ∙ ap (sets l (at + i)) (sym (drop-cons bs i 0 h)) ∙ w .rest;
+}
+
+pub bytes-end : (l₀ l bs : List ℕ) (at i n : ℕ) → BytesLeft l₀ l bs at i → n ≡ min (length bs) (length l₀ - at) → i ≡ n → l ≡ sets l₀ at bs
+bytes-end l₀ l bs at i n w e z = dite (decLt i (length bs)) full whole
+  where
+    full : i < length bs → l ≡ sets l₀ at bs
+    full h = writing-past l₀ l bs (drop i bs) at (at + i) w (omega (arith, w .long))
+
+    whole : (i < length bs → ⊥) → l ≡ sets l₀ at bs
+    whole h = let end : length bs ≤ i = omega arith in writing-end l₀ l bs (drop i bs) at (at + i) w (drop-of-length-le bs end)
+
+-- ---- slices one after the other
+
+row-length : (n : ℕ) (l : List ℕ) (t : ℕ) → rowBytes n * t + rowBytes n ≤ length l → length (listRow n l t) ≡ rowBytes n
+unfolding listRow
+row-length n l t h = simp (length-take, length-drop) (omega arith)
+
+pub slice-length : (n : ℕ) (v k : List ℕ) (t : ℕ) → rowBytes n * t + rowBytes n ≤ length v → rowBytes n * t + rowBytes n ≤ length k
+    → length (sliceBytes n v k t) ≡ 2 * rowBytes n
+unfolding sliceBytes
+slice-length n v k t hv hk =
+    length-append (listRow n v t) (listRow n k t) ∙ omega (arith, row-length n v t hv, row-length n k t hk)
+
+pub slices-length : (n : ℕ) (v k : List ℕ) (t : ℕ) → rowBytes n * t ≤ length v → rowBytes n * t ≤ length k
+    → length (joined (sliceBytes n v k) t) ≡ 2 * rowBytes n * t
+slices-length n v k t hv hk =
+    joined-length (2 * rowBytes n) (sliceBytes n v k) t
+    (λ i l. slice-length n v k i (omega (arith, row-step (rowBytes n) i t l)) (omega (arith, row-step (rowBytes n) i t l)))
+
+-- the first t slices of the lists v and k have been written from place `at` of l₀ on; the next rows, of b bytes, come from place
+-- `from` of the lists and go to place `to`
+pub record Turned (n b : ℕ) (v k l₀ l : List ℕ) (at t from to : ℕ) : Type 0 where
+  pub bytes : b ≡ rowBytes n
+  pub source : from ≡ rowBytes n * t
+  pub place : to ≡ at + 2 * from
+  pub inside-v : from ≤ length v
+  pub inside-k : from ≤ length k
+  pub long : length l ≡ length l₀
+  pub done : l ≡ sets l₀ at (joined (sliceBytes n v k) t)
+
+pub turned-start : (n b : ℕ) (v k l : List ℕ) (at : ℕ) → b ≡ rowBytes n → Turned n b v k l l at 0 0 at
+unfolding joined
+turned-start n b v k l at e =
+    record { bytes = e; source = omega arith; place = omega arith; inside-v = omega arith; inside-k = omega arith; long = refl; done = refl }
+
+-- a row is lent from place `from` on
+row-lent : (n b : ℕ) (l : List ℕ) (t from : ℕ) → b ≡ rowBytes n → from ≡ rowBytes n * t → take (from + b - from) (drop from l) ≡ listRow n l t
+unfolding listRow
+row-lent n b l t from eb es =
+    let count : from + b - from ≡ rowBytes n = omega arith in
+    ap₂ (λ (c i : ℕ). take c (drop i l)) count es
+
+pub turned-turn : (n b : ℕ) (v k l₀ l l₁ l₂ : List ℕ) (at t from to : ℕ) → Turned n b v k l₀ l at t from to → from + b ≤ length v
+    → from + b ≤ length k
+    → l₁ ≡ sets l to (take (from + b - from) (drop from v))
+    → l₂ ≡ sets l₁ (to + b) (take (from + b - from) (drop from k))
+    → Turned n b v k l₀ l₂ at (t + 1) (from + b) (to + 2 * b)
+unfolding joined sliceBytes
+turned-turn n b v k l₀ l l₁ l₂ at t from to r hv hk e₁ e₂ = record {
+  bytes = r .bytes;
+  source = omega (arith, r .bytes, r .source, mul-add (rowBytes n) t 1, mul-one (rowBytes n));
+  place = omega (arith, r .place);
+  inside-v = hv;
+  inside-k = hk;
+  long =
+      ap length e₂ ∙ length-sets l₁ (to + b) (take (from + b - from) (drop from k)) ∙ ap length e₁
+      ∙ length-sets l to (take (from + b - from) (drop from v)) ∙ r .long;
+  done =
+      let before = joined (sliceBytes n v k) t in
+      let value : take (from + b - from) (drop from v) ≡ listRow n v t = row-lent n b v t from (r .bytes) (r .source) in
+      let mark : take (from + b - from) (drop from k) ≡ listRow n k t = row-lent n b k t from (r .bytes) (r .source) in
+      let seam : at + length before ≡ to =
+      omega (
+        arith,
+        slices-length n v k t (omega (arith, r .source, r .inside-v)) (omega (arith, r .source, r .inside-k)),
+        r .place,
+        r .source,
+        mul-assoc 2 (rowBytes n) t,
+      )
+      in
+      let full : length (listRow n v t) ≡ b = row-length n v t (omega (arith, r .source, r .bytes)) ∙ sym (r .bytes) in
+      e₂
+      ∙ ap₂ (λ (x y : List ℕ). sets x (to + b) y) (e₁ ∙ ap₂ (λ (x y : List ℕ). sets x to y) (r .done) value) mark
+      ∙ sym (sets-parts (listRow n v t) (listRow n k t) (sets l₀ at before) to (to + b) (ap (λ (i : ℕ). to + i) full))
+      ∙ sym (sets-parts before (listRow n v t ++ listRow n k t) l₀ at to seam)
+      ∙ ap (λ (i : ℕ). sets l₀ at (joined (sliceBytes n v k) i)) (sym (add-one t));
+}
+
+pub turned-end : (n b : ℕ) (v k l₀ l : List ℕ) (at t from to s : ℕ) → Turned n b v k l₀ l at t from to → t ≡ s
+    → l ≡ sets l₀ at (joined (sliceBytes n v k) s)
+turned-end n b v k l₀ l at t from to s r e = r .done ∙ ap (λ (i : ℕ). sets l₀ at (joined (sliceBytes n v k) i)) e
+
+-- counts of 2 bytes keep the places small
+pub turned-small : (n b : ℕ) (v k l₀ l : List ℕ) (at t from to : ℕ) → Turned n b v k l₀ l at t from to → b ≤ 8192 → t ≤ 65536 → from ≤ 536870912
+turned-small n b v k l₀ l at t from to r hb ht = omega (arith, r .bytes, r .source, rows-small (rowBytes n) t (omega (arith, r .bytes)) ht)
+
+both-inside : (a b e : ℕ) → (ltb a e || ltb b e) ≡ false → (e ≤ a) × (e ≤ b)
+both-inside a b e h = (ltb-false a e (or-false-left (ltb a e) (ltb b e) h), ltb-false b e (or-false-right (ltb a e) (ltb b e) h))
+
+pub inside-first : (a b e : ℕ) → (ltb a e || ltb b e) ≡ false → e ≤ a
+inside-first a b e h = both-inside a b e h .0
+
+pub inside-second : (a b e : ℕ) → (ltb a e || ltb b e) ≡ false → e ≤ b
+inside-second a b e h = both-inside a b e h .1
+
+-- lists of s rows hold row t
+pub turned-short : (n b : ℕ) (v k l₀ l : List ℕ) (at t from to s : ℕ) → Turned n b v k l₀ l at t from to → t < s
+    → length v ≡ rowBytes n * s → length k ≡ rowBytes n * s
+    → (ltb (length v) (from + b) || ltb (length k) (from + b)) ≡ true → ⊥
+turned-short n b v k l₀ l at t from to s r h ev ek on =
+    let row : from + b ≤ rowBytes n * s = omega (arith, r .bytes, r .source, row-step (rowBytes n) t s h) in
+    let off : (ltb (length v) (from + b) || ltb (length k) (from + b)) ≡ false =
+    or-false (ltb (length v) (from + b)) (ltb (length k) (from + b)) (le-ltb (length v) (from + b) (omega arith)) (le-ltb (length k) (from + b) (omega arith))
+    in
+    let z : _≡_ {A = ℕ} 0 1 = cc in
+    omega arith

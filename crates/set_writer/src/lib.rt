@@ -1,0 +1,95 @@
+// The set file of document 01: its writer. What it writes the reader (`set_file`) and the rows of one slice (`slice_rows`) give
+// back: proofs/RoundTrip. The numbers that it meets are those of its content (`set_content`). Every function is total.
+ghost use mathlib.Core.Path.{_≡_};
+ghost use Prim.Native.Nat.{_*_, _<_};
+ghost use lib.ListN.{length};
+ghost use lib.Seq.{sets};
+ghost use Rattle.word.specs.Reply.{lent};
+ghost use Rattle.numbers.specs.Joined.{joined};
+ghost use Rattle.rows.specs.Row.{rowBytes};
+ghost use Rattle.set_layout.specs.Layout.{rowsAt};
+ghost use Rattle.set_content.specs.Content.{setContent};
+ghost use Rattle.set_writer.specs.Writing.{headBytes, sliceBytes, setBytes, setWriteReply, saidSetWritten};
+
+// What the set writer answers: the length of the file, or the first number that applies.
+pub enum Written {
+    Done { length: usize },
+    Refused { number: u64 },
+}
+
+// The bytes from place `at` of out on; nothing past its end.
+fn write_bytes(out: &mut [u8], at: usize, bytes: &[u8])
+    ensures { λ _. ⌜ now (out .exit) ≡ sets (now (out .entry)) at (now (bytes .entry)) ⌝ }
+{
+    if out.len() <= at {
+        return;
+    }
+    let count = numbers::shorter(bytes.len(), out.len() - at);
+    let mut i = 0;
+    while i < count {
+        out[at + i] = bytes[i];
+        i += 1;
+    }
+}
+
+// What a set file has before its rows; nothing past the end of out.
+fn write_head(out: &mut [u8], m: u64, taps: u64, spread: &[u64], s: u64)
+    requires { ⌜ length (now spread) < 65536 ⌝ }
+    ensures { λ _. ⌜ now (out .exit) ≡ sets (now (out .entry)) 0 (headBytes m taps (now (spread .entry)) s) ⌝ }
+{
+    let n = spread.len();
+    numbers::write_count(out, 0, m);
+    numbers::write_word(out, set_layout::TAPS_AT, taps);
+    numbers::write_count(out, set_layout::CHAINS_AT, n as u64);
+    numbers::write_words(out, set_layout::SPREAD_AT, spread);
+    numbers::write_count(out, set_layout::slices_at(n as u16), s);
+}
+
+// The first s value rows and mark rows of n chains, in turn, where a set of n chains has its rows.
+fn write_slices(out: &mut [u8], n: u16, s: u16, values: &[u8], marks: &[u8])
+    ensures { λ _. ⌜ (length (now (values .entry)) ≡ rowBytes n * s → length (now (marks .entry)) ≡ rowBytes n * s → now (out .exit) ≡ sets (now (out .entry)) (rowsAt n) (joined (sliceBytes n (now (values .entry)) (now (marks .entry))) s)) ⌝ }
+{
+    let bytes = rows::row_bytes(n as usize);
+    let mut to = set_layout::rows_at(n);
+    let mut from = 0;
+    let mut t: u16 = 0;
+    while t < s {
+        let end = from + bytes;
+        if (values.len() < end) | (marks.len() < end) {
+            return;
+        }
+        write_bytes(out, to, &values[from..end]);
+        write_bytes(out, to + bytes, &marks[from..end]);
+        to += 2 * bytes;
+        from = end;
+        t += 1;
+    }
+}
+
+// The set writer: the set file of this content, over the front of the output; the rest of it stays. It meets 2, 3, 4, 6, 7, 8
+// (the length of a list of rows), 9, 10 and 24, in that order, and answers with the length of the file; a refusal writes
+// nothing.
+pub fn write_set(
+    m: u64,
+    taps: u64,
+    spread: &[u64],
+    values: &[u8],
+    marks: &[u8],
+    s: u64,
+    out: &mut [u8],
+) -> Written
+    ensures answer { λ r. ⌜ saidSetWritten r ≡ setWriteReply (setContent m taps (now (spread .entry)) (now (values .entry)) (now (marks .entry)) s) (length (now (out .entry))) ⌝ }
+    ensures file { λ _. ⌜ now (out .exit) ≡ lent (setWriteReply (setContent m taps (now (spread .entry)) (now (values .entry)) (now (marks .entry)) s) (length (now (out .entry)))) (setBytes (setContent m taps (now (spread .entry)) (now (values .entry)) (now (marks .entry)) s)) (now (out .entry)) ⌝ }
+{
+    let number = set_content::write_refusal(m, taps, spread, values, marks, s, out.len());
+    if number != 0 {
+        return Written::Refused { number };
+    }
+    let n = spread.len() as u16;
+    let slices = s as u16;
+    write_head(out, m, taps, spread, s);
+    write_slices(out, n, slices, values, marks);
+    Written::Done {
+        length: set_layout::set_length(n, slices),
+    }
+}
