@@ -1,7 +1,7 @@
 -- Each way out of planning, and what it answers and leaves in the two lent lists. Assumes nothing.
 use mathlib.Core.Path.{_≡_, refl, sym, ap, ap₂, _∙_, subst}
 use mathlib.Core.Bool.{true}
-use mathlib.Core.List.{List, [], _∷_}
+use mathlib.Core.List.{List, [], _∷_, append-assoc}
 use Prim.Native.Nat.{ℕ, zero, suc, _≤_}
 use native.Mathlib.Omega.{arith}
 use lib.Dec.{ltb}
@@ -9,20 +9,26 @@ use lib.ListN.{length, take, drop, length-append}
 use lib.Seq.{take-append-seam, take-all}
 use Rattle.word.specs.Parities.{parities}
 use Rattle.word.specs.Reply.{Test, _when_, Reply, answer, refusal, reply, replied, firstOf, numberOf, front, lent}
-use Rattle.word.proofs.TestLaws.{numbered, first-of-later, first-of-sooner, replied-answer, replied-number, replied-alike}
+use Rattle.word.proofs.TestLaws.{numbered, first-of-later, first-of-sooner, replied-answer, replied-number, replied-not-zero, replied-alike}
 use Rattle.combinations.specs.Combination.{rank, onlyEmpty}
 use Rattle.combinations.specs.Reduced.{reducedList}
 use Rattle.elimination.specs.Elimination.{Counts, eliminationReply, said as eliminated}
 use Rattle.elimination.specs.declared.Eliminated.{Eliminated}
 use Rattle.combinations.proofs.Theorems.{words-and-rank}
 use Rattle.elimination.proofs.Theorems.{later-numbers}
-use Rattle.set_file.specs.Layout.{widthOf}
-use Rattle.set_file.specs.Reading.{setTests}
-use Rattle.set_file.proofs.Laws.{Accepted, accepted-width}
+use Rattle.register.specs.Circuit.{Circuit}
+use Rattle.set_layout.specs.Layout.{widthOf, circuitOf, values, valueRow}
+use Rattle.set_file.specs.declared.Taken.{Taken}
+use Rattle.set_file.proofs.ReadLaws.{TakenFrom}
+use Rattle.signatures.specs.Signature.{signature}
+use Rattle.signing.specs.Signing.{valueCells}
+use Rattle.set_file.specs.Reading.{setTests, takenCircuit}
+use Rattle.set_file.proofs.Laws.{Accepted, accepted, accepted-width}
 use Rattle.signatures.specs.Sets.{columnsOf, unknownsOf, zeroSignature}
-use Rattle.response.specs.Listing.{listTests, listReply}
-use Rattle.response.proofs.SetLaws.{length-columns, columns-of-within}
-use Rattle.planner.specs.Planning.{wordsOf, expectedOf, planTests, PlanParts, partsOf, planReply, columnsAfter, said}
+use Rattle.columns.proofs.CallLaws.{Lists}
+use Rattle.columns.specs.Listing.{listTests, listReply}
+use Rattle.signatures.proofs.SetLaws.{length-columns, columns-of-within, zero-of-values}
+use Rattle.planner.specs.Planning.{wordsOf, expectedOf, earlierTests, planTests, PlanParts, partsOf, planReply, columnsAfter, said}
 use Rattle.planner.specs.declared.Planned.{Planned}
 use Rattle.planner.specs.declared.Planned.the-variants.{Plan, Refused}
 
@@ -31,14 +37,6 @@ abbrev pub Ends : List ℕ → List ℕ → List ℕ → Planned → List ℕ �
 Ends set cs ws p cs′ ws′ =
     (said p ≡ planReply set (length cs) (length ws))
     × ((cs′ ≡ columnsAfter set cs) × (ws′ ≡ lent (planReply set (length cs) (length ws)) (wordsOf set) ws))
-
--- what listing the columns answers, and leaves in the column list
-abbrev pub Listed : List ℕ → List ℕ → Reply ℕ → List ℕ → Type 0
-Listed set cs r cs′ = (r ≡ listReply set (length cs)) × (cs′ ≡ lent (listReply set (length cs)) (columnsOf set) cs)
-
-replied-not-zero : {A : Type 0} (n : ℕ) (a : A) (k : ℕ) → replied n a ≡ refusal k → k ≡ 0 → ⊥
-replied-not-zero zero a k h z = let c : _≡_ {A = ℕ} 0 1 = cc in omega arith
-replied-not-zero (suc n) a k h z = let same : suc n ≡ k = cc in omega arith
 
 refusing : {A : Type 0} (n k : ℕ) (a : A) → n ≡ k → (k ≡ 0 → ⊥) → replied n a ≡ refusal k
 refusing n zero a e z = absurd (z refl)
@@ -60,21 +58,29 @@ parts {w = w} {q = q} {k = k} {y = y} a b c =
 pub answered : (e : Eliminated) (r q : ℕ) → e ≡ Eliminated.Done r q → answer (record { rank = r; q = q }) ≡ eliminated e
 answered e r q h = sym (ap eliminated h)
 
-pub expected-from : (l : List ℕ) (y z z′ : ℕ) → y ≡ parities l z → z ≡ z′ → y ≡ parities l z′
-expected-from l y z z′ h e = h ∙ ap (parities l) e
+-- the signature of a taken set's value rows is that for all unknowns 0
+pub zero-taken : (set : List ℕ) (k : Taken) (l : List ℕ) (y z : ℕ) → TakenFrom set k → z ≡ signature (takenCircuit k) (valueCells (k .n) set) (k .s)
+    → y ≡ parities l z → y ≡ parities l (zeroSignature set)
+unfolding valueRow
+zero-taken set k l y z taken e ey =
+    ey
+    ∙ ap (parities l)
+    (e ∙ ap₂ (λ (x : Circuit) (n : ℕ). signature x (valueCells n set) (k .s)) (taken .circuit) (taken .chains)
+    ∙ ap (signature (circuitOf set) (values set)) (taken .slices) ∙ sym (zero-of-values set (accepted set (taken .none))))
 
 pub told : (e : Eliminated) (n k : ℕ) → e ≡ Eliminated.Refused n → k ≡ numberOf (eliminated e) → refusal k ≡ eliminated e
 told e n k r h = ap refusal (h ∙ ap (λ (x : Eliminated). numberOf (eliminated x)) r) ∙ sym (ap eliminated r)
 
 -- ---- the set is refused, or 14
 
-pub ends-unlisted : (set cs ws : List ℕ) (k : ℕ) → Listed set cs (refusal k) cs → Ends set cs ws (Refused k) cs ws
-unfolding planReply planTests columnsAfter listReply
+pub ends-unlisted : (set cs ws : List ℕ) (k : ℕ) → Lists set cs (refusal k) cs → Ends set cs ws (Refused k) cs ws
+unfolding planReply planTests earlierTests columnsAfter listReply
 ends-unlisted set cs ws k l =
     let number : firstOf (listTests set (length cs)) ≡ k = replied-number (firstOf (listTests set (length cs))) (unknownsOf set) k (sym (l .0)) in
     let some : k ≡ 0 → ⊥ = replied-not-zero (firstOf (listTests set (length cs))) (unknownsOf set) k (sym (l .0)) in
     ends-refused set cs ws cs k
-    (refusing _ k (partsOf set) (first-of-sooner (listTests set (length cs)) _ (λ z. some (sym number ∙ z)) ∙ number) some)
+    (refusing _ k (partsOf set) (ap firstOf (append-assoc (listTests set (length cs)) (16 when ltb (widthOf set) (rank (columnsOf set)) ∷ []) _)
+    ∙ first-of-sooner (listTests set (length cs)) _ (λ z. some (sym number ∙ z)) ∙ number) some)
     (l .1)
 
 -- ---- past 14
@@ -90,15 +96,16 @@ later set l =
     ∷ 18 when ltb l (length (wordsOf set))
     ∷ []
 
-module _ (set cs cs′ ws : List ℕ) (a : Accepted set) (u : ℕ) (l : Listed set cs (answer u) cs′) where
+module _ (set cs cs′ ws : List ℕ) (a : Accepted set) (u : ℕ) (l : Lists set cs (answer u) cs′) where
   plan-later : firstOf (planTests set (length cs) (length ws)) ≡ firstOf (later set (length ws))
-  unfolding planTests listReply
+  unfolding planTests earlierTests listReply
   plan-later =
-      first-of-later (listTests set (length cs)) _ (list-numbered set (length cs))
+      ap firstOf (append-assoc (listTests set (length cs)) (16 when ltb (widthOf set) (rank (columnsOf set)) ∷ []) _)
+      ∙ first-of-later (listTests set (length cs)) _ (list-numbered set (length cs))
       (replied-answer (firstOf (listTests set (length cs))) (unknownsOf set) u (sym (l .0)) .0)
 
   elimination-later : eliminationReply (widthOf set) (columnsOf set) (length ws) ≡ reply (later set (length ws)) (counted set)
-  unfolding wordsOf counted
+  unfolding wordsOf columnsOf counted
   elimination-later = later-numbers (widthOf set) (columnsOf set) (length ws) (a .width) (columns-of-within set a)
 
   unknown-count : u ≡ unknownsOf set
@@ -123,7 +130,7 @@ module _ (set cs cs′ ws : List ℕ) (a : Accepted set) (u : ℕ) (l : Listed s
     reply-of = ap₂ (λ (x : ℕ) (y : List ℕ). eliminationReply x y (length ws)) em listed-columns ∙ elimination-later
 
     words-of : reducedList m (take u cs′) ≡ wordsOf set
-    unfolding wordsOf
+    unfolding wordsOf columnsOf
     words-of = ap₂ reducedList em listed-columns
 
     pub ends-unplanned : (k : ℕ) (ws′ : List ℕ) → refusal k ≡ eliminationReply m (take u cs′) (length ws)
@@ -145,7 +152,7 @@ module _ (set cs cs′ ws : List ℕ) (a : Accepted set) (u : ℕ) (l : Listed s
           replied-answer (firstOf (later set (length ws))) (counted set) (record { rank = r; q = q }) (sym (h ∙ reply-of))
 
       planned-count : q ≡ length (wordsOf set)
-      unfolding wordsOf counted
+      unfolding wordsOf columnsOf counted
       planned-count = ap (λ (x : Counts). x .q) (planned-both .1)
 
       planned-words : ws′ ≡ front (wordsOf set) ws
@@ -159,7 +166,7 @@ module _ (set cs cs′ ws : List ℕ) (a : Accepted set) (u : ℕ) (l : Listed s
           omega (arith, planned-count, ap length planned-words, length-append (wordsOf set) (drop (length (wordsOf set)) ws))
 
       planned-few : length (wordsOf set) ≤ 64
-      unfolding wordsOf
+      unfolding wordsOf columnsOf
       planned-few = omega (arith, words-and-rank (widthOf set) (columnsOf set) (columns-of-within set a), accepted-width set a .1)
 
       planned-taken : take 64 (take q ws′) ≡ wordsOf set

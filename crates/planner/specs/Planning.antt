@@ -2,8 +2,11 @@
 -- word, bit i for word i"; "planning that gets past 14 has filled the front of its column list with the columns, whether or not
 -- 16, 17 or 18 follows"; "The expected bit of a word is the parity of the bits it shares with the signature for all unknowns 0."
 --
---   wordsOf set             document 01: the plan's words, the reduced list for the set's columns
+--   wordsFor g              document 01: the plan's words, the reduced list for the columns of what is given
+--   wordsOf set             .. of a set
 --   expectedOf set          the expected bits as one word
+--   earlierTests set k      the numbers that planning meets before 17, in order, for k column places. Document 01: "an earlier number
+--                           is one that stands before 17 in that call"
 --   planTests set k l       the numbers that planning meets, in order, for k column places and l word places
 --   PlanParts               what planning answers
 --   planReply set k l       its reply
@@ -17,24 +20,31 @@ use Rattle.word.specs.Parities.{parities}
 use Rattle.word.specs.Reply.{Test, _when_, Reply, answer, refusal, reply, lent}
 use Rattle.combinations.specs.Combination.{rank, onlyEmpty}
 use Rattle.combinations.specs.Reduced.{reducedList}
-use Rattle.set_file.specs.Layout.{widthOf}
-use Rattle.signatures.specs.Sets.{columnsOf, zeroSignature}
-use Rattle.response.specs.Listing.{listTests, listReply}
+use Rattle.set_layout.specs.Layout.{widthOf}
+use Rattle.signatures.specs.Given.{Given, columnsFor}
+use Rattle.signatures.specs.Sets.{given, columnsOf, zeroSignature}
+use Rattle.columns.specs.Listing.{listTests, listReply}
 use Rattle.planner.specs.declared.Planned.{Planned}
 use Rattle.planner.specs.declared.Planned.the-variants.{Plan, Refused}
 
+abbrev pub wordsFor : Given → List ℕ
+wordsFor g = reducedList (g .wiring .width) (columnsFor g)
+
 unfoldable pub wordsOf : List ℕ → List ℕ
-wordsOf set = reducedList (widthOf set) (columnsOf set)
+wordsOf set = wordsFor (given set)
 
 unfoldable pub expectedOf : List ℕ → ℕ
 expectedOf set = parities (wordsOf set) (zeroSignature set)
 
--- the set's 1 to 10, then 14, 16, 17 and 18
+-- the set's 1 to 10, then 14 and 16
+unfoldable pub earlierTests : List ℕ → ℕ → List Test
+earlierTests set k = listTests set k ++ 16 when ltb (widthOf set) (rank (columnsOf set)) ∷ []
+
+-- .. then 17 and 18
 unfoldable pub planTests : List ℕ → ℕ → ℕ → List Test
 planTests set k l =
-    listTests set k
-    ++ 16 when ltb (widthOf set) (rank (columnsOf set))
-    ∷ 17 when onlyEmpty (widthOf set) (columnsOf set)
+    earlierTests set k
+    ++ 17 when onlyEmpty (widthOf set) (columnsOf set)
     ∷ 18 when ltb l (length (wordsOf set))
     ∷ []
 

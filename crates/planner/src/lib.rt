@@ -1,10 +1,11 @@
-// Planning: the words and the expected bits of a set.
+// Planning: the words and the expected bits of a set. It sees the columns, the elimination and the signature for all unknowns 0.
 ghost use mathlib.Core.Path.{_≡_};
 ghost use lib.ListN.{length};
 ghost use Rattle.word.specs.Reply.{lent, numberOf};
 ghost use Rattle.planner.specs.Planning.{wordsOf, planReply, columnsAfter, said};
 use elimination::Eliminated;
 use set_file::SetAnswer;
+use set_file::Taken;
 
 // What planning answers: m, q and the expected bits as one word, or the first number that applies.
 pub enum Planned {
@@ -21,25 +22,33 @@ pub fn plan(set: &[u8], columns: &mut [u64], words: &mut [u64]) -> Planned
 {
     let read = set_file::read_set(set);
     let answer = read.answer;
-    let SetAnswer::Read { m, taps, n, s } = answer else {
+    let SetAnswer::Read { register, n, s } = answer else {
         return Planned::Refused {
             number: set_file::number_of(answer),
         };
     };
-    let unknowns = response::count_unknowns(set, n, s);
+    let marks = set_layout::mark_rows(n);
+    let unknowns = marked_words::count_marks(set, marks, s);
     if (columns.len() as u64) < unknowns {
         return Planned::Refused { number: 14 };
     }
     let spread = read.spread;
+    let taken = Taken {
+        register,
+        n,
+        s,
+        spread,
+    };
     let end = unknowns as usize;
-    response::fill_columns(set, m, taps, spread, n, s, &mut columns[..end]);
+    columns::fill_columns(taken, set, marks, &mut columns[..end]);
+    let m = register.m;
     let eliminated = elimination::eliminate(m, &columns[..end], words);
     let Eliminated::Done { rank: _, q } = eliminated else {
         return Planned::Refused {
             number: elimination::number_of(eliminated),
         };
     };
-    let zero = response::zero_signature(set, m, taps, spread, n, s);
+    let zero = signing::zero_signature(taken, set);
     let count = q as usize;
     Planned::Plan {
         m,
