@@ -16,7 +16,7 @@ use mathlib.Core.List.{List}
 use Prim.Native.Nat.{ℕ}
 use Rattle.word.specs.Reply.{Reply, answer, refusal}
 use Rattle.set_file.specs.Reading.{SetParts}
-use Rattle.set_file.specs.Rows.{Stretch}
+use Rattle.slice_rows.specs.Rows.{Stretch}
 use Rattle.elimination.specs.Elimination.{Counts}
 use Rattle.planner.specs.Planning.{PlanParts}
 use Rattle.plan_file.specs.Checking.{PlanFileParts}

@@ -7,17 +7,18 @@ ghost use Rattle.combinations.specs.Reduced.{reducedList};
 ghost use Rattle.elimination.specs.Elimination.{eliminationReply, said as saidEliminated};
 ghost use Rattle.register.specs.Clock.{clockReply, said as saidClocked};
 ghost use Rattle.set_file.specs.Reading.{setReply, spreadBeside, said as saidSet};
-ghost use Rattle.set_file.specs.Rows.{valueReply, markReply, saidPlace};
-ghost use Rattle.set_file.specs.Writing.{contentOf as setContent, writeReply as setWriteReply, setBytes, saidWritten as saidSetWritten};
+ghost use Rattle.slice_rows.specs.Rows.{valueReply, markReply, saidPlace};
+ghost use Rattle.set_writer.specs.Writing.{contentOf as setContent, writeReply as setWriteReply, setBytes, saidWritten as saidSetWritten};
 ghost use Rattle.signatures.specs.Sets.{columnsOf};
-ghost use Rattle.response.specs.Signing.{signReply, saidSigned};
-ghost use Rattle.response.specs.Listing.{listReply, saidListed};
+ghost use Rattle.signing.specs.Signing.{signReply, saidSigned};
+ghost use Rattle.columns.specs.Listing.{listReply, saidListed};
 ghost use Rattle.plan_file.specs.Layout.{fileWords};
 ghost use Rattle.plan_file.specs.Reading.{planFileReply, said as saidRead};
 ghost use Rattle.plan_writer.specs.Writing.{planContent, planBytes, planWriteReply, said as saidPlanWritten};
 ghost use Rattle.planner.specs.Planning.{wordsOf, planReply, columnsAfter, said as saidPlanned};
 ghost use Rattle.judge.specs.Verdict.{judgeReply, said as saidJudged};
 ghost use Rattle.canceller.specs.Boundary.{setOf, stretchOf, writtenOf, registerOf, clockedOf, signedOf, listedOf, eliminatedOf, plannedOf, readOf, judgedOf};
+use columns::Listed;
 use elimination::Eliminated;
 use judge::Judged;
 use plan_file::PlanAnswer;
@@ -25,11 +26,10 @@ use planner::Planned;
 use register::Clocked;
 use register::Clocking;
 use register::Register;
-use response::Listed;
-use response::Signed;
-use set_file::Place;
 use set_file::SetAnswer;
 use set_file::SetRead;
+use signing::Signed;
+use slice_rows::Place;
 
 #[repr(C)]
 pub struct CSet {
@@ -151,7 +151,7 @@ fn stretch_of(place: Place) -> CStretch
 pub extern "C" fn canceller_value_row(set: &[u8], slice: u64) -> CStretch
     ensures { λ r. ⌜ r ≡ stretchOf (valueReply (now (set .entry)) slice) ⌝ }
 {
-    stretch_of(set_file::value_place(set, slice))
+    stretch_of(slice_rows::value_place(set, slice))
 }
 
 // Where a slice's row of unknown marks stands in the set. Meets 1 to 11.
@@ -159,18 +159,18 @@ pub extern "C" fn canceller_value_row(set: &[u8], slice: u64) -> CStretch
 pub extern "C" fn canceller_mark_row(set: &[u8], slice: u64) -> CStretch
     ensures { λ r. ⌜ r ≡ stretchOf (markReply (now (set .entry)) slice) ⌝ }
 {
-    stretch_of(set_file::mark_place(set, slice))
+    stretch_of(slice_rows::mark_place(set, slice))
 }
 
-fn set_written_of(written: set_file::Written) -> CWritten
+fn set_written_of(written: set_writer::Written) -> CWritten
     ensures { λ r. ⌜ r ≡ writtenOf (saidSetWritten written) ⌝ }
 {
     match written {
-        set_file::Written::Done { length } => CWritten {
+        set_writer::Written::Done { length } => CWritten {
             refusal: 0,
             length: length as u64,
         },
-        set_file::Written::Refused { number } => CWritten {
+        set_writer::Written::Refused { number } => CWritten {
             refusal: number,
             length: 0,
         },
@@ -191,7 +191,7 @@ pub extern "C" fn canceller_write_set(
     ensures answer { λ r. ⌜ r ≡ writtenOf (setWriteReply (setContent m taps (now (spread .entry)) (now (values .entry)) (now (marks .entry)) s) (length (now (out .entry)))) ⌝ }
     ensures file { λ _. ⌜ now (out .exit) ≡ lent (setWriteReply (setContent m taps (now (spread .entry)) (now (values .entry)) (now (marks .entry)) s) (length (now (out .entry)))) (setBytes (setContent m taps (now (spread .entry)) (now (values .entry)) (now (marks .entry)) s)) (now (out .entry)) ⌝ }
 {
-    set_written_of(set_file::write_set(m, taps, spread, values, marks, s, out))
+    set_written_of(set_writer::write_set(m, taps, spread, values, marks, s, out))
 }
 
 fn clocked_of(clocked: Clocked, state: u64) -> CClocked
@@ -246,7 +246,7 @@ fn signed_of(signed: Signed) -> CSigned
 pub extern "C" fn canceller_sign(set: &[u8], record: &[u8]) -> CSigned
     ensures { λ r. ⌜ r ≡ signedOf (signReply (now (set .entry)) (now («record» .entry))) ⌝ }
 {
-    signed_of(response::sign_record(set, record))
+    signed_of(signing::sign_record(set, record))
 }
 
 fn listed_of(listed: Listed) -> CListed
@@ -270,7 +270,7 @@ pub extern "C" fn canceller_list_columns(set: &[u8], columns: &mut [u64]) -> CLi
     ensures answer { λ r. ⌜ r ≡ listedOf (listReply (now (set .entry)) (length (now (columns .entry)))) ⌝ }
     ensures list { λ _. ⌜ now (columns .exit) ≡ lent (listReply (now (set .entry)) (length (now (columns .entry)))) (columnsOf (now (set .entry))) (now (columns .entry)) ⌝ }
 {
-    listed_of(response::list_columns(set, columns))
+    listed_of(columns::list_columns(set, columns))
 }
 
 fn eliminated_of(eliminated: Eliminated) -> CEliminated

@@ -15,14 +15,14 @@ use Rattle.register.specs.Circuit.{chains}
 use Rattle.register.proofs.Laws.{good-taps}
 use Rattle.chains.proofs.Laws.{good-spread}
 use Rattle.rows.proofs.CellLaws.{cell-lt}
-use Rattle.set_file.specs.Layout.{widthOf, tapsOf, spreadOf, circuitOf, chainsOf, slicesOf, marks, values}
+use Rattle.set_layout.specs.Layout.{widthOf, tapsOf, spreadOf, circuitOf, chainsOf, slicesOf, marks, values}
 use Rattle.rows.specs.Lists.{listRow}
 use Rattle.set_file.proofs.Laws.{Accepted, spread-length}
 use Rattle.signatures.specs.Signature.{Response, signature}
 use Rattle.signatures.specs.Sets.{columnsOf, zeroSignature, recordCells}
 use Rattle.signatures.proofs.SignatureLaws.{signature-lt}
 use Rattle.signatures.proofs.FillingLaws.{filling-differs, filling-of, alike-differ}
-use Rattle.response.proofs.SetLaws.{columns-of-within}
+use Rattle.signatures.proofs.SetLaws.{columns-of-within}
 use Rattle.planner.specs.Planning.{wordsOf, expectedOf}
 use Rattle.guarantee.specs.Demand.{Known, Explained, Alike}
 

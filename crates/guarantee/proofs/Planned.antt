@@ -15,12 +15,12 @@ use Rattle.word.proofs.Laws.{parities-lt}
 use Rattle.word.proofs.TestLaws.{none-and-rest, first-of-later, first-of-sooner, first-of-none, replied-answer, replied-number}
 use Rattle.combinations.specs.Combination.{rank, onlyEmpty}
 use Rattle.combinations.proofs.Theorems.{words-and-rank, reduced-list-reduced, only-empty-list}
-use Rattle.set_file.specs.Layout.{widthOf}
+use Rattle.set_layout.specs.Layout.{widthOf}
 use Rattle.set_file.specs.Reading.{setTests}
 use Rattle.set_file.proofs.Laws.{Accepted, accepted, accepted-width}
 use Rattle.signatures.specs.Sets.{columnsOf, zeroSignature}
-use Rattle.response.specs.Listing.{listTests}
-use Rattle.response.proofs.SetLaws.{columns-of-within}
+use Rattle.columns.specs.Listing.{listTests}
+use Rattle.signatures.proofs.SetLaws.{columns-of-within}
 use Rattle.planner.specs.Planning.{wordsOf, expectedOf, planTests, PlanParts, partsOf, planReply}
 use Rattle.planner.proofs.CallLaws.{list-numbered}
 use Rattle.plan_writer.specs.Writing.{planContent, planBytes}

@@ -37,14 +37,14 @@ use Rattle.word.proofs.Laws.{parities-lt, parities-digit}
 use Rattle.word.proofs.TestLaws.{first-of-none, replied-answer}
 use Rattle.combinations.specs.Combination.{xFree, rank}
 use Rattle.combinations.proofs.Theorems.{words-and-rank, x-free-listed, only-empty-explains, explains-only-empty}
-use Rattle.set_file.specs.Layout.{widthOf, chainsOf, slicesOf, circuitOf}
+use Rattle.set_layout.specs.Layout.{widthOf, chainsOf, slicesOf, circuitOf}
 use Rattle.set_file.specs.Reading.{setTests}
 use Rattle.set_file.proofs.Laws.{Accepted, accepted}
 use Rattle.signatures.specs.Signature.{signature}
 use Rattle.signatures.specs.Sets.{columnsOf, zeroSignature, recordCells}
-use Rattle.response.specs.Signing.{signTests, signReply}
-use Rattle.response.specs.Listing.{listTests}
-use Rattle.response.proofs.SetLaws.{columns-of-within}
+use Rattle.signing.specs.Signing.{signTests, signReply}
+use Rattle.columns.specs.Listing.{listTests}
+use Rattle.signatures.proofs.SetLaws.{columns-of-within}
 use Rattle.planner.specs.Planning.{wordsOf, expectedOf, PlanParts, partsOf, planReply}
 use Rattle.plan_file.specs.Layout.{planLength, fileWords}
 use Rattle.plan_file.specs.Reading.{planFileReply}

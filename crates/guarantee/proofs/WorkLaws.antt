@@ -8,8 +8,8 @@ use lib.Seq.{take-at}
 use Rattle.word.specs.Parities.{parities}
 use Rattle.word.specs.Reply.{Reply, answer, refusal, firstOf, front, lent, numberOf}
 use Rattle.word.proofs.TestLaws.{replied-answer}
-use Rattle.response.specs.Signing.{signReply, saidSigned}
-use Rattle.response.specs.declared.Signed.{Signed}
+use Rattle.signing.specs.Signing.{signReply, saidSigned}
+use Rattle.signing.specs.declared.Signed.{Signed}
 use Rattle.planner.specs.Planning.{wordsOf, expectedOf, PlanParts, partsOf, planReply, columnsAfter, said as saidPlanned}
 use Rattle.planner.specs.declared.Planned.{Planned}
 use Rattle.planner.proofs.CallLaws.{Ends}

@@ -14,7 +14,7 @@ use mathlib.Core.List.{List}
 use Prim.Native.Nat.{ℕ}
 use lib.ListN.{length}
 use Rattle.word.specs.Reply.{Reply, answer, refusal, lent}
-use Rattle.response.specs.Signing.{signReply}
+use Rattle.signing.specs.Signing.{signReply}
 use Rattle.planner.specs.Planning.{partsOf, wordsOf, planReply}
 use Rattle.plan_writer.specs.Writing.{planContent, planWriteReply}
 use Rattle.judge.specs.Verdict.{Finding, judgeReply}

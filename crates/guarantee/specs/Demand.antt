@@ -14,7 +14,7 @@ use mathlib.Core.List.{List}
 use Prim.Native.Nat.{ℕ, _<_}
 use lib.ListN.{length, getD}
 use Rattle.word.specs.Word.{parity}
-use Rattle.set_file.specs.Layout.{circuitOf, chainsOf, slicesOf, values, marks}
+use Rattle.set_layout.specs.Layout.{circuitOf, chainsOf, slicesOf, values, marks}
 use Rattle.signatures.specs.Signature.{Response, signature}
 use Rattle.signatures.specs.Sets.{recordCells, zeroSignature}
 use Rattle.planner.specs.Planning.{PlanParts, wordsOf}

@@ -3,7 +3,7 @@ ghost use mathlib.Core.Path.{_≡_};
 ghost use Prim.Native.Nat.{ℕ};
 ghost use lib.ListN.{length};
 ghost use Rattle.word.specs.Reply.{answer, numberOf, lent};
-ghost use Rattle.response.specs.Signing.{signReply, saidSigned};
+ghost use Rattle.signing.specs.Signing.{signReply, saidSigned};
 ghost use Rattle.planner.specs.Planning.{wordsOf, planReply, columnsAfter};
 ghost use Rattle.plan_writer.specs.Writing.{said as saidWritten};
 ghost use Rattle.judge.specs.Verdict.{said};
@@ -12,7 +12,7 @@ ghost use Rattle.guarantee.specs.AtWork.{madeReply, fileAfter, signedRep
 use judge::Judged;
 use plan_writer::Written;
 use planner::Planned;
-use response::Signed;
+use signing::Signed;
 
 // What two records get from one plan.
 pub struct Pair {
@@ -62,7 +62,7 @@ fn make_plan(set: &[u8], columns: &mut [u64], words: &mut [u64], file: &mut [u8]
 fn judge_signed(set: &[u8], response: &[u8], plan: &[u8]) -> Judged
     ensures { λ r. ⌜ said r ≡ signedReply (now (set .entry)) (now (response .entry)) (now (plan .entry)) ⌝ }
 {
-    let signed = response::sign_record(set, response);
+    let signed = signing::sign_record(set, response);
     let Signed::Signature { signature } = signed else {
         return Judged::Refused {
             number: signing_number(signed),

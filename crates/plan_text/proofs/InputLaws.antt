@@ -26,10 +26,10 @@ use Rattle.word.proofs.TestLaws.{first-of-sooner}
 use Rattle.rows.specs.Row.{rowBytes}
 use Rattle.register.specs.Circuit.{badTaps, badChains}
 use Rattle.chains.specs.Driven.{badSpread}
-use Rattle.set_file.specs.Layout.{spreadAt, slicesAt, rowsAt, setLength, widthOf, tapsOf, chainsOf, spreadOf, slicesOf}
+use Rattle.set_layout.specs.Layout.{spreadAt, slicesAt, rowsAt, setLength, widthOf, tapsOf, chainsOf, spreadOf, slicesOf}
 use Rattle.set_file.specs.Reading.{badSlices, setTests}
 use Rattle.set_file.proofs.Laws.{Accepted, accepted, accepted-chains}
-use Rattle.response.specs.Listing.{listTests}
+use Rattle.columns.specs.Listing.{listTests}
 use Rattle.planner.specs.Planning.{PlanParts, planTests, partsOf, planReply}
 use Rattle.plan_text.specs.PlanText.{refusedLine, textOf, planText}
 

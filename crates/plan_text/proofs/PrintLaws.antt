@@ -9,15 +9,15 @@ use lib.Seq.{take-append-seam}
 use Rattle.word.specs.Reply.{Reply, answer, refusal, replied, firstOf, numberOf, front, lent}
 use Rattle.word.proofs.TestLaws.{first-of-none, replied-answer}
 use Rattle.combinations.proofs.Theorems.{words-and-rank}
-use Rattle.set_file.specs.Layout.{widthOf, chainsOf, slicesOf}
+use Rattle.set_layout.specs.Layout.{widthOf, chainsOf, slicesOf}
 use Rattle.set_file.specs.Reading.{setTests, setReply, said as setSaid}
 use Rattle.set_file.specs.declared.SetAnswer.{SetAnswer}
 use Rattle.set_file.specs.declared.SetAnswer.the-variants.{Read}
 use Rattle.set_file.proofs.Laws.{Accepted, accepted, accepted-width}
 use Rattle.signatures.specs.Sets.{columnsOf, unknownsOf}
-use Rattle.response.specs.Listing.{listTests}
+use Rattle.columns.specs.Listing.{listTests}
 use Rattle.response.specs.Code.{marksBelow}
-use Rattle.response.proofs.SetLaws.{columns-of-within, read-width, read-chains, read-slices, read-unknowns}
+use Rattle.signatures.proofs.SetLaws.{columns-of-within, read-width, read-chains, read-slices, read-unknowns}
 use Rattle.planner.specs.Planning.{PlanParts, wordsOf, planTests, partsOf, planReply, columnsAfter, said}
 use Rattle.planner.specs.declared.Planned.{Planned}
 use Rattle.planner.specs.declared.Planned.the-variants.{Plan, Refused}

@@ -15,13 +15,13 @@ use Rattle.combinations.specs.Reduced.{reducedList, wordsBelow, independent, ma
 use Rattle.rows.specs.Row.{spareSet}
 use Rattle.register.specs.Circuit.{advanced, clocked, badTaps, badChains}
 use Rattle.chains.specs.Driven.{driven, badSpread}
-use Rattle.set_file.specs.Layout.{valueRow, markRow}
+use Rattle.set_layout.specs.Layout.{valueRow, markRow}
 use Rattle.set_file.specs.Reading.{badSlices, spareInRows, valuedUnknown, setTests}
 use Rattle.signatures.specs.Signature.{runs, column}
 use Rattle.signatures.specs.Columns.{sliceColumns, columnsBelow}
 use Rattle.signatures.specs.Sets.{columnsOf, unknownsOf, zeroSignature}
 use Rattle.rows.specs.Marks.{total}
-use Rattle.response.specs.Listing.{listTests}
+use Rattle.columns.specs.Listing.{listTests}
 use Rattle.planner.specs.Planning.{wordsOf, expectedOf, planTests, planReply}
 use Rattle.text.specs.Text.{digitsIn, decimal}
 use Rattle.plan_text.specs.PlanText.{setLine, wordLine, wordLines, endLine, refusedLine, planText}

@@ -13,7 +13,7 @@ use mathlib.Core.List.{List, [], _∷_, _++_}
 use Prim.Native.Nat.{ℕ, suc}
 use Rattle.word.specs.Word.{digit}
 use Rattle.word.specs.Reply.{Reply, answer, refusal}
-use Rattle.set_file.specs.Layout.{widthOf, chainsOf, slicesOf}
+use Rattle.set_layout.specs.Layout.{widthOf, chainsOf, slicesOf}
 use Rattle.signatures.specs.Sets.{unknownsOf}
 use Rattle.planner.specs.Planning.{PlanParts, wordsOf, planReply}
 use Rattle.text.specs.Text.{decimal}

@@ -3,10 +3,10 @@ ghost use mathlib.Core.Path.{_≡_};
 ghost use lib.ListN.{length};
 use crate::OUT;
 use crate::number;
-use response::Listed;
-use response::Signed;
-use set_file::Place;
+use columns::Listed;
 use set_file::SetAnswer;
+use signing::Signed;
+use slice_rows::Place;
 
 // The sample: m 3, taps 3; spread words 1 and 4; slice 0 values 01, marks 02; slice 1 values 01, marks 00.
 pub fn sample() -> [u8; 34] {
@@ -128,7 +128,7 @@ pub fn sign(set: &[u8], record: &[u8]) {
     io::write_all(OUT, b"sign of");
     number(record.len() as u64);
     io::write_all(OUT, b" bytes");
-    let signed = response::sign_record(set, record);
+    let signed = signing::sign_record(set, record);
     match signed {
         Signed::Signature { signature } => {
             io::write_all(OUT, b":");
@@ -146,7 +146,7 @@ pub fn sign(set: &[u8], record: &[u8]) {
 pub fn columns(set: &[u8]) {
     let mut list = [9u64; 1];
     io::write_all(OUT, b"columns");
-    let listed = response::list_columns(set, &mut list);
+    let listed = columns::list_columns(set, &mut list);
     match listed {
         Listed::Count { unknowns } => {
             io::write_all(OUT, b":");
@@ -175,11 +175,11 @@ pub fn rows(set: &[u8], t: u64) {
     io::write_all(OUT, b"rows of slice");
     number(t);
     io::write_all(OUT, b":");
-    let values = set_file::value_row(set, t);
-    let marks = set_file::mark_row(set, t);
+    let values = slice_rows::value_row(set, t);
+    let marks = slice_rows::mark_row(set, t);
     bytes(values);
     bytes(marks);
-    let place = set_file::value_place(set, t);
+    let place = slice_rows::value_place(set, t);
     if let Place::Declined { number: k } = place {
         io::write_all(OUT, b" refused");
         number(k);

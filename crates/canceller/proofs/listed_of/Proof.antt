@@ -1,5 +1,5 @@
 use mathlib.Core.Path.{sym, ap}
-use Rattle.response.specs.Listing.{saidListed}
+use Rattle.columns.specs.Listing.{saidListed}
 use Rattle.canceller.specs.Boundary.{listedOf}
 use borrow.Author.Needs.{needs}
 use Rattle.canceller.proofs.listed_of.Statement.{statement}

@@ -1,5 +1,5 @@
 use mathlib.Core.Path.{sym, ap}
-use Rattle.set_file.specs.Writing.{saidWritten}
+use Rattle.set_writer.specs.Writing.{saidWritten}
 use Rattle.canceller.specs.Boundary.{writtenOf}
 use borrow.Author.Needs.{needs}
 use Rattle.canceller.proofs.set_written_of.Statement.{statement}

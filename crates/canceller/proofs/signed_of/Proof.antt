@@ -1,5 +1,5 @@
 use mathlib.Core.Path.{sym, ap}
-use Rattle.response.specs.Signing.{saidSigned}
+use Rattle.signing.specs.Signing.{saidSigned}
 use Rattle.canceller.specs.Boundary.{signedOf}
 use borrow.Author.Needs.{needs}
 use Rattle.canceller.proofs.signed_of.Statement.{statement}

@@ -1,5 +1,5 @@
 use mathlib.Core.Path.{sym, ap}
-use Rattle.set_file.specs.Rows.{saidPlace}
+use Rattle.slice_rows.specs.Rows.{saidPlace}
 use Rattle.canceller.specs.Boundary.{stretchOf}
 use borrow.Author.Needs.{needs}
 use Rattle.canceller.proofs.stretch_of.Statement.{statement}
