@@ -5,7 +5,7 @@ use Rattle.numbers.specs.Joined.{joined}
 use Rattle.set_writer.specs.Writing.{sliceBytes}
 use lib.Seq.{sets}
 use native.Mathlib.Omega.{arith}
-use Prim.Native.Nat.{ℕ, _+_, _*_, _≤_, _-_}
+use Prim.Native.Nat.{ℕ, _+_, _≤_, _-_}
 use lib.ListN.{length}
 use mathlib.Core.Path.{ap, _∙_}
 use Rattle.set_writer.proofs.write_slices.Statement.{statement}
