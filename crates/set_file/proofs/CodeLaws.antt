@@ -11,7 +11,7 @@ use lib.Dec.{eqb}
 use lib.ListN.{length, getD, take, drop, length-drop}
 use lib.Seq.{take-all}
 use Rattle.word.specs.Some.{anyBelow}
-use Rattle.rows.specs.Row.{rowBytes, spareSet}
+use Rattle.rows.specs.Row.{rowBytes}
 use Rattle.chains.specs.Driven.{badSpread}
 use Rattle.chains.proofs.Laws.{bad-spread-turn, bad-spread-ended}
 use Rattle.set_layout.specs.Layout.{spreadAt, rowsAt, setLength, widthOf, chainsOf, spreadOf, slicesOf, valueAt, markAt, valueRow, markRow}

@@ -1,6 +1,6 @@
 -- The laws that the crates above cite: what an accepted set knows, and what the reader's reply says of its set. A set is
 -- accepted where none of the numbers 1 to 10 applies to it. Assumes nothing.
-use mathlib.Core.Path.{_≡_, refl, sym, ap, _∙_}
+use mathlib.Core.Path.{_≡_, refl, sym}
 use mathlib.Core.Bool.{true, false, not, _&&_, _||_}
 use mathlib.Core.List.{List}
 use Prim.Native.Nat.{ℕ, _≤_, _<_}
@@ -10,7 +10,7 @@ use lib.Dec.{eqb, ltb}
 use lib.ListN.{length}
 use Rattle.word.specs.Word.{badWidth}
 use Rattle.word.specs.Some.{anyBelow}
-use Rattle.word.specs.Reply.{answer, refusal, replied, firstOf}
+use Rattle.word.specs.Reply.{answer, refusal, firstOf}
 use Rattle.word.proofs.WordLaws.{good-width}
 use Rattle.word.proofs.SomeLaws.{any-below-false}
 use Rattle.word.proofs.BoolLaws.{or-false-right}

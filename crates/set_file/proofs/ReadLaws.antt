@@ -4,7 +4,7 @@
 --   TakenFrom set k    the taken set k is what the file `set` gives: its circuit, n and s
 --   taken-set          .. where the reader answered with k's register, n and s and gave k's spread words beside
 -- Assumes nothing.
-use mathlib.Core.Path.{_≡_, refl, sym, ap, ap₂, _∙_}
+use mathlib.Core.Path.{_≡_, refl, sym, ap, _∙_}
 use mathlib.Core.List.{List}
 use Prim.Native.Nat.{ℕ, _≤_, min}
 use native.Mathlib.Omega.{arith}

@@ -12,6 +12,7 @@
 --   one-file           two accepted sets with the same m, tap word, spread words, s and rows are the same file
 -- .. and at the height of the calls, with the whole content as one value:
 --   content-back       the content of the file that the writer makes of k is k
+--   output-back        .. so the output's front, as long as the writer answers, is an accepted set with the content k
 --   written-again      the content of an accepted set, written, is that set at the front of the output
 --   one-content        two accepted sets with one content are one file
 -- Assumes nothing.
@@ -252,14 +253,16 @@ written-set k room none =
       mark-stretches = λ t l. mark-stretch (setBytes k) taken t (rw (h .slices) l) ∙ h .mark-rows t l;
     }
 
-pub content-back : (k : SetContent) (room : ℕ) → firstOf (setWriteTests k room) ≡ 0 → contentIn (setBytes k) ≡ k
-content-back k room none = written-content k room (writable k room none)
+-- what the writer's answer knows
+answered : (k : SetContent) (room n : ℕ) → setWriteReply k room ≡ answer n → (firstOf (setWriteTests k room) ≡ 0) × (n ≡ setLength (contentChains k) (k .s))
+unfolding setWriteReply
+answered k room n e = replied-answer (firstOf (setWriteTests k room)) (setLength (contentChains k) (k .s)) n e
 
 pub written-output : (k : SetContent) (l : List ℕ) (n : ℕ) → setWriteReply k (length l) ≡ answer n
     → take n (lent (setWriteReply k (length l)) (setBytes k) l) ≡ setBytes k
-unfolding setWriteReply front
+unfolding front
 written-output k l n e =
-    let done = replied-answer (firstOf (setWriteTests k (length l))) (setLength (contentChains k) (k .s)) n e in
+    let done = answered k (length l) n e in
     let long : length (setBytes k) ≡ n = set-bytes-length k (writable k (length l) (done .0) .rows) ∙ sym (done .1) in
     ap (λ (r : Reply ℕ). take n (lent r (setBytes k) l)) e ∙ take-at (setBytes k) _ n long
 
@@ -369,6 +372,19 @@ one-file one other small small′ none none′ width taps spread slices rows row
     sym (file-of-content one (contentIn other) small none same) ∙ set-of-content other small′ none′
 
 -- ---- the whole content as one value
+
+pub content-back : (k : SetContent) (room n : ℕ) → setWriteReply k room ≡ answer n → contentIn (setBytes k) ≡ k
+content-back k room n e = written-content k room (writable k room (answered k room n e .0))
+
+pub output-back : (k : SetContent) (l : List ℕ) (n : ℕ) → setWriteReply k (length l) ≡ answer n
+    → (firstOf (setTests (take n (lent (setWriteReply k (length l)) (setBytes k) l))) ≡ 0)
+    × (contentIn (take n (lent (setWriteReply k (length l)) (setBytes k) l)) ≡ k)
+output-back k l n e =
+    let file = written-output k l n e in
+    let w : Writable k (length l) = writable k (length l) (answered k (length l) n e .0) in (
+      ap (λ (set : List ℕ). firstOf (setTests set)) file ∙ accepted-back (setBytes k) (written-accepted k (length l) w),
+      ap contentIn file ∙ content-back k (length l) n e,
+    )
 
 pub written-again : (set l : List ℕ) → ((i : ℕ) → getD set i 0 < 256) → firstOf (setTests set) ≡ 0 → length set ≤ length l
     → (setWriteReply (contentIn set) (length l) ≡ answer (length set))

@@ -134,14 +134,8 @@ turned-end n b v k l₀ l at t from to s r e = r .done ∙ ap (λ (i : ℕ). set
 pub turned-small : (n b : ℕ) (v k l₀ l : List ℕ) (at t from to : ℕ) → Turned n b v k l₀ l at t from to → b ≤ 8192 → t ≤ 65536 → from ≤ 536870912
 turned-small n b v k l₀ l at t from to r hb ht = omega (arith, r .bytes, r .source, rows-small (rowBytes n) t (omega (arith, r .bytes)) ht)
 
-both-inside : (a b e : ℕ) → (ltb a e || ltb b e) ≡ false → (e ≤ a) × (e ≤ b)
+pub both-inside : (a b e : ℕ) → (ltb a e || ltb b e) ≡ false → (e ≤ a) × (e ≤ b)
 both-inside a b e h = (ltb-false a e (or-false-left (ltb a e) (ltb b e) h), ltb-false b e (or-false-right (ltb a e) (ltb b e) h))
-
-pub inside-first : (a b e : ℕ) → (ltb a e || ltb b e) ≡ false → e ≤ a
-inside-first a b e h = both-inside a b e h .0
-
-pub inside-second : (a b e : ℕ) → (ltb a e || ltb b e) ≡ false → e ≤ b
-inside-second a b e h = both-inside a b e h .1
 
 -- lists of s rows hold row t
 pub turned-short : (n b : ℕ) (v k l₀ l : List ℕ) (at t from to s : ℕ) → Turned n b v k l₀ l at t from to → t < s

@@ -1,7 +1,7 @@
 -- The place of one slice's row: what the companion's reply says, and the stretch of the set that it names.
 use mathlib.Core.Path.{_≡_, refl, sym, ap, ap₂, _∙_}
 use mathlib.Core.Bool.{Bool, true, false, not}
-use mathlib.Core.List.{List, [], _∷_}
+use mathlib.Core.List.{List, []}
 use mathlib.Core.Logic.{dite}
 use Prim.Native.Nat.{ℕ, _+_, _-_, _≤_, _<_, min}
 use native.Mathlib.Decide.{ℕ-discrete}
@@ -9,7 +9,7 @@ use native.Mathlib.Omega.{arith}
 use borrow.Author.Tests.{lt-ltb, ltb-true, not-false}
 use lib.Dec.{ltb}
 use lib.ListN.{length, take, drop}
-use Rattle.word.specs.Reply.{Reply, answer, refusal, replied, firstOf, _when_}
+use Rattle.word.specs.Reply.{Reply, answer, refusal, firstOf}
 use Rattle.word.proofs.ReplyLaws.{refused-reply, replied-answered, refuses, passes}
 use Rattle.numbers.proofs.PartLaws.{part-clamped}
 use Rattle.rows.specs.Row.{rowBytes}

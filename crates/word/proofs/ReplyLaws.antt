@@ -5,7 +5,7 @@ use mathlib.Core.Bool.{Bool, true, false, cond}
 use mathlib.Core.List.{List}
 use Prim.Native.Nat.{ℕ, zero, suc}
 use native.Mathlib.Omega.{arith}
-use Rattle.word.specs.Reply.{Reply, answer, refusal, replied, front, lent}
+use Rattle.word.specs.Reply.{answer, refusal, replied, front, lent}
 
 -- a test that applies gives its number
 pub refuses : (b r : Bool) (n k : ℕ) → r ≡ b → r ≡ true → n ≡ cond b n k

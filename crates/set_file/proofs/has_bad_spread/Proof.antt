@@ -38,7 +38,10 @@ is-bad-spread-word-requires c κs = search needs
 
 returns : tie.Need-returns Inv-loop μ-loop
 returns c =
-    sought-found _ _ _ _ _ _ (c .before .before .before .before .before .before .register-width .ensures) (c .before .before .before .before .before .chain-count .ensures) (c .before .before .before .before .loop .inv) (c .before .before .before .loop-test .taken) (c .before .before .read-word .ensures) (c .before .is-bad-spread-word .ensures) (c .if1 .taken)
+    let turn = c .before .before .before in
+    let started = turn .before .before in
+    sought-found _ _ _ _ _ _ (started .before .register-width .ensures) (started .chain-count .ensures) (turn .before .loop .inv) (turn .loop-test .taken)
+    (c .before .before .read-word .ensures) (c .before .is-bad-spread-word .ensures) (c .if1 .taken)
 
 add-c : tie.Need-add-c Inv-loop μ-loop
 add-c c = search needs
@@ -47,7 +50,10 @@ loop-less : tie.Need-loop-less Inv-loop μ-loop
 loop-less c = search needs
 
 loop-again : tie.Need-loop-again Inv-loop μ-loop
-loop-again c = sought-next _ _ _ _ _ _ (c .before .before .before .before .loop .inv) (c .before .before .before .loop-test .taken) (c .before .before .read-word .ensures) (c .before .is-bad-spread-word .ensures) (c .if1 .left)
+loop-again c =
+    let turn = c .before .before .before in
+    sought-next _ _ _ _ _ _ (turn .before .loop .inv) (turn .loop-test .taken) (c .before .before .read-word .ensures) (c .before .is-bad-spread-word .ensures)
+    (c .if1 .left)
 
 returns-2 : tie.Need-returns-2 Inv-loop μ-loop
 returns-2 c = sought-none _ _ _ _ (c .before .before .before .register-width .ensures) (c .before .before .chain-count .ensures) (c .before .loop .inv) (search needs)

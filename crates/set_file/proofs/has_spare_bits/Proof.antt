@@ -38,7 +38,9 @@ has-spare-row-requires : tie.Need-has-spare-row-requires
 has-spare-row-requires c κs = search needs
 
 returns-2 : tie.Need-returns-2
-returns-2 c = spare-of _ _ _ _ _ (c .before .before .before .before .before .chain-count .ensures) (c .before .before .before .before .slice-count .ensures) (c .before .before .before .rows-at .ensures) (c .has-spare-row .ensures)
+returns-2 c =
+    let placed = c .before .before .before in
+    spare-of _ _ _ _ _ (placed .before .before .chain-count .ensures) (placed .before .slice-count .ensures) (placed .rows-at .ensures) (c .has-spare-row .ensures)
 
 pub has-spare-bits-spec : {M : Type 1} → statement M
 has-spare-bits-spec =

@@ -4,7 +4,8 @@ use Rattle.set_file.proofs.CodeLaws.{Unshared, unshared-start, unshared
 use Rattle.rows.specs.Row.{rowBytes}
 use native.Mathlib.Omega.{arith}
 use Prim.Native.Nat.{_≤_, _-_}
-use mathlib.Core.Path.{ap, _∙_}
+use Rattle.set_layout.specs.Layout.{chainsOf}
+use mathlib.Core.Path.{_≡_, ap, _∙_}
 use Rattle.set_file.proofs.has_valued_unknown.Statement.{statement}
 use Rattle.set_file.proofs.has_valued_unknown.Tie as tie
 
@@ -13,6 +14,10 @@ Inv-loop set n s bytes at₀ t₀ at t = (t ≤ s) × Unshared set t at
 
 abbrev μ-loop : tie.MeasureT-loop
 μ-loop set n s bytes at₀ t₀ at t = s - t
+
+-- what the loop starts from: the row's bytes and the slice count of the set
+bytes-of : (c : tie.After-rows-at Inv-loop μ-loop) → c .before .row-bytes .result ≡ rowBytes (chainsOf (c .before .before .before .before .before .args .set .now))
+bytes-of c = c .before .row-bytes .ensures ∙ ap rowBytes (c .before .before .before .chain-count .ensures)
 
 chain-count-requires : tie.Need-chain-count-requires Inv-loop μ-loop
 chain-count-requires c κs = search needs
@@ -39,7 +44,10 @@ add-end : tie.Need-add-end Inv-loop μ-loop
 add-end c = omega (arith, c .before .loop .inv .1 .most)
 
 returns : tie.Need-returns Inv-loop μ-loop
-returns c = valued-short _ _ _ _ _ (c .before .before .loop .inv .1) (c .before .before .before .before .row-bytes .ensures ∙ ap rowBytes (c .before .before .before .before .before .before .chain-count .ensures)) (c .before .before .before .before .before .slice-count .ensures) (c .before .loop-test .taken) (c .if1 .taken)
+returns c =
+    let started = c .before .before .before in
+    valued-short _ _ _ _ _ (c .before .before .loop .inv .1) (bytes-of started) (started .before .before .slice-count .ensures) (c .before .loop-test .taken)
+    (c .if1 .taken)
 
 sub-share-a-bit : tie.Need-sub-share-a-bit Inv-loop μ-loop
 sub-share-a-bit c = search needs
@@ -63,7 +71,11 @@ share-a-bit-requires : tie.Need-share-a-bit-requires Inv-loop μ-loop
 share-a-bit-requires c κs = search needs
 
 returns-2 : tie.Need-returns-2 Inv-loop μ-loop
-returns-2 c = valued-found _ (λ i. c .before .before .before .before .before .before .before .before .before .before .before .shared-slice-known .given i .fits) _ _ _ _ _ (c .before .before .before .before .before .before .loop .inv .1) (c .before .before .before .before .before .before .before .before .row-bytes .ensures ∙ ap rowBytes (c .before .before .before .before .before .before .before .before .before .before .chain-count .ensures)) (c .before .before .before .before .before .before .before .before .before .slice-count .ensures) (c .before .before .before .before .before .loop-test .taken) (c .before .share-a-bit .ensures) (c .if2 .taken)
+returns-2 c =
+    let turn = c .before .before .before .before .before in
+    let started = turn .before .before in
+    valued-found _ (λ i. started .before .before .before .before .shared-slice-known .given i .fits) _ _ _ _ _ (turn .before .loop .inv .1) (bytes-of started)
+    (started .before .before .slice-count .ensures) (turn .loop-test .taken) (c .before .share-a-bit .ensures) (c .if2 .taken)
 
 add-t : tie.Need-add-t Inv-loop μ-loop
 add-t c = search needs
@@ -72,10 +84,18 @@ loop-less : tie.Need-loop-less Inv-loop μ-loop
 loop-less c = search needs
 
 loop-again : tie.Need-loop-again Inv-loop μ-loop
-loop-again c = (search needs, unshared-turn _ _ _ _ (c .before .before .before .before .before .before .loop .inv .1) (c .before .before .before .before .before .before .before .before .row-bytes .ensures ∙ ap rowBytes (c .before .before .before .before .before .before .before .before .before .before .chain-count .ensures)) _ (c .before .before .before .before .if1 .left) (c .before .share-a-bit .ensures) (c .if2 .left))
+loop-again c =
+    let turn = c .before .before .before .before .before in (
+      search needs,
+      unshared-turn _ _ _ _ (turn .before .loop .inv .1) (bytes-of (turn .before .before)) _ (c .before .before .before .before .if1 .left)
+          (c .before .share-a-bit .ensures) (c .if2 .left),
+    )
 
 returns-3 : tie.Need-returns-3 Inv-loop μ-loop
-returns-3 c = valued-none _ (λ i. c .before .before .before .before .before .before .shared-slice-known .given i .fits) _ _ _ (c .before .loop .inv .1) (c .before .before .before .before .slice-count .ensures) (search needs)
+returns-3 c =
+    let started = c .before .before in
+    valued-none _ (λ i. started .before .before .before .before .shared-slice-known .given i .fits) _ _ _ (c .before .loop .inv .1)
+    (started .before .before .slice-count .ensures) (search needs)
 
 pub has-valued-unknown-spec : {M : Type 1} → statement M
 has-valued-unknown-spec =

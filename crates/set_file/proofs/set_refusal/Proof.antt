@@ -1,8 +1,10 @@
 -- `set_refusal` meets its contract: one test for each number, in the order of the list.
 use Rattle.set_file.proofs.CodeLaws.{length-fits}
-use Rattle.set_file.specs.Reading.{setTests}
+use Rattle.set_file.specs.Reading.{valuedInRows, setTests}
 use Rattle.word.proofs.ReplyLaws.{refusals}
-use mathlib.Core.Path.{sym, _∙_}
+use mathlib.Core.Path.{_≡_, sym, _∙_}
+use mathlib.Core.List.{List}
+use Prim.Native.Nat.{ℕ}
 use borrow.Author.Needs.{needs}
 use Rattle.set_file.proofs.set_refusal.Statement.{statement}
 use Rattle.set_file.proofs.set_refusal.Tie as tie
@@ -73,13 +75,25 @@ returns-9 c = search refusals depth 24 fits 40000
 has-valued-unknown-requires : tie.Need-has-valued-unknown-requires
 has-valued-unknown-requires c κs = search needs
 
+-- the set, where its last test has been made
+abbrev tested : tie.After-has-valued-unknown → List ℕ
+tested c = c .before .before .before .before .before .before .before .before .before .before .before .before .before .before .before .before .before .before .before .before .args .set .now
+
+-- number 10, once 8 and 9 don't apply
+valued : (c : tie.After-has-valued-unknown) → c .has-valued-unknown .result ≡ valuedInRows (tested c)
+valued c =
+    let clean = c .before in
+    let fits = clean .before .before in
+    c .has-valued-unknown .ensures (length-fits _ _ (fits .before .has-wrong-length .ensures) (fits .if8 .left))
+    (sym (clean .before .has-spare-bits .ensures) ∙ clean .if9 .left)
+
 returns-10 : tie.Need-returns-10
 unfolding setTests
-returns-10 c = let valued = c .before .has-valued-unknown .ensures (length-fits _ _ (c .before .before .before .before .before .has-wrong-length .ensures) (c .before .before .before .before .if8 .left)) (sym (c .before .before .before .has-spare-bits .ensures) ∙ c .before .before .if9 .left) in search refusals depth 24 fits 40000
+returns-10 c = let unknown = valued (c .before) in search refusals depth 24 fits 40000
 
 returns-11 : tie.Need-returns-11
 unfolding setTests
-returns-11 c = let valued = c .before .has-valued-unknown .ensures (length-fits _ _ (c .before .before .before .before .before .has-wrong-length .ensures) (c .before .before .before .before .if8 .left)) (sym (c .before .before .before .has-spare-bits .ensures) ∙ c .before .before .if9 .left) in search refusals depth 24 fits 40000
+returns-11 c = let unknown = valued (c .before) in search refusals depth 24 fits 40000
 
 pub set-refusal-spec : {M : Type 1} → statement M
 set-refusal-spec =

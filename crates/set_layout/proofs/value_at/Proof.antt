@@ -1,5 +1,4 @@
 -- `value_at` meets its contract: twice the rows before it.
-use Prim.Native.Nat.{_*_, _≤_}
 use native.Mathlib.Nat.{mul-assoc}
 use native.Mathlib.Omega.{arith}
 use borrow.Author.Needs.{needs}
