@@ -11,42 +11,30 @@ use Rattle.word.specs.Span.{isXorOf}
 use Rattle.word.proofs.Laws.{xor-cancel}
 use Rattle.combinations.specs.Combination.{xFree}
 use Rattle.combinations.proofs.Theorems.{explained-listed, same-parities}
-use Rattle.register.specs.Circuit.{chains}
-use Rattle.register.proofs.Laws.{good-taps}
-use Rattle.chains.proofs.Laws.{good-spread}
 use Rattle.rows.proofs.CellLaws.{cell-lt}
-use Rattle.set_layout.specs.Layout.{widthOf, tapsOf, spreadOf, circuitOf, chainsOf, slicesOf, marks, values}
+use Rattle.set_layout.specs.Layout.{widthOf, circuitOf, chainsOf, slicesOf}
 use Rattle.rows.specs.Lists.{listRow}
-use Rattle.set_file.proofs.Laws.{Accepted, spread-length}
-use Rattle.signatures.specs.Signature.{Response, signature}
-use Rattle.signatures.specs.Sets.{columnsOf, zeroSignature, recordCells}
-use Rattle.signatures.proofs.SignatureLaws.{signature-lt}
-use Rattle.signatures.proofs.FillingLaws.{filling-differs, filling-of, alike-differ}
-use Rattle.signatures.proofs.SetLaws.{columns-of-within}
+use Rattle.set_file.proofs.Laws.{Accepted}
+use Rattle.signatures.specs.Signature.{signature}
+use Rattle.signatures.specs.Given.{zeroed}
+use Rattle.signatures.specs.Sets.{given, Explained, columnsOf, zeroSignature, recordCells}
+use Rattle.signatures.proofs.FillingLaws.{known-differ, explained-differs, differs-explained}
+use Rattle.signatures.proofs.SetLaws.{values-lt, columns-of-within, signature-within}
 use Rattle.planner.specs.Planning.{wordsOf, expectedOf}
-use Rattle.guarantee.specs.Demand.{Known, Explained, Alike}
+use Rattle.guarantee.specs.Demand.{Alike}
 
 -- ---- by the columns
 
 module _ (set : List ℕ) where
-  known : (t c : ℕ) → t < slicesOf set → c < chains (circuitOf set) → marks set t c ≡ 0 → Known set t c
-  known t c l m z = record { slice = l; chain = subst (λ (n : ℕ). c < n) (spread-length set) m; unmarked = z }
-
   -- an explained signature differs from that for all unknowns 0 by an XOR of columns
   pub explained-xor : (y : ℕ) → Explained set y → isXorOf (columnsOf set) (bitXor (zeroSignature set) y) ≡ true
-  explained-xor y e =
-      ap (λ (x : ℕ). isXorOf (columnsOf set) (bitXor (zeroSignature set) x)) (sym (e .clocks))
-      ∙ filling-differs set (e .response) (e .filling .bits) (λ t c l m z. e .filling .known t c (known t c l m z))
+  unfolding columnsOf zeroSignature
+  explained-xor = explained-differs (given set) (values-lt set)
 
   -- .. and a signature that does so is explained
   pub xor-explained : (y : ℕ) → isXorOf (columnsOf set) (bitXor (zeroSignature set) y) ≡ true → Explained set y
-  xor-explained y h =
-      let f = filling-of set y h in
-      record {
-        response = f .0;
-        filling = record { bits = f .1; known = λ t c n. f .2 t c (n .unmarked) };
-        clocks = f .3;
-      }
+  unfolding columnsOf zeroSignature
+  xor-explained = differs-explained (given set) (values-lt set)
 
   -- the signatures of records that are alike in every known cell differ by an XOR of columns
   pub alike-xor : (r v : List ℕ) → Alike set r v
@@ -55,28 +43,22 @@ module _ (set : List ℕ) where
       ≡ true
   unfolding columnsOf
   alike-xor r v a =
-      alike-differ (circuitOf set) (slicesOf set) (marks set) (recordCells (chainsOf set) r) (recordCells (chainsOf set) v)
-      (λ t c. cell-lt (listRow (chainsOf set) r t) c) (λ t c. cell-lt (listRow (chainsOf set) v t) c)
-      (λ t c l m z. a t c (known t c l m z))
+      known-differ (given set) (recordCells (chainsOf set) v) (recordCells (chainsOf set) r) (λ t c. cell-lt (listRow (chainsOf set) v t) c)
+      (λ t c. cell-lt (listRow (chainsOf set) r t) c) (λ t c n. sym (a t c n))
 
 -- ---- by the words
 
 module _ (set : List ℕ) (a : Accepted set) where
-  pub signature-within : (x : Response) → signature (circuitOf set) x (slicesOf set) < 2 ^ widthOf set
-  signature-within x =
-      signature-lt (circuitOf set) x (slicesOf set) (good-taps (widthOf set) (tapsOf set) (a .taps) .1)
-      (good-spread (widthOf set) (spreadOf set) (a .spread))
-
   zero-within : zeroSignature set < 2 ^ widthOf set
   unfolding zeroSignature
-  zero-within = signature-within (values set)
+  zero-within = signature-within set a (zeroed (given set))
 
   pub explained-within : (y : ℕ) → Explained set y → y < 2 ^ widthOf set
-  explained-within y e = subst (λ (x : ℕ). x < 2 ^ widthOf set) (e .clocks) (signature-within (e .response))
+  explained-within y e = subst (λ (x : ℕ). x < 2 ^ widthOf set) (e .clocks) (signature-within set a (e .response))
 
   module _ (y z : ℕ) (hy : y < 2 ^ widthOf set) (hz : z < 2 ^ widthOf set) where
     words-even : isXorOf (columnsOf set) (bitXor y z) ≡ xFree (wordsOf set) (bitXor y z)
-    unfolding wordsOf
+    unfolding wordsOf columnsOf
     words-even =
         explained-listed (widthOf set) (columnsOf set) (columns-of-within set a) (bitXor y z) (xor-lt (widthOf set) y z hy hz)
 

@@ -2,7 +2,7 @@
 use mathlib.Core.Path.{_≡_, refl, sym, ap, _∙_}
 use mathlib.Core.Bool.{Bool, true, false, cond, not, _&&_}
 use mathlib.Core.Logic.{dite}
-use mathlib.Core.List.{List, [], _∷_}
+use mathlib.Core.List.{List, [], _∷_, _++_, append-assoc}
 use Prim.Native.Nat.{ℕ, _≤_}
 use native.Mathlib.Decide.{ℕ-discrete}
 use native.Mathlib.Omega.{arith}
@@ -12,7 +12,7 @@ use lib.ListN.{length}
 use Rattle.word.specs.Reply.{Test, _when_, answer, refusal, replied, firstOf}
 use Rattle.word.proofs.BoolLaws.{and-left, and-right}
 use Rattle.word.proofs.Laws.{parities-lt}
-use Rattle.word.proofs.TestLaws.{none-and-rest, first-of-later, first-of-sooner, first-of-none, replied-answer, replied-number}
+use Rattle.word.proofs.TestLaws.{numbered, none-and-rest, first-of-later, first-of-sooner, first-of-none, replied-answer, replied-number}
 use Rattle.combinations.specs.Combination.{rank, onlyEmpty}
 use Rattle.combinations.proofs.Theorems.{words-and-rank, reduced-list-reduced, only-empty-list}
 use Rattle.set_layout.specs.Layout.{widthOf}
@@ -21,7 +21,7 @@ use Rattle.set_file.proofs.Laws.{Accepted, accepted, accepted-width}
 use Rattle.signatures.specs.Sets.{columnsOf, zeroSignature}
 use Rattle.columns.specs.Listing.{listTests}
 use Rattle.signatures.proofs.SetLaws.{columns-of-within}
-use Rattle.planner.specs.Planning.{wordsOf, expectedOf, planTests, PlanParts, partsOf, planReply}
+use Rattle.planner.specs.Planning.{wordsOf, expectedOf, earlierTests, planTests, PlanParts, partsOf, planReply}
 use Rattle.planner.proofs.CallLaws.{list-numbered}
 use Rattle.plan_writer.specs.Writing.{planContent, planBytes}
 use Rattle.plan_writer.proofs.Parts.{Content}
@@ -58,39 +58,51 @@ list-without-seventeen : (set : List ℕ) (k : ℕ) → without 17 (listTests se
 unfolding listTests setTests
 list-without-seventeen set k = refl
 
+earlier-numbered : (set : List ℕ) (k : ℕ) → numbered (earlierTests set k) ≡ true
+unfolding earlierTests listTests setTests
+earlier-numbered set k = refl
+
+-- the numbers before 17 are those of listing the columns, and 16
+pub earlier-listed : (set : List ℕ) (k : ℕ) → firstOf (earlierTests set k) ≡ 0 → firstOf (listTests set k) ≡ 0
+unfolding earlierTests
+earlier-listed set k h = first-of-none (listTests set k) _ h
+
 -- listing the columns meets the set's numbers first
 pub listed-set : (set : List ℕ) (k : ℕ) → firstOf (listTests set k) ≡ 0 → firstOf (setTests set) ≡ 0
 unfolding listTests
 listed-set set k h = first-of-none (setTests set) _ h
 
 module _ (set : List ℕ) (k l : ℕ) where
+  in-order : firstOf (planTests set k l)
+      ≡ firstOf (listTests set k ++ 16 when ltb (widthOf set) (rank (columnsOf set)) ∷ 17 when onlyEmpty (widthOf set) (columnsOf set) ∷ 18 when ltb l (length (wordsOf set)) ∷ [])
+  unfolding planTests earlierTests
+  in-order = ap firstOf (append-assoc (listTests set k) (16 when ltb (widthOf set) (rank (columnsOf set)) ∷ []) _)
+
   after-list : firstOf (listTests set k) ≡ 0
       → firstOf (planTests set k l)
       ≡ cond (ltb (widthOf set) (rank (columnsOf set))) 16
       (cond (onlyEmpty (widthOf set) (columnsOf set)) 17 (cond (ltb l (length (wordsOf set))) 18 0))
-  unfolding planTests
-  after-list h = first-of-later (listTests set k) _ (list-numbered set k) h
+  after-list h = in-order ∙ first-of-later (listTests set k) _ (list-numbered set k) h
 
   -- 17 means that the set is accepted and no X-free combination but the empty one exists
   pub seventeen-only-empty : planReply set k l ≡ refusal 17 → Accepted set × (onlyEmpty (widthOf set) (columnsOf set) ≡ true)
-  unfolding planReply planTests
+  unfolding planReply
   seventeen-only-empty h =
       let number : firstOf (planTests set k l) ≡ 17 = replied-number (firstOf (planTests set k l)) (partsOf set) 17 h in
       let none : firstOf (listTests set k) ≡ 0 =
       dite (ℕ-discrete (firstOf (listTests set k)) 0) (λ (z : firstOf (listTests set k) ≡ 0). z)
       (λ (d : firstOf (listTests set k) ≡ 0 → ⊥).
-      let z : 17 ≡ 0 = first-of-without 17 (listTests set k) (list-without-seventeen set k) (sym (first-of-sooner (listTests set k) _ d) ∙ number) in
+      let z : 17 ≡ 0 = first-of-without 17 (listTests set k) (list-without-seventeen set k) (sym (first-of-sooner (listTests set k) _ d) ∙ sym in-order ∙ number) in
       let no : ⊥ = omega arith in
       absurd no)
       in
       (accepted set (listed-set set k none), seventeen-among (ltb (widthOf set) (rank (columnsOf set))) _ (ltb l (length (wordsOf set))) (sym (after-list none) ∙ number))
 
-  -- .. and where that is so and listing the columns meets no number, 17 it is
-  pub only-empty-seventeen : firstOf (listTests set k) ≡ 0 → ltb (widthOf set) (rank (columnsOf set)) ≡ false
-      → onlyEmpty (widthOf set) (columnsOf set) ≡ true → planReply set k l ≡ refusal 17
-  unfolding planReply
-  only-empty-seventeen h r e =
-      let number : firstOf (planTests set k l) ≡ 17 = rw (after-list h, r, e) in
+  -- .. and where that is so and no earlier number applies, 17 it is
+  pub only-empty-seventeen : firstOf (earlierTests set k) ≡ 0 → onlyEmpty (widthOf set) (columnsOf set) ≡ true → planReply set k l ≡ refusal 17
+  unfolding planReply planTests
+  only-empty-seventeen h e =
+      let number : firstOf (planTests set k l) ≡ 17 = first-of-later (earlierTests set k) _ (earlier-numbered set k) h ∙ (rw e) in
       ap (λ (n : ℕ). replied n (partsOf set)) number
 
 -- ---- planning's answer
@@ -106,7 +118,7 @@ module _ (set : List ℕ) (k l : ℕ) (p : PlanParts) (h : planReply set k l ≡
 
   list-none : firstOf (listTests set k) ≡ 0
   unfolding planTests
-  list-none = first-of-none (listTests set k) _ planned-none
+  list-none = earlier-listed set k (first-of-none (earlierTests set k) _ planned-none)
 
   pub planned-accepted : Accepted set
   planned-accepted = accepted set (listed-set set k list-none)
@@ -117,14 +129,14 @@ module _ (set : List ℕ) (k l : ℕ) (p : PlanParts) (h : planReply set k l ≡
       none-and-rest (onlyEmpty (widthOf set) (columnsOf set)) 16 _ (later .1) .0
 
   words-count : (1 ≤ length (wordsOf set)) × (length (wordsOf set) ≤ widthOf set)
-  unfolding wordsOf
+  unfolding wordsOf columnsOf
   words-count =
       let positive : length (wordsOf set) ≡ 0 → ⊥ = eqb-false (length (wordsOf set)) 0 (sym (only-empty-list (widthOf set) (columnsOf set)) ∙ some-words) in
       (omega arith, omega (arith, words-and-rank (widthOf set) (columnsOf set) (columns-of-within set planned-accepted)))
 
   -- the plan writer takes m, the words and the expected bits
   pub planned-content : Content (planContent (widthOf set) (wordsOf set) (expectedOf set))
-  unfolding wordsOf expectedOf
+  unfolding wordsOf columnsOf expectedOf
   planned-content =
       record {
         width-positive = accepted-width set planned-accepted .0;

@@ -3,16 +3,18 @@
 -- where planning answered with p for it; a signature y has the register's width where y < 2 ^ widthOf set.
 --
 -- 1. Unknowns cannot show.
---      same-for-all-fillings   records that are alike in every known cell get the same cancelled bits and verdict
+--      same-for-alike-records  records that are alike in every known cell get the same cancelled bits and verdict
 -- 2. A verdict decides.
 --      explained-passes        an explained signature passes, with the expected bits as its cancelled bits
 --      passes-explained        a signature of the register's width that passes is explained
+--      passes-exactly          .. so a signature of that width passes exactly when it is explained
 --      unexplained-fails       one that isn't explained fails, at the first word that disagrees
+--      fails-exactly           .. so it fails, at that word, exactly when nothing explains it
 -- 3. Nothing is left out.
 --      all-x-free              a combination is X-free exactly when it is an XOR of listed words, or of none
 --      seventeen-explained     where planning gives 17, every signature of the register's width is explained
---      explained-seventeen     .. and where every one is and no number before 17 applies, it gives 17
---      sixteen-never           .. of which 16 never applies
+--      explained-seventeen     .. and where every one is and no number before 17 applies (earlierTests), it gives 17
+--      sixteen-never           16, one of those numbers, never applies
 -- The plan itself:
 --      planned-parts           planning answers with the set's m, q and expected bits
 --      plan-written            the plan writer takes them where there is room
@@ -41,18 +43,18 @@ use Rattle.set_layout.specs.Layout.{widthOf, chainsOf, slicesOf, circuitOf}
 use Rattle.set_file.specs.Reading.{setTests}
 use Rattle.set_file.proofs.Laws.{Accepted, accepted}
 use Rattle.signatures.specs.Signature.{signature}
-use Rattle.signatures.specs.Sets.{columnsOf, zeroSignature, recordCells}
+use Rattle.signatures.specs.Sets.{Explained, columnsOf, zeroSignature, recordCells}
 use Rattle.signing.specs.Signing.{signTests, signReply}
 use Rattle.columns.specs.Listing.{listTests}
-use Rattle.signatures.proofs.SetLaws.{columns-of-within}
-use Rattle.planner.specs.Planning.{wordsOf, expectedOf, PlanParts, partsOf, planReply}
+use Rattle.signatures.proofs.SetLaws.{columns-of-within, signature-within}
+use Rattle.planner.specs.Planning.{wordsOf, expectedOf, earlierTests, PlanParts, partsOf, planReply}
 use Rattle.plan_file.specs.Layout.{planLength, fileWords}
 use Rattle.plan_file.specs.Reading.{planFileReply}
 use Rattle.plan_writer.specs.Writing.{planContent, planBytes, planWriteReply}
 use Rattle.plan_writer.proofs.Parts.{content-taken, content-read, written-words}
 use Rattle.judge.specs.Verdict.{Outcome, passes, failsAt, verdict, Finding, judgeReply}
 use Rattle.judge.proofs.Laws.{passes-agrees, agrees-passes, FailsAt, fails-first}
-use Rattle.guarantee.specs.Demand.{Explained, Alike, planFile, FirstDisagrees}
+use Rattle.guarantee.specs.Demand.{Alike, planFile, FirstDisagrees}
 use Rattle.guarantee.proofs.Explaining as explaining
 use Rattle.guarantee.proofs.Planned as planned
 use Rattle.guarantee.proofs.Content as content
@@ -105,17 +107,17 @@ pub signed-within : (set r : List ℕ) (y : ℕ) → signReply set r ≡ answer 
 unfolding signTests
 signed-within set r y h =
     let taken : Accepted set = accepted set (first-of-none (setTests set) _ (signed set r y h .0)) in
-    subst (λ (x : ℕ). x < 2 ^ widthOf set) (sym (signed set r y h .1)) (explaining.signature-within set taken (recordCells (chainsOf set) r))
+    subst (λ (x : ℕ). x < 2 ^ widthOf set) (sym (signed set r y h .1)) (signature-within set taken (recordCells (chainsOf set) r))
 
 expected-inside : (set : List ℕ) → expectedOf set < 2 ^ length (wordsOf set)
 unfolding expectedOf
 expected-inside set = parities-lt (wordsOf set) (zeroSignature set)
 
 -- records that are alike in every known cell get the same answer from judging: cancelled bits, verdict and index
-pub same-for-all-fillings : (set : List ℕ) (k l : ℕ) (p : PlanParts) (r v : List ℕ) (y z : ℕ) → planReply set k l ≡ answer p
+pub same-for-alike-records : (set : List ℕ) (k l : ℕ) (p : PlanParts) (r v : List ℕ) (y z : ℕ) → planReply set k l ≡ answer p
     → signReply set r ≡ answer y → signReply set v ≡ answer z → Alike set r v
     → judgeReply (planFile set p) y ≡ judgeReply (planFile set p) z
-same-for-all-fillings set k l p r v y z h hr hv a =
+same-for-alike-records set k l p r v y z h hr hv a =
     let wy : y < 2 ^ widthOf set = signed-within set r y hr in
     let wz : z < 2 ^ widthOf set = signed-within set v z hv in
     let differ : isXorOf (columnsOf set) (bitXor y z) ≡ true =
@@ -184,11 +186,42 @@ unexplained-fails set k l p y h w n = go (verdict (wordsOf set) (expectedOf set)
     go passes e = absurd (n (passes-explained set k l p y _ h w (judged passes e) refl))
     go (failsAt i) e = (i, first-disagrees set y i (fails-first i (wordsOf set) (expectedOf set) y e), judged (failsAt i) e)
 
+-- it passes exactly when it is explained
+pub passes-exactly : (set : List ℕ) (k l : ℕ) (p : PlanParts) (y : ℕ) → planReply set k l ≡ answer p → y < 2 ^ widthOf set
+    → (Explained set y → judgeReply (planFile set p) y ≡ answer (record { cancelled = p .expected; outcome = passes }))
+    × ((f : Finding) → judgeReply (planFile set p) y ≡ answer f → f .outcome ≡ passes → Explained set y)
+passes-exactly set k l p y h w = (explained-passes set k l p y h, (λ f. passes-explained set k l p y f h w))
+
+-- a verdict that fails at i says that nothing explains the signature, and that word i is the first that disagrees
+fails-unexplained : (set : List ℕ) (k l : ℕ) (p : PlanParts) (y : ℕ) (f : Finding) (i : ℕ) → planReply set k l ≡ answer p → y < 2 ^ widthOf set
+    → judgeReply (planFile set p) y ≡ answer f → f .outcome ≡ failsAt i → (Explained set y → ⊥) × FirstDisagrees set y i
+fails-unexplained set k l p y f i h w j o =
+    let found : answer f ≡ answer (record { cancelled = parities (wordsOf set) y; outcome = verdict (wordsOf set) (expectedOf set) y }) =
+    sym j ∙ plan-judged set k l p y h w
+    in
+    let failed : verdict (wordsOf set) (expectedOf set) y ≡ failsAt i = cc in
+    ((λ e. passed e), first-disagrees set y i (fails-first i (wordsOf set) (expectedOf set) y failed))
+  where
+    passed : Explained set y → ⊥
+    passed e =
+        let both : answer f ≡ answer (record { cancelled = p .expected; outcome = passes }) = sym j ∙ explained-passes set k l p y h e in
+        let clash : _≡_ {A = ℕ} 0 1 = cc in
+        omega arith
+
+-- it fails, at the first word that disagrees, exactly when it isn't explained
+pub fails-exactly : (set : List ℕ) (k l : ℕ) (p : PlanParts) (y : ℕ) → planReply set k l ≡ answer p → y < 2 ^ widthOf set
+    → ((f : Finding) (i : ℕ) → judgeReply (planFile set p) y ≡ answer f → f .outcome ≡ failsAt i → (Explained set y → ⊥) × FirstDisagrees set y i)
+    × ((Explained set y → ⊥)
+    → (i : ℕ) × FirstDisagrees set y i
+    × (judgeReply (planFile set p) y ≡ answer (record { cancelled = parities (wordsOf set) y; outcome = failsAt i })))
+fails-exactly set k l p y h w =
+    ((λ f i j o. fails-unexplained set k l p y f i h w j o), unexplained-fails set k l p y h w)
+
 -- ---- 3: nothing is left out
 
 -- a combination of the register's bits is X-free exactly when it is an XOR of listed words, or of none
 pub all-x-free : (set : List ℕ) (w : ℕ) → w < 2 ^ widthOf set → xFree (columnsOf set) w ≡ isXorOf (wordsOf set) w
-unfolding wordsOf
+unfolding wordsOf columnsOf
 all-x-free set w l = x-free-listed (widthOf set) (columnsOf set) w l
 
 -- where planning gives 17, every signature of the register's width is explained
@@ -204,10 +237,10 @@ sixteen-never set h =
     le-ltb (widthOf set) (rank (columnsOf set))
     (omega (arith, words-and-rank (widthOf set) (columnsOf set) (columns-of-within set (accepted set h))))
 
--- where every signature of the register's width is explained, and none of 1 to 10 and 14 applies, planning gives 17
-pub explained-seventeen : (set : List ℕ) (k l : ℕ) → firstOf (listTests set k) ≡ 0
+-- where every signature of the register's width is explained, and no number before 17 applies, planning gives 17
+pub explained-seventeen : (set : List ℕ) (k l : ℕ) → firstOf (earlierTests set k) ≡ 0
     → ((y : ℕ) → y < 2 ^ widthOf set → Explained set y) → planReply set k l ≡ refusal 17
 explained-seventeen set k l h f =
-    let none : firstOf (setTests set) ≡ 0 = planned.listed-set set k h in
-    planned.only-empty-seventeen set k l h (sixteen-never set none)
-    (explains-only-empty (widthOf set) (columnsOf set) (columns-of-within set (accepted set none)) (explaining.all-xor set (accepted set none) f))
+    let taken : Accepted set = accepted set (planned.listed-set set k (planned.earlier-listed set k h)) in
+    planned.only-empty-seventeen set k l h
+    (explains-only-empty (widthOf set) (columnsOf set) (columns-of-within set taken) (explaining.all-xor set taken f))

@@ -20,7 +20,7 @@ use Rattle.plan_writer.proofs.WriteLaws.{length-plan-bytes}
 use Rattle.judge.specs.Verdict.{Finding, verdict, judgeReply}
 use Rattle.guarantee.specs.Demand.{Alike, planFile}
 use Rattle.guarantee.specs.AtWork.{after, madeReply, planOf, fileAfter, signedReply, recordReply}
-use Rattle.guarantee.proofs.Theorems.{planned-parts, plan-written, plan-judged, signed-within, same-for-all-fillings}
+use Rattle.guarantee.proofs.Theorems.{planned-parts, plan-written, plan-judged, signed-within, same-for-alike-records}
 
 -- ---- one call after another
 
@@ -117,7 +117,7 @@ module _ (set r v : List ℕ) (k l room y z : ℕ) (hr : signReply set r ≡ ans
       let step = after-answer (planReply set k l) (λ p. planWriteReply (planContent (p .m) (wordsOf set) (p .expected)) room) n h in
       let same : judgeReply (planFile set (partsOf set)) y ≡ judgeReply (planFile set (partsOf set)) z =
       subst (λ (p : PlanParts). judgeReply (planFile set p) y ≡ judgeReply (planFile set p) z) (planned-parts set k l (step .0) (step .1))
-      (same-for-all-fillings set k l (step .0) r v y z (step .1) hr hv a)
+      (same-for-alike-records set k l (step .0) r v y z (step .1) hr hv a)
       in
       rw (hr, hv) same
 
