@@ -1,4 +1,3 @@
-pub mod Worked
 pub mod Theorems
 pub mod LoopLaws
 pub mod CallLaws

@@ -3,3 +3,4 @@ pub mod Planned
 pub mod Content
 pub mod Theorems
 pub mod WorkLaws
+pub mod Worked

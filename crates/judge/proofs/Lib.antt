@@ -1,4 +1,3 @@
-pub mod Worked
 pub mod Verdicts
 pub mod Laws
 pub mod CallLaws

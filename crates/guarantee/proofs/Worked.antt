@@ -1,0 +1,101 @@
+-- The starred lines of document 01, "Worked on paper", proved of the definitions as one table: each line through the reply of the
+-- call that it is about. Assumes nothing.
+--
+--   wrote r vs         what a call with the reply r writes to a lent list: vs after an answer
+--   next r             the state that the clock's reply r gives
+--   expectedIn r       the expected bits in planning's reply r
+--   indexIn r          judging's reply r as a list: nothing where the signature passes, the index where it fails
+use mathlib.Core.Path.{_≡_, refl}
+use mathlib.Core.Bool.{true}
+use mathlib.Core.List.{List, [], _∷_, _++_}
+use Prim.Native.Nat.{ℕ}
+use lib.Count.{ones, onesIn, leadingZeros}
+use lib.ListN.{replicate}
+use Rattle.word.specs.Word.{parity, beyond, badWidth, highestBit}
+use Rattle.word.specs.Some.{anyOf, allOf, anyBelow}
+use Rattle.word.specs.Parities.{parities}
+use Rattle.word.specs.Reply.{Reply, answer, refusal, numberOf, front, lent}
+use Rattle.word.specs.Worked.{Line, agrees}
+use Rattle.numbers.specs.Bytes.{number, numberAt, wordsAt, bytesOf, wordBytes}
+use Rattle.numbers.specs.Joined.{joined}
+use Rattle.combinations.specs.Combination.{rank, rankAfter, grown, xFree, onlyEmpty}
+use Rattle.combinations.specs.Reduced.{reducedList, wordsBelow, independent, made, xorRows, isReduced, ascending, topsClear}
+use Rattle.elimination.specs.Elimination.{Counts, eliminationTests, eliminationReply}
+use Rattle.rows.specs.Row.{spareSet}
+use Rattle.rows.specs.Marks.{total}
+use Rattle.chains.specs.Driven.{driven, badSpread}
+use Rattle.register.specs.Circuit.{advanced, clocked, badTaps, badChains}
+use Rattle.register.specs.Clock.{clockTests, clockReply, stateAfter}
+use Rattle.register.specs.declared.Register.{Register}
+use Rattle.set_layout.specs.Layout.{valueRow, markRow}
+use Rattle.set_file.specs.Reading.{badSlices, setTests}
+use Rattle.signatures.specs.Signature.{runs, column}
+use Rattle.signatures.specs.Columns.{sliceColumns, columnsBelow}
+use Rattle.signatures.specs.Sets.{columnsOf, unknownsOf, zeroSignature}
+use Rattle.columns.specs.Listing.{listTests, listReply}
+use Rattle.planner.specs.Planning.{wordsOf, expectedOf, PlanParts, partsOf, earlierTests, planTests, planReply}
+use Rattle.reduced_list.specs.WordCount.{badWordCount}
+use Rattle.plan_file.specs.Checking.{badPlanWidth, badPlanCount, badPlanEnd, planFileTests}
+use Rattle.plan_writer.specs.Writing.{planBytes}
+use Rattle.judge.specs.Verdict.{Outcome, passes, failsAt, verdictFrom, Finding, judgeTests, judgeReply}
+use Rattle.guarantee.specs.Demand.{planFile}
+
+abbrev wrote : {A : Type 0} → Reply A → List ℕ → List ℕ
+wrote r vs = lent r vs []
+
+abbrev next : Reply ℕ → List ℕ
+next r = stateAfter r 0 ∷ []
+
+abbrev rankIn : Reply Counts → List ℕ
+rankIn (answer c) = c .rank ∷ []
+rankIn (refusal n) = []
+
+abbrev expectedIn : Reply PlanParts → List ℕ
+expectedIn (answer p) = p .expected ∷ []
+expectedIn (refusal n) = n ∷ n ∷ []
+
+abbrev indexOf : Outcome → List ℕ
+indexOf passes = []
+indexOf (failsAt i) = i ∷ []
+
+abbrev indexIn : Reply Finding → List ℕ
+indexIn (answer f) = indexOf (f .outcome)
+indexIn (refusal n) = n ∷ n ∷ []
+
+-- m 3, taps 3, with this state
+abbrev holding : ℕ → Register
+holding s = record { m = 3; taps = 3; state = s }
+
+-- the sample of document 01, 34 bytes
+sample : List ℕ
+sample =
+    3 ∷ 0 ∷ 3 ∷ 0 ∷ 0 ∷ 0 ∷ 0 ∷ 0 ∷ 0 ∷ 0 ∷ 2 ∷ 0 ∷ 1 ∷ 0 ∷ 0 ∷ 0 ∷ 0 ∷ 0 ∷ 0 ∷ 0 ∷ 4 ∷ 0 ∷ 0 ∷ 0 ∷ 0 ∷ 0 ∷ 0 ∷ 0 ∷ 2 ∷ 0 ∷ 1 ∷ 2 ∷ 1
+    ∷ 0 ∷ []
+
+-- what judging gives for the plan made of it and the signature y
+abbrev sampleJudged : ℕ → Reply Finding
+sampleJudged y = judgeReply (planFile sample (partsOf sample)) y
+
+pub worked : List Line
+worked =
+    record { given = wrote (eliminationReply 6 (27 ∷ 2 ∷ 54 ∷ 32 ∷ []) 64) (reducedList 6 (27 ∷ 2 ∷ 54 ∷ 32 ∷ [])); printed = 9 ∷ 21 ∷ [] }
+    ∷ record { given = wrote (eliminationReply 4 (14 ∷ 9 ∷ []) 64) (reducedList 4 (14 ∷ 9 ∷ [])); printed = 6 ∷ 11 ∷ [] }
+    ∷ record { given = wrote (eliminationReply 3 [] 64) (reducedList 3 []); printed = 1 ∷ 2 ∷ 4 ∷ [] }
+    ∷ record { given = wrote (eliminationReply 2 (0 ∷ []) 64) (reducedList 2 (0 ∷ [])); printed = 1 ∷ 2 ∷ [] }
+    ∷ record { given = rankIn (eliminationReply 3 (replicate 512 7) 64); printed = 1 ∷ [] }
+    ∷ record { given = wrote (eliminationReply 3 (replicate 512 7) 64) (reducedList 3 (replicate 512 7)); printed = 3 ∷ 5 ∷ [] }
+    ∷ record { given = numberOf (eliminationReply 1 (1 ∷ []) 64) ∷ []; printed = 17 ∷ [] }
+    ∷ record { given = next (clockReply (holding 4) (1 ∷ 4 ∷ []) (0 ∷ [])); printed = 3 ∷ [] }
+    ∷ record { given = next (clockReply (holding 7) (1 ∷ 4 ∷ []) (0 ∷ [])); printed = 5 ∷ [] }
+    ∷ record { given = wrote (listReply sample 1) (columnsOf sample); printed = 3 ∷ [] }
+    ∷ record { given = wrote (planReply sample 1 2) (wordsOf sample); printed = 3 ∷ 4 ∷ [] }
+    ∷ record { given = expectedIn (planReply sample 1 2); printed = 0 ∷ [] }
+    ∷ record { given = indexIn (sampleJudged 3); printed = [] }
+    ∷ record { given = indexIn (sampleJudged 0); printed = [] }
+    ∷ record { given = indexIn (sampleJudged 1); printed = 0 ∷ [] }
+    ∷ record { given = indexIn (sampleJudged 7); printed = 1 ∷ [] }
+    ∷ []
+
+pub worked-agrees : agrees worked ≡ true
+unfolding worked sample eliminationReply eliminationTests clockReply clockTests listReply listTests setTests planReply planTests earlierTests judgeReply judgeTests planFileTests planFile planBytes badWidth badTaps badChains badSpread badSlices badPlanWidth badPlanCount badPlanEnd badWordCount spareSet beyond anyBelow anyOf allOf front number numberAt wordsAt bytesOf wordBytes joined parities parity ones onesIn highestBit leadingZeros rank rankAfter grown xFree onlyEmpty reducedList wordsBelow independent made xorRows isReduced ascending topsClear advanced driven clocked valueRow markRow runs column sliceColumns columnsBelow columnsOf unknownsOf total zeroSignature wordsOf expectedOf verdictFrom
+worked-agrees = refl
