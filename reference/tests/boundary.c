@@ -1,11 +1,14 @@
-/* The header from C: the structs' sizes and offsets, and every call on document 01's sample. Prints a line for each call; a
- * wrong value ends the program with the line's number. */
+/* The header from C and from C++: the structs' sizes and offsets, and every call on document 01's sample. Prints a line for each
+ * call; a wrong value ends the program with the line's number. */
 #include "canceller.h"
 
 #include <stdio.h>
 #include <stdlib.h>
 #include <string.h>
 
+#ifdef __cplusplus
+#define _Static_assert static_assert
+#endif
 #define FIELD(type, field, place) _Static_assert(offsetof(type, field) == 8 * (place), #type "." #field)
 #define SIZE(type, words) _Static_assert(sizeof(type) == 8 * (words), #type)
 
