@@ -110,9 +110,33 @@ fn planned_answer(reply: &Reply<Plan>) -> CPlanned {
     })
 }
 
+fn written_answer(reply: &Reply<Vec<u8>>) -> CWritten {
+    answer(reply, |file| CWritten {
+        refusal: 0,
+        length: file.len() as u64,
+    })
+}
+
 /// What success puts over the front of a lent list; nothing in a refusal.
 fn front<T, E>(reply: &Reply<T>, of: impl FnOnce(&T) -> &[E]) -> &[E] {
     reply.as_ref().map_or(&[], of)
+}
+
+/// Lays the slices against the fences: an input as it is, a list to be written filled.
+fn lay(fences: &mut [Fenced; 4], lend: &[Lend], fill: u8) -> Vec<Lent> {
+    let lay_one = |(slice, fence): (&Lend, &mut Fenced)| {
+        let (bytes, known, before) = slice.laid();
+        let memory = fence.bytes(bytes);
+        match before {
+            true => memory.copy_from_slice(known),
+            false => memory.fill(fill),
+        }
+        Lent {
+            at: memory.as_mut_ptr(),
+            bytes,
+        }
+    };
+    lend.iter().zip(fences).map(lay_one).collect()
 }
 
 impl Both {
@@ -140,22 +164,7 @@ impl Both {
         make: impl Fn(&[Lent]) -> A,
     ) {
         for (fences, fill) in self.fences.iter_mut().zip([0xA7, 0x58]) {
-            let mut lent = [Lent {
-                at: std::ptr::null_mut(),
-                bytes: 0,
-            }; 4];
-            for ((slice, fence), l) in lend.iter().zip(fences.iter_mut()).zip(&mut lent) {
-                let (bytes, known, before) = slice.laid();
-                let memory = fence.bytes(bytes);
-                memory.fill(fill);
-                if before {
-                    memory.copy_from_slice(known);
-                }
-                *l = Lent {
-                    at: memory.as_mut_ptr(),
-                    bytes,
-                };
-            }
+            let lent = lay(fences, lend, fill);
             let got = make(&lent);
             assert!(
                 got == want,
@@ -245,10 +254,7 @@ impl Both {
     /// The set writer, with an output of `room` bytes.
     pub fn write_set(&mut self, content: &Content, room: usize) -> Reply<Vec<u8>> {
         let reply = write_set(content, room);
-        let want = answer(&reply, |file| CWritten {
-            refusal: 0,
-            length: file.len() as u64,
-        });
+        let want = written_answer(&reply);
         let lend = [
             Lend::Words(&content.spread),
             Lend::Bytes(&content.values),
@@ -359,10 +365,7 @@ impl Both {
     /// The plan writer, with an output of `room` bytes.
     pub fn write_plan(&mut self, plan: &Plan, room: usize) -> Reply<Vec<u8>> {
         let reply = write_plan(plan, room);
-        let want = answer(&reply, |file| CWritten {
-            refusal: 0,
-            length: file.len() as u64,
-        });
+        let want = written_answer(&reply);
         let lend = [
             Lend::Words(&plan.words),
             Lend::Output(room, front(&reply, |file| file)),

@@ -149,29 +149,31 @@ fn document_000_section_2_the_share_of_signatures_that_pass() {
     assert_eq!(passing, 16);
 }
 
+// One slice of 18 chains, a chain to a cell; X1 to X4 stand in cells 1, 4, 7 and 18. The text prints
+//   M1 = X1 + O3 + O8 + O13,  M6 = O2 + X3 + X4,  M1 + M3 + M5 = O3 + O5 + O8 + O10 + O12 + O13 + O15 + O17
+const IN_M1: [usize; 3] = [3, 8, 13];
+const IN_SUM: [usize; 8] = [3, 5, 8, 10, 12, 13, 15, 17];
+
+/// The spread words of figure 1. What the text leaves open (M2 and M4 of the known cells) is chosen so that none is 0.
+fn figure_1() -> Vec<u64> {
+    let word = |cell: usize| match cell {
+        1 => 27,
+        4 => 2,
+        7 => 54,
+        18 => 32,
+        _ => {
+            let m1 = u64::from(IN_M1.contains(&cell));
+            let m6 = u64::from(cell == 2) << 5;
+            let m5 = (u64::from(IN_SUM.contains(&cell)) ^ m1) << 4;
+            m1 | m6 | m5 | 2
+        }
+    };
+    (1..=18).map(word).collect()
+}
+
 #[test]
 fn document_000_figure_1_from_the_printed_equations() {
-    // One slice of 18 chains, a chain to a cell; X1 to X4 stand in cells 1, 4, 7 and 18. The text prints
-    //   M1 = X1 + O3 + O8 + O13,  M6 = O2 + X3 + X4,  M1 + M3 + M5 = O3 + O5 + O8 + O10 + O12 + O13 + O15 + O17;
-    // what it leaves open (M2 and M4 of the known cells) is chosen here so that no spread word is 0.
-    let in_m1 = [3, 8, 13];
-    let in_sum = [3, 5, 8, 10, 12, 13, 15, 17];
-    let mut spread = Vec::new();
-    for cell in 1..=18usize {
-        let word = match cell {
-            1 => 27,
-            4 => 2,
-            7 => 54,
-            18 => 32,
-            _ => {
-                let m1 = u64::from(in_m1.contains(&cell));
-                let m6 = u64::from(cell == 2) << 5;
-                let m5 = (u64::from(in_sum.contains(&cell)) ^ m1) << 4;
-                m1 | m6 | m5 | 2
-            }
-        };
-        spread.push(word);
-    }
+    let spread = figure_1();
     let unknown = [0, 3, 6, 17];
     let set = one_slice(6, &spread, &unknown);
     let mut both = Both::at("000, figure 1");
@@ -181,11 +183,11 @@ fn document_000_figure_1_from_the_printed_equations() {
         let y = both.sign(&set, &cells(18, &[cell - 1])).unwrap();
         let unknown_cell = unknown.contains(&(cell - 1));
         if !unknown_cell {
-            assert_eq!(y & 1 == 1, in_m1.contains(&cell), "O{cell} in M1");
+            assert_eq!(y & 1 == 1, IN_M1.contains(&cell), "O{cell} in M1");
             assert_eq!(y >> 5 & 1 == 1, cell == 2, "O{cell} in M6");
         }
         let judged = both.judge(&plan, y).unwrap();
-        let in_word = !unknown_cell && in_sum.contains(&cell);
+        let in_word = !unknown_cell && IN_SUM.contains(&cell);
         assert_eq!(
             judged.cancelled >> 1 & 1 == 1,
             in_word,

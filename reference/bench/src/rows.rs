@@ -344,6 +344,19 @@ pub const ELIMINATIONS: [(usize, usize); 7] = [
     (131_072, 64),
 ];
 
+/// The calls with one size.
+const OTHERS: [fn() -> Row; 9] = [
+    reader,
+    || stretch(false),
+    || stretch(true),
+    signature,
+    set_writer,
+    one_clock,
+    judging,
+    plan_reader,
+    plan_writer,
+];
+
 /// The whole table, row by row.
 pub fn print_all() {
     for unknowns in [63, 500, 4_096, 131_072] {
@@ -352,20 +365,8 @@ pub fn print_all() {
     for (unknowns, rank) in PLANNINGS {
         planning(512, unknowns, rank, inputs_for(unknowns)).print();
     }
-    let rows: [fn() -> Row; 7] = [
-        reader,
-        signature,
-        set_writer,
-        one_clock,
-        judging,
-        plan_reader,
-        plan_writer,
-    ];
-    for row in rows {
+    for row in OTHERS {
         row().print();
-    }
-    for marks in [false, true] {
-        stretch(marks).print();
     }
     for (count, rank) in ELIMINATIONS {
         elimination(count, rank, inputs_for(count)).print();
@@ -397,19 +398,8 @@ mod tests {
 
     #[test]
     fn all_sides_of_the_other_calls_agree() {
-        let rows = [
-            reader,
-            signature,
-            set_writer,
-            one_clock,
-            judging,
-            plan_reader,
-            plan_writer,
-        ];
-        for row in rows {
+        for row in OTHERS {
             agree(row(), "an answer");
         }
-        agree(stretch(false), "an answer");
-        agree(stretch(true), "an answer");
     }
 }
