@@ -31,7 +31,7 @@ caught_by() {
         echo "nothing compiles"
         return
     fi
-    sed -n 's/^test \(.*\) \.\.\. FAILED$/\1/p' "$log" | sort
+    sed -n 's/^test \(.*\) \.\.\. FAILED$/\1/p' "$log" | sort -u
 }
 
 [ -z "$(caught_by)" ] || { echo "the tests fail without a fault"; exit 1; }
