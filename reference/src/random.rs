@@ -87,17 +87,28 @@ pub fn rows(r: &mut Random, n: usize, s: usize, one: usize, of: usize) -> Vec<u8
     rows
 }
 
-/// Rows of n chains with exactly `count` cells 1.
-fn rows_with(r: &mut Random, n: usize, s: usize, count: usize) -> Vec<u8> {
-    let mut cells: Vec<usize> = (0..n * s).collect();
+/// Rows of n chains with exactly `count` cells 1, all of them in these chains.
+fn rows_with(r: &mut Random, n: usize, s: usize, chains: &[usize], count: usize) -> Vec<u8> {
+    let mut cells: Vec<usize> = (0..chains.len() * s).collect();
     let mut rows = vec![0u8; record_length(n, s)];
     for i in 0..count {
         let other = i + r.below(cells.len() - i);
         cells.swap(i, other);
-        let (t, c) = (cells[i] / n, cells[i] % n);
+        let (t, c) = (cells[i] / chains.len(), chains[cells[i] % chains.len()]);
         rows[row_bytes(n) * t + c / 8] |= 1 << (c % 8);
     }
     rows
+}
+
+/// Some of n things: `count` different numbers below n.
+fn some_of(r: &mut Random, n: usize, count: usize) -> Vec<usize> {
+    let mut all: Vec<usize> = (0..n).collect();
+    for i in 0..count {
+        let other = i + r.below(n - i);
+        all.swap(i, other);
+    }
+    all.truncate(count);
+    all
 }
 
 /// Values for a content with these marks: half of the known cells are 1.
@@ -137,7 +148,9 @@ fn polynomial(r: &mut Random, degree: usize) -> u128 {
 /// A good content with exactly `unknowns` unknown cells, whose columns have exactly this rank, 1 to m.
 ///
 /// A state is a polynomial, and a clock multiplies it by x modulo x^m + the tap word. Where that is the product of d and a
-/// polynomial of degree `rank`, the multiples of d are `rank` dimensions that no clock leaves: the spread words are such multiples.
+/// polynomial of degree `rank`, the multiples of d are `rank` dimensions that no clock leaves. The unknown cells stand in chains
+/// whose spread words are such multiples; half of the chains, where that leaves cells enough, have none and any spread word: were
+/// the known cells' words multiples too, every signature would be explained and every expected bit 0.
 pub fn content_of_rank(
     r: &mut Random,
     (m, n, s): (usize, usize, usize),
@@ -147,9 +160,12 @@ pub fn content_of_rank(
     loop {
         let divisor = polynomial(r, m - rank);
         let modulus = product(divisor, polynomial(r, rank));
-        let multiple = |r: &mut Random| product(divisor, u128::from(r.some_within(rank))) as u64;
-        let spread = (0..n).map(|_| multiple(r)).collect();
-        let marks = rows_with(r, n, s, unknowns);
+        let chains = some_of(r, n, unknowns.div_ceil(s).max(n.div_ceil(2)));
+        let mut spread: Vec<u64> = (0..n).map(|_| r.some_within(m)).collect();
+        for &c in &chains {
+            spread[c] = product(divisor, u128::from(r.some_within(rank))) as u64;
+        }
+        let marks = rows_with(r, n, s, &chains, unknowns);
         let content = Content {
             m: m as u64,
             taps: modulus as u64 & (u64::MAX >> (64 - m)),
@@ -214,11 +230,8 @@ pub fn columns_of_rank(r: &mut Random, m: usize, rank: usize, count: usize) -> V
         let chosen = (0..basis.len()).filter(|i| choice >> i & 1 == 1);
         columns.push(chosen.fold(0, |a, i| a ^ basis[i]));
     }
-    for i in 0..count {
-        let other = i + r.below(count - i);
-        columns.swap(i, other);
-    }
-    columns
+    let order = some_of(r, count, count);
+    order.into_iter().map(|i| columns[i]).collect()
 }
 
 /// A good content of random small size.

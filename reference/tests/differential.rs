@@ -92,6 +92,7 @@ fn the_largest_sets() {
 fn the_largest_sets_with_plans_of_every_rank() {
     // more unknown cells than 512 and fewer: the library makes their columns in two ways
     let mut both = Both::new();
+    let (mut expecting, mut failing) = (0, 0);
     for rank in 1..64 {
         let mut r = Random::new(31_000 + rank as u64);
         let unknowns = r.pick(&[rank, 90, 511, 512, 513, 700, 1_500]).max(rank);
@@ -104,17 +105,27 @@ fn the_largest_sets_with_plans_of_every_rank() {
         let short = both.plan(&file, unknowns, 63 - rank);
         assert_eq!(short, Err(18), "{}", both.at);
         let written = both.write_plan(&plan, 526).unwrap();
-        let passing = both.sign(&file, &c.values).unwrap();
-        assert_eq!(both.judge(&written, passing).unwrap().fails_at, None);
+        let good = both.sign(&file, &c.values).unwrap();
+        let passes = both.judge(&written, good).unwrap().fails_at;
+        assert_eq!(passes, None, "{}", both.at);
+        let any = both.sign(&file, &record(&mut r, 256, 512)).unwrap();
+        let verdict = both.judge(&written, any).unwrap().fails_at;
+        expecting += u64::from(plan.expected != 0);
+        failing += u64::from(verdict.is_some());
     }
     // three plans for each rank, one of them refused for want of room
     assert_eq!(both.accepted("plan"), 66);
+    // one word is 0 and passes by chance half of the time, more words less often
+    assert!(
+        expecting >= 58 && failing >= 58,
+        "{expecting} plans expect a 1, {failing} random records fail"
+    );
 }
 
 #[test]
 fn plans_of_every_width_and_rank() {
     let mut both = Both::new();
-    let mut refused = 0;
+    let (mut refused, mut expecting) = (0, 0);
     for m in 1..=64 {
         let mut r = Random::new(33_000 + m as u64);
         for rank in [1, 1 + r.below(m), 1 + r.below(m), m] {
@@ -126,14 +137,15 @@ fn plans_of_every_width_and_rank() {
             both.at = format!("m {m}, n {n}, s {s}, rank {rank}, {unknowns} unknown cells");
             let c = content_of_rank(&mut r, (m, n, s), rank, unknowns);
             let planned = both.plan(&file_of(&c), unknowns, 64);
+            expecting += u64::from(planned.as_ref().is_ok_and(|p| p.expected != 0));
             assert_eq!(planned.err(), (rank == m).then_some(17), "{}", both.at);
             refused += u64::from(rank == m);
         }
     }
     let answers = both.seen("plan", 0);
     assert!(
-        answers > 90 && refused > 30,
-        "{answers} plans, {refused} refused"
+        answers > 90 && refused > 30 && expecting > 70,
+        "{answers} plans, {expecting} of them expect a 1, {refused} refused"
     );
 }
 

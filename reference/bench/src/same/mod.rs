@@ -1,5 +1,6 @@
 //! The library's own algorithms in ordinary Rust, thresholds and tables included, to measure what proof and Rattle's compiler cost.
-//! Built for plain x86-64, as the library is. A file here is a crate of the library, a function the function of the same name.
+//! Built for plain x86-64, as the library is. The files follow its crates, and a function that does what one of the library's does has
+//! its name.
 
 pub mod elimination;
 pub mod plan;
