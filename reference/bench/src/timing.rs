@@ -53,10 +53,12 @@ impl Times {
     }
 }
 
-/// How many digits behind the point a value with this noise has; negative where even the ones are noise. Three figures at the most.
+/// How many digits behind the point a value with this noise has; negative where even the ones are noise. One figure at least and
+/// three at the most.
 fn digits(value: f64, noise: f64) -> i32 {
+    let first = -value.log10().floor() as i32;
     let by_noise = -noise.max(value / 1000.0).log10().floor() as i32;
-    by_noise.min(2 - value.log10().floor() as i32)
+    by_noise.clamp(first, first + 2)
 }
 
 fn rounded(value: f64, digits: i32) -> String {
@@ -114,5 +116,6 @@ mod tests {
         assert_eq!(of(&[9.4, 9.7, 9.8, 10.2]), "9.8 ± 0.3");
         assert_eq!(of(&[230.0, 246.0, 247.0, 270.0]), "250 ± 10");
         assert_eq!(of(&[1.0, 1.0, 1.0, 1.0]), "1.00 ± 0.01");
+        assert_eq!(of(&[20.0, 25.0, 31.0, 300.0]), "30 ± 140");
     }
 }
