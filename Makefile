@@ -3,9 +3,10 @@
 # make lib    the static library for C and Rust: target/staticlib/libcanceller.a (header: include/canceller.h)
 # make soak SECONDS=60   random calls by the library and the second implementation
 # make bench  the benchmark's tables, and the picture docs/growth.svg
+# make faults  each fault of reference/faults/ put into the second implementation, and what the tests say of it (not in the gate)
 # make bench-instructions   instructions of each call, by valgrind's callgrind
 # make fmt    lay every source out as the gate asks
-.PHONY: run test lib soak bench bench-instructions fmt tools rust-tools
+.PHONY: run test lib soak faults bench bench-instructions fmt tools rust-tools
 
 SECONDS ?= 60
 
@@ -23,7 +24,10 @@ lib: tools
 	rt staticlib canceller
 
 soak: lib rust-tools
-	cargo run --offline --release --manifest-path reference/Cargo.toml --bin soak -- $(SECONDS)
+	cargo run --offline --release --manifest-path reference/Cargo.toml -p reference --bin soak -- $(SECONDS)
+
+faults: lib rust-tools
+	scripts/faults.sh
 
 bench: lib rust-tools
 	scripts/bench.sh
@@ -31,12 +35,13 @@ bench: lib rust-tools
 bench-instructions: lib rust-tools
 	scripts/bench.sh instructions
 
-fmt: tools
+fmt: tools rust-tools
 	rt fmt
+	cargo fmt --all --manifest-path reference/Cargo.toml
 
 tools:
 	@command -v rt >/dev/null || { echo "rt, the command of the Rattle kit, is not on the path"; exit 1; }
 
 rust-tools:
 	@command -v cargo >/dev/null || { echo "cargo is not on the path: the Rust tests need it"; exit 1; }
-	@command -v cc >/dev/null || { echo "cc is not on the path: the test of the C header needs it"; exit 1; }
+	@for c in cc c++ nm; do command -v $$c >/dev/null || { echo "$$c is not on the path: the tests of the C header need it"; exit 1; }; done

@@ -1,6 +1,7 @@
 #!/usr/bin/env bash
 # Builds what the benchmark links, and runs it. M4RI and PARI are used where their headers are installed
-# (Debian: apt-get install libm4ri-dev libpari-dev); without them their columns say so.
+# (Debian: apt-get install libm4ri-dev libpari-dev); one that isn't is named and left out of the table. One that is there and
+# doesn't compile is an error.
 #   scripts/bench.sh               the tables, and the picture docs/growth.svg
 #   scripts/bench.sh instructions  instructions of each call by valgrind's callgrind, ours and the same algorithm in Rust
 set -euo pipefail
@@ -8,27 +9,38 @@ cd "$(dirname "$0")/.."
 
 mkdir -p target/bench
 rm -f target/bench/*.so
-build() { # name, define, libraries
-    cc -O2 -shared -fPIC "-D$2" -o "target/bench/lib$1.so" reference/bench/libraries.c $3 2>/dev/null || true
+build() { # library, header, define, what it links, package
+    if ! echo "#include <$2>" | cc -E - >/dev/null 2>&1; then
+        echo "$2 is not there (Debian: $5): the table goes without $1" >&2
+        return 0
+    fi
+    # shellcheck disable=SC2086
+    cc -O2 -shared -fPIC "-D$3" -o "target/bench/lib$1.so" reference/bench/src/libraries.c $4 || {
+        echo "$2 is there, but reference/bench/src/libraries.c does not compile with it" >&2
+        return 1
+    }
 }
-build bench_m4ri HAVE_M4RI "-lm4ri -lm"
-build bench_pari HAVE_PARI "-lpari -lm"
 
-cargo build --offline --release --manifest-path reference/Cargo.toml --bin bench
+cargo build --offline --release --manifest-path reference/Cargo.toml -p bench
 bench=reference/target/release/bench
 
 if [ "${1:-}" = instructions ]; then
-    command -v valgrind >/dev/null || { echo "valgrind is not on the path"; exit 1; }
-    count() {
-        valgrind --tool=callgrind --callgrind-out-file=/dev/null "$bench" --count "$1" 2>&1 | sed -n 's/.*Collected : //p'
+    command -v valgrind >/dev/null || { echo "valgrind is not on the path" >&2; exit 1; }
+    # what 200 calls take more than 100 do, so that making the inputs doesn't count
+    count() { # call, side, times
+        valgrind --tool=callgrind --callgrind-out-file=/dev/null "$bench" --count "$@" 2>&1 | sed -n 's/.*Collected : //p'
     }
-    base=$(count nothing)
-    printf '%-14s %12s %12s %8s\n' call ours 'in Rust' ratio
-    for call in read_set write_set clock sign list-63 list-4096 plan-63 eliminate eliminate-63 read_plan write_plan judge; do
-        ours=$((($(count "$call") - base) / 100))
-        rust=$((($(count "$call-rust") - base) / 100))
-        printf '%-14s %12d %12d %8s\n' "$call" "$ours" "$rust" "$(awk "BEGIN { printf \"%.2f\", $ours / $rust }")"
+    each() { # call, side
+        echo $((($(count "$1" "$2" 200) - $(count "$1" "$2" 100)) / 100))
+    }
+    printf '%-18s %12s %12s %8s\n' call ours 'in Rust' ratio
+    for call in $("$bench" --count); do
+        ours=$(each "$call" ours)
+        rust=$(each "$call" rust)
+        printf '%-18s %12d %12d %8s\n' "$call" "$ours" "$rust" "$(awk "BEGIN { printf \"%.2f\", $ours / $rust }")"
     done
 else
+    build bench_m4ri m4ri/m4ri.h HAVE_M4RI "-lm4ri -lm" libm4ri-dev
+    build bench_pari pari/pari.h HAVE_PARI "-lpari -lm" libpari-dev
     "$bench" docs/growth.svg
 fi

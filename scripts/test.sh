@@ -15,18 +15,20 @@ fail() {
 
 rt fmt --check || fail "a source is not laid out as 'make fmt' lays it out"
 
-# rt ci ends in a line of its own, which is counted into the last one here
-rt ci 2>&1 | tee "$out/ci" | grep -v '^[0-9]* passed, [0-9]* failed$' || true
+# rt ci ends in a line of its own, which is counted into the last one here; both that line and its exit status must be good
+{ rt ci 2>&1 && echo 0 >"$out/status" || echo $? >"$out/status"; } | tee "$out/ci" | grep -v '^[0-9]* passed, [0-9]* failed$' || true
+status=$(cat "$out/status")
 line=$(grep '^[0-9]* passed, [0-9]* failed$' "$out/ci" | tail -1 || true)
-[ -n "$line" ] || fail "rt ci did not end"
+[ -n "$line" ] || fail "rt ci did not end in its line (exit status $status)"
 proved=$(echo "$line" | cut -d' ' -f1)
 unproved=$(echo "$line" | cut -d' ' -f3)
 [ "$unproved" = 0 ] || fail "rt ci failed" "$proved" "$unproved"
+[ "$status" = 0 ] || fail "rt ci ended with exit status $status beside '$line'" "$proved"
 
 rt staticlib canceller >"$out/staticlib" 2>&1 || { cat "$out/staticlib"; fail "the static library was not built" "$proved"; }
 
 status=0
-cargo test --offline --no-fail-fast --manifest-path reference/Cargo.toml 2>&1 | tee "$out/cargo" || status=$?
+cargo test --offline --no-fail-fast --workspace --manifest-path reference/Cargo.toml 2>&1 | tee "$out/cargo" || status=$?
 tested=$(sed -n 's/^test result: .* \([0-9]*\) passed; .*/\1/p' "$out/cargo" | paste -sd+ | sed 's/^$/0/')
 broken=$(sed -n 's/^test result: .* \([0-9]*\) failed; .*/\1/p' "$out/cargo" | paste -sd+ | sed 's/^$/0/')
 tested=$((tested))

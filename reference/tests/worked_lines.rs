@@ -1,20 +1,10 @@
 //! Document 01, "Worked on paper", each line through the library beside the second implementation.
 
 use reference::both::Both;
-use reference::elimination::{eliminate, rank, reduced_list};
-use reference::library::Side;
-use reference::set::{clock, list_columns, read_set, sign};
-use std::path::Path;
-
-fn sample(name: &str) -> Vec<u8> {
-    let path = Path::new(env!("CARGO_MANIFEST_DIR"))
-        .join("../samples")
-        .join(name);
-    std::fs::read(&path).unwrap_or_else(|e| panic!("{}: {e}", path.display()))
-}
+use reference::repository::sample;
 
 fn both() -> Both {
-    Both::new(Side::End)
+    Both::at("document 01, worked on paper")
 }
 
 #[test]
@@ -26,21 +16,18 @@ fn eliminations() {
         (2, vec![0], &[1, 2]),
     ];
     for (m, columns, words) in lines {
-        both().eliminate(m, &columns, 64);
-        assert_eq!(reduced_list(m as usize, &columns), words, "m {m}");
+        let (_, listed) = both().eliminate(m, &columns, 64).unwrap();
+        assert_eq!(listed, words, "m {m}");
     }
     let sevens = vec![7; 512];
-    both().eliminate(3, &sevens, 64);
-    assert_eq!((rank(&sevens), reduced_list(3, &sevens)), (1, vec![3, 5]));
-    both().eliminate(1, &[1], 64);
-    assert_eq!(eliminate(1, &[1], 64), Err(17));
+    assert_eq!(both().eliminate(3, &sevens, 64), Ok((1, vec![3, 5])));
+    assert_eq!(both().eliminate(1, &[1], 64), Err(17));
 }
 
 #[test]
 fn clocks() {
     for (state, next) in [(4, 3), (7, 5)] {
-        both().clock(3, 3, state, &[1, 4], &[0]);
-        assert_eq!(clock(3, 3, state, &[1, 4], &[0]), Ok(next));
+        assert_eq!(both().clock(3, 3, state, &[1, 4], &[0]), Ok(next));
     }
 }
 
@@ -49,12 +36,11 @@ fn the_sample() {
     let set = sample("sample.set");
     assert_eq!(set.len(), 34);
     let mut both = both();
-    both.read_set(&set);
-    both.list_columns(&set, 1);
-    assert_eq!(list_columns(&set, 1), Ok(vec![3]));
+    both.read_set(&set).unwrap();
+    assert_eq!(both.list_columns(&set, 1), Ok(vec![3]));
     let p = both.plan(&set, 1, 2).unwrap();
     assert_eq!((p.m, p.words.clone(), p.expected), (3, vec![3, 4], 0));
-    let plan = both.write_plan(p.m, &p.words, p.expected, 23).unwrap();
+    let plan = both.write_plan(&p, 23).unwrap();
     for (y, verdict) in [(3, None), (0, None), (1, Some(0)), (7, Some(1))] {
         assert_eq!(
             both.judge(&plan, y).unwrap().fails_at,
@@ -66,8 +52,7 @@ fn the_sample() {
         ("sample-unknown-0.record", 3),
         ("sample-unknown-1.record", 0),
     ] {
-        both.sign(&set, &sample(record)).unwrap();
-        assert_eq!(sign(&set, &sample(record)), Ok(y), "{record}");
+        assert_eq!(both.sign(&set, &sample(record)), Ok(y), "{record}");
     }
 }
 
@@ -85,10 +70,7 @@ fn edges() {
         ("slices-513.set", Err(7)),
     ];
     for (name, answer) in lines {
-        let set = sample(name);
-        both().read_set(&set);
-        assert_eq!(read_set(&set).map(|_| ()), answer, "{name}");
+        assert_eq!(both().read_set(&sample(name)), answer, "{name}");
     }
-    both().sign(&sample("slices-0.set"), &[]).unwrap();
-    assert_eq!(sign(&sample("slices-0.set"), &[]), Ok(0));
+    assert_eq!(both().sign(&sample("slices-0.set"), &[]), Ok(0));
 }

@@ -26,8 +26,8 @@ fn beyond(m: u32, w: u64) -> bool {
     m < 64 && w >> m != 0
 }
 
-/// The set reader, checking cell by cell.
-pub fn read_set(set: &[u8]) -> Result<PlainSet<'_>, u64> {
+/// The register and the chains: m, the tap word and the spread words.
+fn read_head(set: &[u8]) -> Result<(u32, u64, Vec<u64>), u64> {
     if set.len() < 10 {
         return Err(1);
     }
@@ -50,6 +50,18 @@ pub fn read_set(set: &[u8]) -> Result<PlainSet<'_>, u64> {
     if spread.iter().any(|&w| w == 0 || beyond(m, w)) {
         return Err(6);
     }
+    Ok((m, taps, spread))
+}
+
+/// Whether a row has a spare bit set.
+fn spare(row: &[u8], n: usize) -> bool {
+    (n..8 * row.len()).any(|c| bit(row, c))
+}
+
+/// The set reader, checking cell by cell.
+pub fn read_set(set: &[u8]) -> Result<PlainSet<'_>, u64> {
+    let (m, taps, spread) = read_head(set)?;
+    let n = spread.len();
     if set.len() < 14 + 8 * n || count(set, 12 + 8 * n) > 512 {
         return Err(7);
     }
@@ -59,12 +71,8 @@ pub fn read_set(set: &[u8]) -> Result<PlainSet<'_>, u64> {
         return Err(8);
     }
     let rows = &set[14 + 8 * n..];
-    for row in rows.chunks(b) {
-        for c in n..8 * b {
-            if bit(row, c) {
-                return Err(9);
-            }
-        }
+    if rows.chunks(b).any(|row| spare(row, n)) {
+        return Err(9);
     }
     for slice in rows.chunks(2 * b) {
         for c in 0..n {

@@ -1,6 +1,6 @@
 //! The reduced list by elimination over rows, and by trying every combination at small widths.
 
-use crate::*;
+use super::*;
 
 /// Whether a combination shares an even number of bits with every column.
 pub fn x_free(word: u64, columns: &[u64]) -> bool {
@@ -83,24 +83,14 @@ pub fn rank(columns: &[u64]) -> u64 {
 
 /// The elimination call: rank and words, or the number, for a lent list of `room` places.
 pub fn eliminate(m: u64, columns: &[u64], room: usize) -> Reply<(u64, Vec<u64>)> {
-    if m < 1 || m > 64 {
-        return Err(2);
-    }
+    refuse_if(m < 1 || m > 64, 2)?;
     let width = m as usize;
-    if columns.iter().any(|&c| beyond(c, width)) {
-        return Err(15);
-    }
+    refuse_if(columns.iter().any(|&c| beyond(c, width)), 15)?;
     let rank = rank(columns);
-    if rank > m {
-        return Err(16);
-    }
+    refuse_if(rank > m, 16)?;
     let words = reduced_list(width, columns);
-    if words.is_empty() {
-        return Err(17);
-    }
-    if room < words.len() {
-        return Err(18);
-    }
+    refuse_if(words.is_empty(), 17)?;
+    refuse_if(room < words.len(), 18)?;
     Ok((rank, words))
 }
 
