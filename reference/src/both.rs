@@ -1,466 +1,407 @@
-//! Every call made twice, by the proved library and by the second implementation, and all that comes back compared: the answer,
-//! every lent list whole, and that what was lent to be read is as it was.
+//! Every call made by the second implementation once and by the proved library twice, with its slices against the fence behind
+//! them and against the fence in front, and all that comes back compared: the answer, every lent list whole, and that what was
+//! lent to be read is as it was.
 
-use crate::elimination::eliminate;
+use crate::fence::{Fenced, SIDES};
 use crate::library::*;
-use crate::plan::{judge, read_plan_into, write_plan, Judged};
-use crate::planning::plan;
-use crate::set::{clock, list_columns, read_set, row_place, sign, write_set};
-use crate::*;
+use crate::second::elimination::eliminate;
+use crate::second::plan::{judge, read_plan_into, write_plan, Judged, Plan};
+use crate::second::planning::plan;
+use crate::second::set::{clock, list_columns, read_set, row_place, sign, write_set, Content, Row};
+use crate::second::{word_of, Reply};
+use std::collections::BTreeMap;
 
-/// What a lent list holds before a call.
-const PATTERN: u64 = 0xA5C3_96E1_7B2D_4F08;
-const PATTERN_BYTE: u8 = 0xA7;
+/// Each call with the numbers that it can meet by document 01, but 16, which no input gives.
+pub const MEETS: [(&str, &[u64]); 12] = [
+    ("read_set", &[1, 2, 3, 4, 5, 6, 7, 8, 9, 10]),
+    ("value_row", &[1, 2, 3, 4, 5, 6, 7, 8, 9, 10, 11]),
+    ("mark_row", &[1, 2, 3, 4, 5, 6, 7, 8, 9, 10, 11]),
+    ("write_set", &[2, 3, 4, 6, 7, 8, 9, 10, 24]),
+    ("clock", &[2, 3, 4, 6, 8, 9, 23]),
+    ("sign", &[1, 2, 3, 4, 5, 6, 7, 8, 9, 10, 12, 13]),
+    ("list_columns", &[1, 2, 3, 4, 5, 6, 7, 8, 9, 10, 14]),
+    ("eliminate", &[2, 15, 17, 18]),
+    ("plan", &[1, 2, 3, 4, 5, 6, 7, 8, 9, 10, 14, 17, 18]),
+    ("write_plan", &[19, 20, 21, 22, 24]),
+    ("read_plan", &[18, 19, 20, 21, 22]),
+    ("judge", &[19, 20, 21, 22, 23]),
+];
+
+/// A slice to lend.
+enum Lend<'a> {
+    /// To be read.
+    Bytes(&'a [u8]),
+    Words(&'a [u64]),
+    /// To be written: bytes or words of room, and what the front must hold after the call.
+    Output(usize, &'a [u8]),
+    List(usize, &'a [u64]),
+}
+
+fn as_bytes(words: &[u64]) -> &[u8] {
+    unsafe { std::slice::from_raw_parts(words.as_ptr() as *const u8, 8 * words.len()) }
+}
+
+impl Lend<'_> {
+    /// Its bytes, those that are known after the call, and whether they are there before it too.
+    fn laid(&self) -> (usize, &[u8], bool) {
+        match self {
+            Lend::Bytes(bytes) => (bytes.len(), bytes, true),
+            Lend::Words(words) => (8 * words.len(), as_bytes(words), true),
+            Lend::Output(room, front) => (*room, front, false),
+            Lend::List(room, front) => (8 * room, as_bytes(front), false),
+        }
+    }
+}
+
+/// A slice as it is lent, for either type.
+#[derive(Clone, Copy)]
+struct Lent {
+    at: *mut u8,
+    bytes: usize,
+}
+
+impl Lent {
+    fn bytes(&self) -> (*const u8, usize) {
+        (self.at, self.bytes)
+    }
+
+    fn words(&self) -> (*const u64, usize) {
+        (self.at as *const u64, self.bytes / 8)
+    }
+
+    fn output(&self) -> (*mut u8, usize) {
+        (self.at, self.bytes)
+    }
+
+    fn list(&self) -> (*mut u64, usize) {
+        (self.at as *mut u64, self.bytes / 8)
+    }
+}
 
 /// The two implementations, with fenced memory for the library's slices.
 pub struct Both {
-    fences: [Fenced; 4],
-    /// Calls made so far.
-    pub calls: u64,
+    fences: [[Fenced; 4]; 2],
+    /// How often each call was compared, by the number it gave; 0 for an answer.
+    seen: BTreeMap<(&'static str, u64), u64>,
     /// What the test is at, for the message of a failure.
     pub at: String,
 }
 
-/// A lent list of `room` places in which `front` was written.
-fn lent<T: Copy>(front: &[T], pattern: T, room: usize) -> Vec<T> {
-    let mut list = vec![pattern; room];
-    list[..front.len()].copy_from_slice(front);
-    list
+impl Default for Both {
+    fn default() -> Both {
+        Both::new()
+    }
+}
+
+/// The answer of the boundary for a reply of the second implementation.
+fn answer<T, A: Answer>(reply: &Reply<T>, of: impl FnOnce(&T) -> A) -> A {
+    match reply {
+        Err(number) => A::refused(*number),
+        Ok(value) => of(value),
+    }
+}
+
+fn planned_answer(reply: &Reply<Plan>) -> CPlanned {
+    answer(reply, |p| CPlanned {
+        refusal: 0,
+        m: p.m,
+        q: p.words.len() as u64,
+        expected: p.expected,
+    })
+}
+
+fn written_answer(reply: &Reply<Vec<u8>>) -> CWritten {
+    answer(reply, |file| CWritten {
+        refusal: 0,
+        length: file.len() as u64,
+    })
+}
+
+/// What success puts over the front of a lent list; nothing in a refusal.
+fn front<T, E>(reply: &Reply<T>, of: impl FnOnce(&T) -> &[E]) -> &[E] {
+    reply.as_ref().map_or(&[], of)
+}
+
+/// Lays the slices against the fences: an input as it is, a list to be written filled.
+fn lay(fences: &mut [Fenced; 4], lend: &[Lend], fill: u8) -> Vec<Lent> {
+    let lay_one = |(slice, fence): (&Lend, &mut Fenced)| {
+        let (bytes, known, before) = slice.laid();
+        let memory = fence.bytes(bytes);
+        match before {
+            true => memory.copy_from_slice(known),
+            false => memory.fill(fill),
+        }
+        Lent {
+            at: memory.as_mut_ptr(),
+            bytes,
+        }
+    };
+    lend.iter().zip(fences).map(lay_one).collect()
 }
 
 impl Both {
-    pub fn new(side: Side) -> Both {
-        let mut fences = [0, 1, 2, 3].map(|_| Fenced::new(4096 * 16));
-        for f in &mut fences {
-            f.side = side;
-        }
+    pub fn new() -> Both {
         Both {
-            fences,
-            calls: 0,
+            fences: SIDES.map(|side| [0; 4].map(|_| Fenced::new(side, 4096 * 16))),
+            seen: BTreeMap::new(),
             at: String::new(),
         }
     }
 
-    fn same<T: PartialEq + std::fmt::Debug>(&mut self, call: &str, library: T, second: T) {
-        self.calls += 1;
-        assert!(
-            library == second,
-            "{call}, {}: the library gives {library:?}, the second implementation {second:?}",
-            self.at
-        );
+    pub fn at(at: &str) -> Both {
+        let mut both = Both::new();
+        both.at = at.to_string();
+        both
     }
 
-    fn kept<T: PartialEq + std::fmt::Debug>(&self, call: &str, lent: &[T], before: &[T]) {
-        assert!(
-            lent == before,
-            "{call}, {}: the library changed what it was lent to read",
-            self.at
-        );
-    }
-
-    /// The set reader. This and those below give the number, 0 for an answer, where they give nothing else.
-    pub fn read_set(&mut self, set: &[u8]) -> u64 {
-        let [a, ..] = &mut self.fences;
-        let lent_set = a.put(set);
-        let got = unsafe { canceller_read_set(lent_set.as_ptr(), lent_set.len()) };
-        let same = lent_set == set;
-        let mut want = CSet {
-            refusal: 0,
-            m: 0,
-            taps: 0,
-            n: 0,
-            s: 0,
-            spread: [0; 256],
-        };
-        match read_set(set) {
-            Err(n) => want.refusal = n,
-            Ok(read) => {
-                want.m = read.circuit.m as u64;
-                want.taps = word_of(&read.circuit.taps);
-                want.n = read.n() as u64;
-                want.s = read.s() as u64;
-                for (c, w) in read.circuit.spread.iter().enumerate() {
-                    want.spread[c] = word_of(w);
-                }
+    /// The library's call on both sides of the fenced memory, held to `want`, to the lists as they must be left, and to the inputs
+    /// as they were. What is not known of a lent list is filled before the call, and must be filled so after it.
+    fn compare<A: Answer>(
+        &mut self,
+        call: &'static str,
+        lend: &[Lend],
+        want: A,
+        make: impl Fn(&[Lent]) -> A,
+    ) {
+        for (fences, fill) in self.fences.iter_mut().zip([0xA7, 0x58]) {
+            let lent = lay(fences, lend, fill);
+            let got = make(&lent);
+            assert!(
+                got == want,
+                "{call}, {}: the library gives {got:?}, the second implementation {want:?}",
+                self.at
+            );
+            for ((i, slice), fence) in lend.iter().enumerate().zip(fences.iter_mut()) {
+                let (bytes, known, _) = slice.laid();
+                let (front, rest) = fence.bytes(bytes).split_at(known.len());
+                assert!(
+                    front == known && rest.iter().all(|&b| b == fill),
+                    "{call}, {}: slice {i} is not left as the second implementation says",
+                    self.at
+                );
             }
         }
-        assert!(same, "read_set, {}: the set was changed", self.at);
-        self.same("read_set", got, want);
-        want.refusal
+        *self.seen.entry((call, want.refusal())).or_insert(0) += 1;
+    }
+
+    /// How many calls were compared.
+    pub fn compared(&self) -> u64 {
+        self.seen.values().sum()
+    }
+
+    /// How many comparisons of this call gave this number; 0 counts its answers.
+    pub fn seen(&self, call: &str, number: u64) -> u64 {
+        let there = self.seen.iter().find(|(k, _)| **k == (call, number));
+        there.map_or(0, |(_, count)| *count)
+    }
+
+    /// Of a hundred comparisons of this call, how many were answers.
+    pub fn accepted(&self, call: &str) -> u64 {
+        let of_call = self.seen.iter().filter(|((name, _), _)| *name == call);
+        100 * self.seen(call, 0) / of_call.map(|(_, count)| count).sum::<u64>().max(1)
+    }
+
+    /// Every call and number with its count.
+    pub fn all_seen(&self) -> impl Iterator<Item = (&'static str, u64, u64)> + '_ {
+        self.seen
+            .iter()
+            .map(|(&(call, n), &count)| (call, n, count))
+    }
+
+    /// The set reader.
+    pub fn read_set(&mut self, set: &[u8]) -> Reply<()> {
+        let reply = read_set(set);
+        let want = answer(&reply, |read| {
+            let mut want = CSet::refused(0);
+            want.m = read.circuit.m as u64;
+            want.taps = word_of(&read.circuit.taps);
+            want.n = read.n() as u64;
+            want.s = read.s() as u64;
+            for (w, bits) in want.spread.iter_mut().zip(&read.circuit.spread) {
+                *w = word_of(bits);
+            }
+            want
+        });
+        self.compare("read_set", &[Lend::Bytes(set)], want, |lent| {
+            let (set, set_len) = lent[0].bytes();
+            unsafe { canceller_read_set(set, set_len) }
+        });
+        reply.map(|_| ())
     }
 
     /// Both row calls.
-    pub fn rows(&mut self, set: &[u8], slice: u64) -> u64 {
-        let mut number = 0;
-        for mark in 0..2 {
-            let lent_set = self.fences[0].put(set);
-            let got = unsafe {
-                match mark {
-                    0 => canceller_value_row(lent_set.as_ptr(), lent_set.len(), slice),
-                    _ => canceller_mark_row(lent_set.as_ptr(), lent_set.len(), slice),
-                }
-            };
-            let want = match row_place(set, slice, mark) {
-                Err(n) => CStretch {
-                    refusal: n,
-                    start: 0,
-                    length: 0,
-                },
-                Ok((start, length)) => CStretch {
-                    refusal: 0,
-                    start: start as u64,
-                    length: length as u64,
-                },
-            };
-            self.same("row", got, want);
-            number = want.refusal;
-        }
-        number
+    pub fn rows(&mut self, set: &[u8], slice: u64) -> Reply<()> {
+        let place = |row| row_place(set, slice, row);
+        let want = |row| {
+            answer(&place(row), |&(start, length)| CStretch {
+                refusal: 0,
+                start: start as u64,
+                length: length as u64,
+            })
+        };
+        let lend = [Lend::Bytes(set)];
+        self.compare("value_row", &lend, want(Row::Values), |lent| {
+            let (set, set_len) = lent[0].bytes();
+            unsafe { canceller_value_row(set, set_len, slice) }
+        });
+        self.compare("mark_row", &lend, want(Row::Marks), |lent| {
+            let (set, set_len) = lent[0].bytes();
+            unsafe { canceller_mark_row(set, set_len, slice) }
+        });
+        place(Row::Values).map(|_| ())
     }
 
     /// The set writer, with an output of `room` bytes.
-    #[allow(clippy::too_many_arguments)]
-    pub fn write_set(
+    pub fn write_set(&mut self, content: &Content, room: usize) -> Reply<Vec<u8>> {
+        let reply = write_set(content, room);
+        let want = written_answer(&reply);
+        let lend = [
+            Lend::Words(&content.spread),
+            Lend::Bytes(&content.values),
+            Lend::Bytes(&content.marks),
+            Lend::Output(room, front(&reply, |file| file)),
+        ];
+        let (m, taps, s) = (content.m, content.taps, content.s);
+        self.compare("write_set", &lend, want, |lent| {
+            let ((spread, n), (out, out_len)) = (lent[0].words(), lent[3].output());
+            let ((values, values_len), (marks, marks_len)) = (lent[1].bytes(), lent[2].bytes());
+            unsafe {
+                canceller_write_set(
+                    m, taps, spread, n, values, values_len, marks, marks_len, s, out, out_len,
+                )
+            }
+        });
+        reply
+    }
+
+    /// One clock. A refusal hands the state back.
+    pub fn clock(
         &mut self,
         m: u64,
         taps: u64,
+        state: u64,
         spread: &[u64],
-        values: &[u8],
-        marks: &[u8],
-        s: u64,
-        room: usize,
-    ) -> Reply<Vec<u8>> {
-        let [a, b, c, d] = &mut self.fences;
-        let (ls, lv, lk) = (a.put(spread), b.put(values), c.put(marks));
-        let out = d.put(&vec![PATTERN_BYTE; room]);
-        let got = unsafe {
-            canceller_write_set(
-                m,
-                taps,
-                ls.as_ptr(),
-                ls.len(),
-                lv.as_ptr(),
-                lv.len(),
-                lk.as_ptr(),
-                lk.len(),
-                s,
-                out.as_mut_ptr(),
-                out.len(),
-            )
+        row: &[u8],
+    ) -> Reply<u64> {
+        let reply = clock(m, taps, state, spread, row);
+        let want = CClocked {
+            refusal: reply.err().unwrap_or(0),
+            state: reply.unwrap_or(state),
         };
-        let left = out.to_vec();
-        let same = ls == spread && lv == values && lk == marks;
-        let want = write_set(m, taps, spread, values, marks, s, room);
-        let (pair, list) = match &want {
-            Err(n) => (
-                CPair {
-                    refusal: *n,
-                    value: 0,
-                },
-                lent(&[], PATTERN_BYTE, room),
-            ),
-            Ok(file) => (
-                CPair {
-                    refusal: 0,
-                    value: file.len() as u64,
-                },
-                lent(file, PATTERN_BYTE, room),
-            ),
-        };
-        assert!(same, "write_set, {}: an input was changed", self.at);
-        self.same("write_set", (got, left), (pair, list));
-        want
-    }
-
-    /// One clock.
-    pub fn clock(&mut self, m: u64, taps: u64, state: u64, spread: &[u64], row: &[u8]) -> u64 {
-        let [a, b, ..] = &mut self.fences;
-        let (ls, lr) = (a.put(spread), b.put(row));
-        let got = unsafe {
-            canceller_clock(m, taps, state, ls.as_ptr(), ls.len(), lr.as_ptr(), lr.len())
-        };
-        let want = match clock(m, taps, state, spread, row) {
-            Err(n) => CPair {
-                refusal: n,
-                value: state,
-            },
-            Ok(next) => CPair {
-                refusal: 0,
-                value: next,
-            },
-        };
-        self.same("clock", got, want);
-        want.refusal
+        let lend = [Lend::Words(spread), Lend::Bytes(row)];
+        self.compare("clock", &lend, want, |lent| {
+            let ((spread, n), (row, row_len)) = (lent[0].words(), lent[1].bytes());
+            unsafe { canceller_clock(m, taps, state, spread, n, row, row_len) }
+        });
+        reply
     }
 
     /// A record's signature.
     pub fn sign(&mut self, set: &[u8], record: &[u8]) -> Reply<u64> {
-        let [a, b, ..] = &mut self.fences;
-        let (ls, lr) = (a.put(set), b.put(record));
-        let got = unsafe { canceller_sign(ls.as_ptr(), ls.len(), lr.as_ptr(), lr.len()) };
-        let (ls, lr) = (ls.to_vec(), lr.to_vec());
-        self.kept("sign", &ls, set);
-        self.kept("sign", &lr, record);
-        let want = sign(set, record);
-        let pair = match want {
-            Err(n) => CPair {
-                refusal: n,
-                value: 0,
-            },
-            Ok(y) => CPair {
-                refusal: 0,
-                value: y,
-            },
-        };
-        self.same("sign", got, pair);
-        want
+        let reply = sign(set, record);
+        let want = answer(&reply, |&signature| CSigned {
+            refusal: 0,
+            signature,
+        });
+        let lend = [Lend::Bytes(set), Lend::Bytes(record)];
+        self.compare("sign", &lend, want, |lent| {
+            let ((set, set_len), (record, record_len)) = (lent[0].bytes(), lent[1].bytes());
+            unsafe { canceller_sign(set, set_len, record, record_len) }
+        });
+        reply
     }
 
     /// The columns, with a list of `room` places.
-    pub fn list_columns(&mut self, set: &[u8], room: usize) -> u64 {
-        let [a, b, ..] = &mut self.fences;
-        let (ls, lc) = (a.put(set), b.put(&vec![PATTERN; room]));
-        let got =
-            unsafe { canceller_list_columns(ls.as_ptr(), ls.len(), lc.as_mut_ptr(), lc.len()) };
-        let left = lc.to_vec();
-        let (pair, list) = match list_columns(set, room) {
-            Err(n) => (
-                CPair {
-                    refusal: n,
-                    value: 0,
-                },
-                lent(&[], PATTERN, room),
-            ),
-            Ok(columns) => (
-                CPair {
-                    refusal: 0,
-                    value: columns.len() as u64,
-                },
-                lent(&columns, PATTERN, room),
-            ),
-        };
-        self.same("list_columns", (got, left), (pair, list));
-        pair.refusal
+    pub fn list_columns(&mut self, set: &[u8], room: usize) -> Reply<Vec<u64>> {
+        let reply = list_columns(set, room);
+        let want = answer(&reply, |columns| CListed {
+            refusal: 0,
+            count: columns.len() as u64,
+        });
+        let list = front(&reply, |columns| columns);
+        let lend = [Lend::Bytes(set), Lend::List(room, list)];
+        self.compare("list_columns", &lend, want, |lent| {
+            let ((set, set_len), (columns, columns_len)) = (lent[0].bytes(), lent[1].list());
+            unsafe { canceller_list_columns(set, set_len, columns, columns_len) }
+        });
+        reply
     }
 
     /// The elimination, with a list of `room` places.
-    pub fn eliminate(&mut self, m: u64, columns: &[u64], room: usize) -> u64 {
-        let [a, b, ..] = &mut self.fences;
-        let (lc, lw) = (a.put(columns), b.put(&vec![PATTERN; room]));
-        let got =
-            unsafe { canceller_eliminate(m, lc.as_ptr(), lc.len(), lw.as_mut_ptr(), lw.len()) };
-        let left = lw.to_vec();
-        let lc = lc.to_vec();
-        self.kept("eliminate", &lc, columns);
-        let (answer, list) = match eliminate(m, columns, room) {
-            Err(n) => (
-                CEliminated {
-                    refusal: n,
-                    rank: 0,
-                    q: 0,
-                },
-                lent(&[], PATTERN, room),
-            ),
-            Ok((rank, words)) => (
-                CEliminated {
-                    refusal: 0,
-                    rank,
-                    q: words.len() as u64,
-                },
-                lent(&words, PATTERN, room),
-            ),
-        };
-        self.same("eliminate", (got, left), (answer, list));
-        answer.refusal
+    pub fn eliminate(&mut self, m: u64, columns: &[u64], room: usize) -> Reply<(u64, Vec<u64>)> {
+        let reply = eliminate(m, columns, room);
+        let want = answer(&reply, |(rank, words)| CEliminated {
+            refusal: 0,
+            rank: *rank,
+            q: words.len() as u64,
+        });
+        let list = front(&reply, |(_, words)| words);
+        let lend = [Lend::Words(columns), Lend::List(room, list)];
+        self.compare("eliminate", &lend, want, |lent| {
+            let ((columns, columns_len), (words, words_len)) = (lent[0].words(), lent[1].list());
+            unsafe { canceller_eliminate(m, columns, columns_len, words, words_len) }
+        });
+        reply
     }
 
-    /// Planning, with lists of these many places. Gives m, the words and the expected bits.
-    pub fn plan(
-        &mut self,
-        set: &[u8],
-        column_room: usize,
-        word_room: usize,
-    ) -> Reply<planning::Planned> {
-        let [a, b, c, ..] = &mut self.fences;
-        let (ls, lc, lw) = (
-            a.put(set),
-            b.put(&vec![PATTERN; column_room]),
-            c.put(&vec![PATTERN; word_room]),
-        );
-        let got = unsafe {
-            canceller_plan(
-                ls.as_ptr(),
-                ls.len(),
-                lc.as_mut_ptr(),
-                lc.len(),
-                lw.as_mut_ptr(),
-                lw.len(),
-            )
-        };
-        let (columns_left, words_left) = (lc.to_vec(), lw.to_vec());
-        let want = plan(set, column_room, word_room);
-        let columns = lent(&want.columns.unwrap_or_default(), PATTERN, column_room);
-        let (answer, words) = match &want.reply {
-            Err(n) => (
-                CPlanned {
-                    refusal: *n,
-                    m: 0,
-                    q: 0,
-                    expected: 0,
-                },
-                lent(&[], PATTERN, word_room),
-            ),
-            Ok(p) => (
-                CPlanned {
-                    refusal: 0,
-                    m: p.m,
-                    q: p.words.len() as u64,
-                    expected: p.expected,
-                },
-                lent(&p.words, PATTERN, word_room),
-            ),
-        };
-        self.same(
-            "plan",
-            (got, columns_left, words_left),
-            (answer, columns, words),
-        );
-        want.reply
+    /// Planning, with lists of these many places.
+    pub fn plan(&mut self, set: &[u8], column_room: usize, word_room: usize) -> Reply<Plan> {
+        let planning = plan(set, column_room, word_room);
+        let columns = planning.columns.unwrap_or_default();
+        let reply = planning.reply;
+        let lend = [
+            Lend::Bytes(set),
+            Lend::List(column_room, &columns),
+            Lend::List(word_room, front(&reply, |p| &p.words)),
+        ];
+        self.compare("plan", &lend, planned_answer(&reply), |lent| {
+            let (set, set_len) = lent[0].bytes();
+            let ((columns, columns_len), (words, words_len)) = (lent[1].list(), lent[2].list());
+            unsafe { canceller_plan(set, set_len, columns, columns_len, words, words_len) }
+        });
+        reply
     }
 
     /// The plan writer, with an output of `room` bytes.
-    pub fn write_plan(
-        &mut self,
-        m: u64,
-        words: &[u64],
-        expected: u64,
-        room: usize,
-    ) -> Reply<Vec<u8>> {
-        let [a, b, ..] = &mut self.fences;
-        let (lw, out) = (a.put(words), b.put(&vec![PATTERN_BYTE; room]));
-        let got = unsafe {
-            canceller_write_plan(
-                m,
-                lw.as_ptr(),
-                lw.len(),
-                expected,
-                out.as_mut_ptr(),
-                out.len(),
-            )
-        };
-        let left = out.to_vec();
-        let want = write_plan(m, words, expected, room);
-        let (pair, list) = match &want {
-            Err(n) => (
-                CPair {
-                    refusal: *n,
-                    value: 0,
-                },
-                lent(&[], PATTERN_BYTE, room),
-            ),
-            Ok(file) => (
-                CPair {
-                    refusal: 0,
-                    value: file.len() as u64,
-                },
-                lent(file, PATTERN_BYTE, room),
-            ),
-        };
-        self.same("write_plan", (got, left), (pair, list));
-        want
+    pub fn write_plan(&mut self, plan: &Plan, room: usize) -> Reply<Vec<u8>> {
+        let reply = write_plan(plan, room);
+        let want = written_answer(&reply);
+        let lend = [
+            Lend::Words(&plan.words),
+            Lend::Output(room, front(&reply, |file| file)),
+        ];
+        self.compare("write_plan", &lend, want, |lent| {
+            let ((words, words_len), (out, out_len)) = (lent[0].words(), lent[1].output());
+            unsafe { canceller_write_plan(plan.m, words, words_len, plan.expected, out, out_len) }
+        });
+        reply
     }
 
     /// The plan reader, with a list of `room` places.
-    pub fn read_plan(&mut self, plan: &[u8], room: usize) -> u64 {
-        let [a, b, ..] = &mut self.fences;
-        let (lp, lw) = (a.put(plan), b.put(&vec![PATTERN; room]));
-        let got = unsafe { canceller_read_plan(lp.as_ptr(), lp.len(), lw.as_mut_ptr(), lw.len()) };
-        let left = lw.to_vec();
-        let (answer, words) = match read_plan_into(plan, room) {
-            Err(n) => (
-                CPlanned {
-                    refusal: n,
-                    m: 0,
-                    q: 0,
-                    expected: 0,
-                },
-                lent(&[], PATTERN, room),
-            ),
-            Ok(p) => (
-                CPlanned {
-                    refusal: 0,
-                    m: p.m,
-                    q: p.words.len() as u64,
-                    expected: p.expected,
-                },
-                lent(&p.words, PATTERN, room),
-            ),
-        };
-        self.same("read_plan", (got, left), (answer, words));
-        answer.refusal
+    pub fn read_plan(&mut self, plan: &[u8], room: usize) -> Reply<Plan> {
+        let reply = read_plan_into(plan, room);
+        let list = front(&reply, |p| &p.words);
+        let lend = [Lend::Bytes(plan), Lend::List(room, list)];
+        self.compare("read_plan", &lend, planned_answer(&reply), |lent| {
+            let ((plan, plan_len), (words, words_len)) = (lent[0].bytes(), lent[1].list());
+            unsafe { canceller_read_plan(plan, plan_len, words, words_len) }
+        });
+        reply
     }
 
     /// Judging.
     pub fn judge(&mut self, plan: &[u8], signature: u64) -> Reply<Judged> {
-        let lp = self.fences[0].put(plan);
-        let got = unsafe { canceller_judge(lp.as_ptr(), lp.len(), signature) };
-        let want = judge(plan, signature);
-        let answer = match want {
-            Err(n) => CJudged {
-                refusal: n,
-                cancelled: 0,
-                failed: 0,
-                index: 0,
-            },
-            Ok(j) => CJudged {
-                refusal: 0,
-                cancelled: j.cancelled,
-                failed: u64::from(j.fails_at.is_some()),
-                index: j.fails_at.unwrap_or(0),
-            },
-        };
-        self.same("judge", got, answer);
-        want
-    }
-
-    /// Every call on a set and a record: with enough room, and with lists around what is needed.
-    pub fn every_call(&mut self, set: &[u8], record: &[u8], unknowns: usize) {
-        self.read_set(set);
-        self.sign(set, record).ok();
-        let slices =
-            number_at(set, 12 + 8 * number_at(set, 10, 2).unwrap_or(0) as usize, 2).unwrap_or(0);
-        for slice in [0, slices / 2, slices.wrapping_sub(1), slices, u64::MAX] {
-            self.rows(set, slice);
-        }
-        for room in [unknowns, unknowns + 3, unknowns.saturating_sub(1), 0] {
-            self.list_columns(set, room);
-        }
-        let planned = self.plan(set, unknowns, 64);
-        self.plan(set, unknowns.saturating_sub(1), 64).ok();
-        if let Ok(p) = planned {
-            let q = p.words.len();
-            for room in [q, q - 1, q + 1] {
-                self.plan(set, unknowns + 1, room).ok();
-            }
-            self.planned(&p, record.len());
-        }
-    }
-
-    /// A plan through its writer, its reader and judging.
-    fn planned(&mut self, p: &planning::Planned, extra: usize) {
-        let q = p.words.len();
-        let length = 6 + 8 * q + row_bytes(q);
-        for room in [length - 1, length + extra % 5, 0] {
-            self.write_plan(p.m, &p.words, p.expected, room).ok();
-        }
-        let file = self
-            .write_plan(p.m, &p.words, p.expected, length)
-            .expect("a plan that planning made");
-        for room in [q, q - 1, q + 2, 0] {
-            self.read_plan(&file, room);
-        }
-        for y in [0, 1, p.words[0], p.words[q - 1], p.expected, u64::MAX] {
-            self.judge(&file, y).ok();
-        }
+        let reply = judge(plan, signature);
+        let want = answer(&reply, |j| CJudged {
+            refusal: 0,
+            cancelled: j.cancelled,
+            failed: u64::from(j.fails_at.is_some()),
+            index: j.fails_at.unwrap_or(0),
+        });
+        self.compare("judge", &[Lend::Bytes(plan)], want, |lent| {
+            let (plan, plan_len) = lent[0].bytes();
+            unsafe { canceller_judge(plan, plan_len, signature) }
+        });
+        reply
     }
 }

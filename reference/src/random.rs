@@ -1,7 +1,7 @@
-//! Deterministic random numbers, and random sets, records and plans made of them.
+//! Deterministic random numbers, and random sets, records, columns and plans made of them.
 
-use crate::set::write_set;
-use crate::*;
+use crate::second::layout::{record_length, row_bytes};
+use crate::second::set::{write_set, Content};
 
 /// xorshift64*, from a seed that a failing test prints.
 #[derive(Clone)]
@@ -57,36 +57,20 @@ impl Random {
     pub fn taps(&mut self, m: usize) -> u64 {
         self.within(m) | 1
     }
-
-    pub fn bytes(&mut self, count: usize) -> Vec<u8> {
-        (0..count).map(|_| self.word() as u8).collect()
-    }
 }
 
-/// What a set is made of, as the set writer takes it.
-#[derive(Clone, Debug)]
-pub struct Content {
-    pub m: u64,
-    pub taps: u64,
-    pub spread: Vec<u64>,
-    pub values: Vec<u8>,
-    pub marks: Vec<u8>,
-    pub s: u64,
+/// The file of a good content.
+pub fn file_of(content: &Content) -> Vec<u8> {
+    write_set(content, usize::MAX).expect("a good content")
 }
 
-impl Content {
-    pub fn file(&self) -> Vec<u8> {
-        write_set(
-            self.m,
-            self.taps,
-            &self.spread,
-            &self.values,
-            &self.marks,
-            self.s,
-            usize::MAX,
-        )
-        .expect("a good content")
-    }
+/// How many cells a content marks as unknown.
+pub fn unknowns_of(content: &Content) -> usize {
+    ones(&content.marks)
+}
+
+fn ones(rows: &[u8]) -> usize {
+    rows.iter().map(|b| b.count_ones() as usize).sum()
 }
 
 /// Rows of n chains in which `one` of `of` cells is 1 and no spare bit is set.
@@ -103,21 +87,151 @@ pub fn rows(r: &mut Random, n: usize, s: usize, one: usize, of: usize) -> Vec<u8
     rows
 }
 
+/// Rows of n chains with exactly `count` cells 1, all of them in these chains.
+fn rows_with(r: &mut Random, n: usize, s: usize, chains: &[usize], count: usize) -> Vec<u8> {
+    let mut cells: Vec<usize> = (0..chains.len() * s).collect();
+    let mut rows = vec![0u8; record_length(n, s)];
+    for i in 0..count {
+        let other = i + r.below(cells.len() - i);
+        cells.swap(i, other);
+        let (t, c) = (cells[i] / chains.len(), chains[cells[i] % chains.len()]);
+        rows[row_bytes(n) * t + c / 8] |= 1 << (c % 8);
+    }
+    rows
+}
+
+/// Some of n things: `count` different numbers below n.
+fn some_of(r: &mut Random, n: usize, count: usize) -> Vec<usize> {
+    let mut all: Vec<usize> = (0..n).collect();
+    for i in 0..count {
+        let other = i + r.below(n - i);
+        all.swap(i, other);
+    }
+    all.truncate(count);
+    all
+}
+
+/// Values for a content with these marks: half of the known cells are 1.
+fn values_beside(r: &mut Random, n: usize, s: usize, marks: &[u8]) -> Vec<u8> {
+    let mut values = rows(r, n, s, 1, 2);
+    for (v, k) in values.iter_mut().zip(marks) {
+        *v &= !k;
+    }
+    values
+}
+
 /// A good content with m bits, n chains and s slices, `one` of `of` cells unknown.
 pub fn content(r: &mut Random, m: usize, n: usize, s: usize, one: usize, of: usize) -> Content {
     let marks = rows(r, n, s, one, of);
-    let mut values = rows(r, n, s, 1, 2);
-    for (v, k) in values.iter_mut().zip(&marks) {
-        *v &= !k;
-    }
     Content {
         m: m as u64,
         taps: r.taps(m),
         spread: (0..n).map(|_| r.some_within(m)).collect(),
-        values,
+        values: values_beside(r, n, s, &marks),
         marks,
         s: s as u64,
     }
+}
+
+/// The product of two polynomials over GF(2).
+fn product(a: u128, b: u128) -> u128 {
+    (0..=64)
+        .filter(|i| b >> i & 1 == 1)
+        .fold(0, |sum, i| sum ^ a << i)
+}
+
+/// A polynomial of this degree with bit 0 set.
+fn polynomial(r: &mut Random, degree: usize) -> u128 {
+    u128::from(r.within(degree)) | 1 | 1 << degree
+}
+
+/// A good content with exactly `unknowns` unknown cells, whose columns have exactly this rank, 1 to m.
+///
+/// A state is a polynomial, and a clock multiplies it by x modulo x^m + the tap word. Where that is the product of d and a
+/// polynomial of degree `rank`, the multiples of d are `rank` dimensions that no clock leaves. The unknown cells stand in chains
+/// whose spread words are such multiples; half of the chains, where that leaves cells enough, have none and any spread word: were
+/// the known cells' words multiples too, every signature would be explained and every expected bit 0.
+pub fn content_of_rank(
+    r: &mut Random,
+    (m, n, s): (usize, usize, usize),
+    rank: usize,
+    unknowns: usize,
+) -> Content {
+    loop {
+        let divisor = polynomial(r, m - rank);
+        let modulus = product(divisor, polynomial(r, rank));
+        let chains = some_of(r, n, unknowns.div_ceil(s).max(n.div_ceil(2)));
+        let mut spread: Vec<u64> = (0..n).map(|_| r.some_within(m)).collect();
+        for &c in &chains {
+            spread[c] = product(divisor, u128::from(r.some_within(rank))) as u64;
+        }
+        let marks = rows_with(r, n, s, &chains, unknowns);
+        let content = Content {
+            m: m as u64,
+            taps: modulus as u64 & (u64::MAX >> (64 - m)),
+            spread,
+            values: values_beside(r, n, s, &marks),
+            marks,
+            s: s as u64,
+        };
+        if rank_of(&swept_columns(&content)) == rank {
+            return content;
+        }
+    }
+}
+
+/// The columns of a content, from the last slice to the first.
+fn swept_columns(content: &Content) -> Vec<u64> {
+    let (m, n) = (content.m, content.spread.len());
+    let mut words = content.spread.clone();
+    let mut columns = Vec::new();
+    for row in content.marks.chunks(row_bytes(n)).rev() {
+        let marked = (0..n).filter(|c| row[c / 8] >> (c % 8) & 1 == 1);
+        columns.extend(marked.map(|c| words[c]));
+        for w in &mut words {
+            let feedback = if *w >> (m - 1) & 1 == 1 {
+                content.taps
+            } else {
+                0
+            };
+            *w = (*w << 1 & (u64::MAX >> (64 - m))) ^ feedback;
+        }
+    }
+    columns
+}
+
+fn rank_of(words: &[u64]) -> usize {
+    let mut by_top = [0u64; 64];
+    for &word in words {
+        let mut left = word;
+        while left != 0 {
+            let top = left.ilog2() as usize;
+            if by_top[top] == 0 {
+                by_top[top] = left;
+            }
+            left ^= by_top[top];
+        }
+    }
+    by_top.iter().filter(|w| **w != 0).count()
+}
+
+/// `count` columns of m bits and of exactly this rank, or of rank `count` where that is less.
+pub fn columns_of_rank(r: &mut Random, m: usize, rank: usize, count: usize) -> Vec<u64> {
+    let mut basis: Vec<u64> = Vec::new();
+    while basis.len() < rank.min(count) {
+        basis.push(r.within(m));
+        if rank_of(&basis) < basis.len() {
+            basis.pop();
+        }
+    }
+    let mut columns = basis.clone();
+    for _ in basis.len()..count {
+        let choice = r.word();
+        let chosen = (0..basis.len()).filter(|i| choice >> i & 1 == 1);
+        columns.push(chosen.fold(0, |a, i| a ^ basis[i]));
+    }
+    let order = some_of(r, count, count);
+    order.into_iter().map(|i| columns[i]).collect()
 }
 
 /// A good content of random small size.
@@ -131,7 +245,7 @@ pub fn small_content(
     let n = 1 + r.below(largest_n);
     let s = r.below(largest_s + 1);
     let of = r.pick(&[1, 2, 3, 8, 30]);
-    let one = r.below(2).min(of);
+    let one = usize::from(!r.one_in(4));
     content(r, m, n, s, one, of)
 }
 

@@ -1,11 +1,14 @@
-/* The header from C: the structs' sizes and offsets, and every call on document 01's sample. Prints a line for each call; a
- * wrong value ends the program with the line's number. */
+/* The header from C and from C++: the structs' sizes and offsets, and every call on document 01's sample. Prints a line for each
+ * call; a wrong value ends the program with the line's number. */
 #include "canceller.h"
 
 #include <stdio.h>
 #include <stdlib.h>
 #include <string.h>
 
+#ifdef __cplusplus
+#define _Static_assert static_assert
+#endif
 #define FIELD(type, field, place) _Static_assert(offsetof(type, field) == 8 * (place), #type "." #field)
 #define SIZE(type, words) _Static_assert(sizeof(type) == 8 * (words), #type)
 
@@ -55,10 +58,12 @@ static void must(int holds, int line) {
 }
 #define MUST(x) must((x), __LINE__)
 
-int main(void) {
-    const uint64_t spread[2] = {1, 4};
+static const uint64_t spread[2] = {1, 4};
+static uint8_t set[40], plan[CANCELLER_PLAN_MAX];
+static uint64_t columns[3] = {9, 9, 9}, words[4] = {8, 8, 8, 8};
+
+static void sets(void) {
     const uint8_t values[2] = {1, 1}, marks[2] = {2, 0};
-    uint8_t set[40];
     memset(set, 0xEE, sizeof set);
     canceller_written written = canceller_write_set(3, 3, spread, 2, values, 2, marks, 2, 2, set, sizeof set);
     MUST(written.refusal == 0 && written.length == 34);
@@ -78,6 +83,11 @@ int main(void) {
     MUST(row.refusal == 11 && row.start == 0 && row.length == 0);
     printf("rows found\n");
 
+    MUST(canceller_read_set(NULL, 0).refusal == 1);
+    MUST(CANCELLER_SET_MAX == 14 + 8 * CANCELLER_CHAINS_MAX + 2 * 32 * CANCELLER_SLICES_MAX);
+}
+
+static void responses(void) {
     const uint8_t none[1] = {0};
     canceller_clocked clocked = canceller_clock(3, 3, 4, spread, 2, none, 1);
     MUST(clocked.refusal == 0 && clocked.state == 3);
@@ -93,12 +103,13 @@ int main(void) {
     MUST(canceller_sign(set, 34, NULL, 0).refusal == 12);
     printf("signed: %d and %d\n", (int)first.signature, (int)second.signature);
 
-    uint64_t columns[3] = {9, 9, 9}, words[4] = {8, 8, 8, 8};
     canceller_listed listed = canceller_list_columns(set, 34, columns, 3);
     MUST(listed.refusal == 0 && listed.count == 1 && columns[0] == 3 && columns[1] == 9);
     MUST(canceller_list_columns(set, 34, NULL, 0).refusal == 14);
     printf("column: %d\n", (int)columns[0]);
+}
 
+static void eliminations(void) {
     canceller_eliminated eliminated = canceller_eliminate(3, columns, 1, words, 4);
     MUST(eliminated.refusal == 0 && eliminated.rank == 1 && eliminated.q == 2);
     MUST(words[0] == 3 && words[1] == 4 && words[2] == 8);
@@ -106,14 +117,15 @@ int main(void) {
     MUST(eliminated.refusal == 0 && eliminated.rank == 0 && eliminated.q == 3);
     MUST(words[0] == 1 && words[1] == 2 && words[2] == 4 && words[3] == 8);
     printf("eliminated\n");
+}
 
+static void plans(void) {
     canceller_planned planned = canceller_plan(set, 34, columns, 3, words, 4);
     MUST(planned.refusal == 0 && planned.m == 3 && planned.q == 2 && planned.expected == 0);
     MUST(words[0] == 3 && words[1] == 4);
     printf("planned: words %d %d, expected %d\n", (int)words[0], (int)words[1], (int)planned.expected);
 
-    uint8_t plan[CANCELLER_PLAN_MAX];
-    written = canceller_write_plan(planned.m, words, (size_t)planned.q, planned.expected, plan, sizeof plan);
+    canceller_written written = canceller_write_plan(planned.m, words, (size_t)planned.q, planned.expected, plan, sizeof plan);
     MUST(written.refusal == 0 && written.length == 23);
     size_t plan_len = (size_t)written.length;
     uint64_t back[2] = {0, 0};
@@ -122,9 +134,11 @@ int main(void) {
     MUST(canceller_read_plan(plan, plan_len, NULL, 0).refusal == 18);
     printf("plan written and read: %d bytes\n", (int)plan_len);
 
-    canceller_judged judged = canceller_judge(plan, plan_len, first.signature);
+    MUST(CANCELLER_PLAN_MAX == 6 + 8 * CANCELLER_WIDTH_MAX + 8);
+
+    canceller_judged judged = canceller_judge(plan, plan_len, 3);
     MUST(judged.refusal == 0 && judged.failed == 0 && judged.index == 0);
-    judged = canceller_judge(plan, plan_len, second.signature);
+    judged = canceller_judge(plan, plan_len, 0);
     MUST(judged.refusal == 0 && judged.failed == 0);
     judged = canceller_judge(plan, plan_len, 1);
     MUST(judged.refusal == 0 && judged.failed == 1 && judged.index == 0 && judged.cancelled == 1);
@@ -134,8 +148,12 @@ int main(void) {
     MUST(judged.refusal == 23 && judged.cancelled == 0 && judged.failed == 0 && judged.index == 0);
     MUST(canceller_judge(NULL, 0, 0).refusal == 19);
     printf("judged\n");
-    MUST(canceller_read_set(NULL, 0).refusal == 1);
-    MUST(CANCELLER_SET_MAX == 14 + 8 * CANCELLER_CHAINS_MAX + 2 * 32 * CANCELLER_SLICES_MAX);
-    MUST(CANCELLER_PLAN_MAX == 6 + 8 * CANCELLER_WIDTH_MAX + 8);
+}
+
+int main(void) {
+    sets();
+    responses();
+    eliminations();
+    plans();
     return 0;
 }

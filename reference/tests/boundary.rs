@@ -1,65 +1,175 @@
-//! The C program over include/canceller.h and the static library.
+//! The C header: compiled as C and as C++ and called on the sample, and held to the Rust declarations and to what the static
+//! library exports.
 
-use std::path::{Path, PathBuf};
+use reference::repository::{repository, text};
+use std::collections::BTreeMap;
+use std::path::Path;
 use std::process::Command;
 
-fn repository() -> PathBuf {
-    Path::new(env!("CARGO_MANIFEST_DIR")).join("..")
-}
-
-/// Compiles the program, strictly, with `compiler` and runs it.
-fn run(compiler: &str, standard: &str, name: &str) -> String {
+/// Compiles boundary.c, strictly, and runs it.
+fn run(compiler: &str, language: [&str; 2], name: &str) -> String {
     let out = Path::new(env!("CARGO_TARGET_TMPDIR")).join(name);
     let built = Command::new(compiler)
-        .args([standard, "-Wall", "-Wextra", "-Werror", "-O1"])
+        .args(["-Wall", "-Wextra", "-pedantic", "-Werror", "-O1"])
+        .args(language)
         .arg("-I")
         .arg(repository().join("include"))
-        .arg(Path::new(env!("CARGO_MANIFEST_DIR")).join("tests/boundary.c"))
+        .arg(repository().join("reference/tests/boundary.c"))
+        .args(["-x", "none"])
         .arg(repository().join("target/staticlib/libcanceller.a"))
         .arg("-o")
         .arg(&out)
         .output()
         .unwrap_or_else(|e| panic!("{compiler} could not be started: {e}"));
-    assert!(
-        built.status.success(),
-        "{}",
-        String::from_utf8_lossy(&built.stderr)
-    );
-    let ran = Command::new(&out).output().expect("the C program starts");
+    let messages = String::from_utf8_lossy(&built.stderr);
+    assert!(built.status.success(), "{messages}");
+    let ran = Command::new(&out).output().expect("the program starts");
     let text = String::from_utf8(ran.stdout).unwrap();
     assert!(ran.status.success(), "{text}");
     text
 }
 
+const LINES: &str = "set written: 34 bytes\nset read\nrows found\nclocked\nsigned: 3 and 0\ncolumn: 3\neliminated\n\
+                     planned: words 3 4, expected 0\nplan written and read: 23 bytes\njudged\n";
+
 #[test]
-fn the_c_program_calls_every_function_on_the_sample() {
-    let lines = "set written: 34 bytes\nset read\nrows found\nclocked\nsigned: 3 and 0\ncolumn: 3\neliminated\n\
-                 planned: words 3 4, expected 0\nplan written and read: 23 bytes\njudged\n";
-    assert_eq!(run("cc", "-std=c11", "boundary"), lines);
+fn a_c_program_calls_every_function_on_the_sample() {
+    assert_eq!(run("cc", ["-std=c11", "-xc"], "boundary_c"), LINES);
 }
 
 #[test]
-fn the_header_says_what_the_library_defines() {
-    let header = std::fs::read_to_string(repository().join("include/canceller.h")).unwrap();
-    let source = std::fs::read_to_string(repository().join("crates/canceller/src/lib.rt")).unwrap();
-    let named = |text: &str, start: &str| -> Vec<String> {
-        text.match_indices(start)
-            .map(|(i, _)| {
-                text[i..]
-                    .chars()
-                    .skip(start.len() - 10)
-                    .take_while(|c| c.is_alphanumeric() || *c == '_')
-                    .collect()
-            })
-            .collect()
-    };
-    let mut exported = named(&source, "extern \"C\" fn canceller_");
-    exported.sort();
-    assert_eq!(exported.len(), 12);
-    for name in &exported {
-        assert!(
-            header.contains(&format!(" {name}(")),
-            "the header does not declare {name}"
-        );
+fn a_cpp_program_calls_every_function_on_the_sample() {
+    assert_eq!(run("c++", ["-std=c++11", "-xc++"], "boundary_cpp"), LINES);
+}
+
+/// A declared thing: the fields of a struct, or a function's parameters with its answer last. Each is a name and a type, written
+/// as Rust writes it.
+type Declared = BTreeMap<String, Vec<(String, String)>>;
+
+fn without_comments(header: &str) -> String {
+    let mut parts = header.split("/*");
+    let mut text = parts.next().unwrap_or_default().to_string();
+    for part in parts {
+        text += part.split_once("*/").expect("a comment that ends").1;
     }
+    let lines = text.lines().filter(|l| !l.starts_with('#'));
+    lines.collect::<Vec<&str>>().join(" ")
+}
+
+/// The Rust name of the header's struct `canceller_name`: CName.
+fn struct_name(name: &str) -> String {
+    let name = name.trim().strip_prefix("canceller_").expect(name);
+    format!("C{}{}", name[..1].to_uppercase(), &name[1..])
+}
+
+/// A declaration of C: its name, and its type as Rust writes it.
+fn of_c(declaration: &str) -> (String, String) {
+    let end = |c: char| c == ' ' || c == '*';
+    let (c_type, name) = declaration.trim().rsplit_once(end).expect(declaration);
+    let pointer = declaration.contains('*');
+    let (mutable, c_type) = match c_type.trim().strip_prefix("const ") {
+        Some(rest) => ("*const ", rest),
+        None => ("*mut ", c_type),
+    };
+    let value = match c_type.trim_matches(end) {
+        "uint8_t" => "u8",
+        "uint64_t" => "u64",
+        "size_t" => "usize",
+        other => panic!("{other} in {declaration}"),
+    };
+    match name.split_once('[') {
+        Some((name, n)) => (name.into(), format!("[{value}; {n}")),
+        None if pointer => (name.into(), format!("{mutable}{value}")),
+        None => (name.into(), value.into()),
+    }
+}
+
+/// The structs and functions of the header.
+fn in_header() -> (Declared, Declared) {
+    let header = without_comments(&text("include/canceller.h"));
+    let (mut structs, mut functions) = (Declared::new(), Declared::new());
+    for part in header.split("typedef struct {").skip(1) {
+        let (fields, rest) = part.split_once('}').expect("a struct that ends");
+        let (c_type, names) = fields.trim().split_once(' ').expect(fields);
+        let names = names.trim_end_matches(';').split(',');
+        let fields = names.map(|name| of_c(&format!("{c_type} {}", name.trim())));
+        let name = rest.split(';').next().unwrap();
+        structs.insert(struct_name(name), fields.collect());
+    }
+    for statement in header.split(';').filter(|s| s.contains('(')) {
+        let (head, parameters) = statement.split_once('(').unwrap();
+        let (answer, name) = head.trim().rsplit_once(' ').expect(head);
+        let answer = answer.rsplit(['{', '}']).next().unwrap();
+        let parameters = parameters.trim_end_matches([')', ' ']).split(',');
+        let mut all: Vec<(String, String)> = parameters.map(of_c).collect();
+        all.push(("answer".into(), struct_name(answer)));
+        functions.insert(name.into(), all);
+    }
+    (structs, functions)
+}
+
+/// The names and types of `name: type,` in turn.
+fn of_rust(list: &str) -> Vec<(String, String)> {
+    let parts = list.split(',').map(|p| p.trim().trim_start_matches("pub "));
+    let parts = parts.filter(|p| !p.is_empty());
+    let pair = |p: &str| {
+        let (name, rust_type) = p.split_once(':').unwrap_or_else(|| panic!("{p}"));
+        (name.trim().to_string(), rust_type.trim().to_string())
+    };
+    parts.map(pair).collect()
+}
+
+/// The structs and functions of the Rust declarations.
+fn in_rust() -> (Declared, Declared) {
+    let source = text("examples/canceller.rs");
+    let (_, raw) = source.split_once("pub mod raw {").unwrap();
+    let (raw, _) = raw.split_once("\n}\n").unwrap();
+    let (mut structs, mut functions) = (Declared::new(), Declared::new());
+    for part in raw.split("pub struct ").skip(1) {
+        let (name, rest) = part.split_once(" {").unwrap();
+        let (fields, _) = rest.split_once('}').unwrap();
+        structs.insert(name.into(), of_rust(fields));
+    }
+    for part in raw.split("pub fn ").skip(1) {
+        let (name, rest) = part.split_once('(').unwrap();
+        let (parameters, rest) = rest.split_once(')').unwrap();
+        let (answer, _) = rest.split_once(';').unwrap();
+        let mut all = of_rust(parameters);
+        let answer = answer.trim().trim_start_matches("-> ");
+        all.push(("answer".into(), answer.into()));
+        functions.insert(name.into(), all);
+    }
+    (structs, functions)
+}
+
+#[test]
+fn the_header_and_the_rust_declarations_say_the_same() {
+    let ((structs, functions), (rust_structs, rust_functions)) = (in_header(), in_rust());
+    assert_eq!(structs, rust_structs);
+    assert_eq!(functions, rust_functions);
+    let parameters: usize = functions.values().map(Vec::len).sum();
+    assert!(
+        structs.len() >= 9 && functions.len() >= 12 && parameters >= 60,
+        "{structs:?} {functions:?}"
+    );
+}
+
+#[test]
+fn the_header_declares_what_the_library_exports() {
+    let listed = Command::new("nm")
+        .args(["-g", "--defined-only"])
+        .arg(repository().join("target/staticlib/libcanceller.a"))
+        .output()
+        .unwrap_or_else(|e| panic!("nm could not be started: {e}"));
+    assert!(listed.status.success(), "{listed:?}");
+    let symbols = String::from_utf8(listed.stdout).unwrap();
+    let mut exported: Vec<&str> = symbols
+        .lines()
+        .filter_map(|l| l.split_once(" T ").map(|(_, name)| name))
+        .filter(|name| name.starts_with("canceller_"))
+        .collect();
+    exported.sort();
+    let (_, functions) = in_header();
+    let declared: Vec<&String> = functions.keys().collect();
+    assert_eq!(declared, exported);
 }

@@ -3,11 +3,11 @@
 //! alike, whether or not they agree with the set.
 
 use reference::both::Both;
-use reference::elimination::x_free;
-use reference::library::Side;
 use reference::random::*;
-use reference::set::{driving, read_set, Set};
-use reference::{word_of, Bits};
+use reference::second::elimination::x_free;
+use reference::second::plan::Plan;
+use reference::second::set::{driving, read_set, Set};
+use reference::second::{word_of, Bits};
 use std::collections::BTreeSet;
 
 /// The response in which the unknown cells hold the bits of `filling`, in the order of the columns.
@@ -35,64 +35,48 @@ fn record_of(cells: &[Bits]) -> Vec<u8> {
     bytes
 }
 
+fn explained(set: &Set) -> BTreeSet<u64> {
+    (0..1u64 << set.unknowns().len())
+        .map(|filling| signature(set, &filled(set, filling)))
+        .collect()
+}
+
+/// The first word whose parity with the signature isn't its expected bit.
+fn first_to_disagree(plan: &Plan, y: u64) -> Option<u64> {
+    let disagrees =
+        |i: &usize| ((plan.words[*i] & y).count_ones() % 2 == 1) != (plan.expected >> i & 1 == 1);
+    (0..plan.words.len()).find(disagrees).map(|i| i as u64)
+}
+
 #[test]
 fn exactly_the_explained_signatures_pass() {
-    let mut both = Both::new(Side::End);
-    let (mut plans, mut refused) = (0, 0);
+    let mut both = Both::new();
     for seed in 100_000..104_000 {
         let mut r = Random::new(seed);
         both.at = format!("seed {seed}");
-        let c = small_content(&mut r, 8, 5, 3);
-        let file = c.file();
+        let file = file_of(&small_content(&mut r, 8, 5, 3));
         let set = read_set(&file).unwrap();
         let u = set.unknowns().len();
         if u > 12 {
             continue;
         }
-        let explained: BTreeSet<u64> = (0..1u64 << u)
-            .map(|f| signature(&set, &filled(&set, f)))
-            .collect();
-        let all = 1u64 << c.m;
-        match both.plan(&file, u, 64) {
-            Err(n) => {
-                assert_eq!(n, 17, "seed {seed}");
-                assert_eq!(
-                    explained.len() as u64,
-                    all,
-                    "seed {seed}: 17 although some signature is not explained"
-                );
-                refused += 1;
-            }
-            Ok(p) => {
-                assert!(
-                    (explained.len() as u64) < all,
-                    "seed {seed}: a plan although every signature is explained"
-                );
-                let plan = both
-                    .write_plan(p.m, &p.words, p.expected, 600)
-                    .expect("a plan of planning's answer");
-                for y in 0..all {
-                    let judged = both
-                        .judge(&plan, y)
-                        .expect("a signature of the register's width");
-                    assert_eq!(
-                        judged.fails_at.is_none(),
-                        explained.contains(&y),
-                        "seed {seed}, signature {y}"
-                    );
-                    let first = (0..p.words.len()).find(|&i| {
-                        ((p.words[i] & y).count_ones() % 2 == 1) != (p.expected >> i & 1 == 1)
-                    });
-                    assert_eq!(
-                        judged.fails_at,
-                        first.map(|i| i as u64),
-                        "seed {seed}, signature {y}"
-                    );
-                }
-                plans += 1;
-            }
+        let explained = explained(&set);
+        let all = 1u64 << set.circuit.m;
+        let every = explained.len() as u64 == all;
+        let planned = both.plan(&file, u, 64);
+        assert_eq!(planned.clone().err(), every.then_some(17), "seed {seed}");
+        let Ok(p) = planned else {
+            continue;
+        };
+        let plan = both.write_plan(&p, 600).expect("a plan that planning made");
+        for y in 0..all {
+            let judged = both.judge(&plan, y).expect("a signature of the width");
+            let at = judged.fails_at;
+            assert_eq!(at.is_none(), explained.contains(&y), "seed {seed}, {y}");
+            assert_eq!(at, first_to_disagree(&p, y), "seed {seed}, {y}");
         }
     }
+    let (plans, refused) = (both.seen("plan", 0), both.seen("plan", 17));
     assert!(
         plans > 1_500 && refused > 300,
         "{plans} plans and {refused} refusals are too few to show anything"
@@ -101,19 +85,19 @@ fn exactly_the_explained_signatures_pass() {
 
 #[test]
 fn records_alike_in_the_known_cells_are_judged_alike() {
-    let mut both = Both::new(Side::End);
+    let mut both = Both::new();
     let mut pairs = 0;
     for seed in 110_000..114_000 {
         let mut r = Random::new(seed);
         both.at = format!("seed {seed}");
         let c = small_content(&mut r, 16, 6, 4);
-        let file = c.file();
+        let file = file_of(&c);
         let set = read_set(&file).unwrap();
         let unknowns = set.unknowns();
         let Ok(p) = both.plan(&file, unknowns.len(), 64) else {
             continue;
         };
-        let plan = both.write_plan(p.m, &p.words, p.expected, 600).unwrap();
+        let plan = both.write_plan(&p, 600).unwrap();
         // a record that need not agree with the set, and others alike in the known cells
         let mut cells: Vec<Bits> = (0..set.s())
             .map(|_| (0..set.n()).map(|_| r.one_in(2)).collect())
@@ -137,13 +121,13 @@ fn records_alike_in_the_known_cells_are_judged_alike() {
 
 #[test]
 fn a_record_with_one_known_cell_changed_fails_or_is_explained() {
-    let mut both = Both::new(Side::End);
+    let mut both = Both::new();
     let mut failed = 0;
     for seed in 115_000..117_000 {
         let mut r = Random::new(seed);
         both.at = format!("seed {seed}");
         let c = small_content(&mut r, 12, 6, 4);
-        let file = c.file();
+        let file = file_of(&c);
         let set = read_set(&file).unwrap();
         let u = set.unknowns().len();
         let Ok(p) = both.plan(&file, u, 64) else {
@@ -152,10 +136,8 @@ fn a_record_with_one_known_cell_changed_fails_or_is_explained() {
         if u > 10 || set.s() == 0 {
             continue;
         }
-        let plan = both.write_plan(p.m, &p.words, p.expected, 600).unwrap();
-        let explained: BTreeSet<u64> = (0..1u64 << u)
-            .map(|f| signature(&set, &filled(&set, f)))
-            .collect();
+        let plan = both.write_plan(&p, 600).unwrap();
+        let explained = explained(&set);
         let mut cells = filled(&set, r.word());
         let (t, k) = (r.below(set.s()), r.below(set.n()));
         cells[t][k] = !cells[t][k];
@@ -176,12 +158,12 @@ fn a_record_with_one_known_cell_changed_fails_or_is_explained() {
 
 #[test]
 fn the_listed_words_make_every_x_free_combination_and_no_other() {
-    let mut both = Both::new(Side::End);
+    let mut both = Both::new();
     for seed in 120_000..122_000 {
         let mut r = Random::new(seed);
         both.at = format!("seed {seed}");
         let c = small_content(&mut r, 8, 5, 3);
-        let file = c.file();
+        let file = file_of(&c);
         let columns = read_set(&file).unwrap().columns();
         let words = match both.plan(&file, columns.len(), 64) {
             Ok(p) => p.words,

@@ -1,30 +1,24 @@
 //! Each number that a call can meet, by an input that gives it and nothing earlier, and beside it the input that is right by one.
 
 use reference::both::Both;
-use reference::library::Side;
-use std::path::Path;
-
-fn sample(name: &str) -> Vec<u8> {
-    let path = Path::new(env!("CARGO_MANIFEST_DIR"))
-        .join("../samples")
-        .join(format!("{name}.set"));
-    std::fs::read(&path).unwrap_or_else(|e| panic!("{}: {e}", path.display()))
-}
+use reference::repository::sample;
+use reference::second::plan::Plan;
+use reference::second::set::Content;
 
 /// The sets that give 1 to 10.
 const BAD_SETS: [(&str, u64); 12] = [
-    ("empty", 1),
-    ("bytes-9", 1),
-    ("width-0", 2),
-    ("width-65", 2),
-    ("taps-9", 3),
-    ("chains-257", 4),
-    ("spread-short", 5),
-    ("spread-0", 6),
-    ("slices-513", 7),
-    ("rows-short", 8),
-    ("spare-bit", 9),
-    ("valued-unknown", 10),
+    ("empty.set", 1),
+    ("bytes-9.set", 1),
+    ("width-0.set", 2),
+    ("width-65.set", 2),
+    ("taps-9.set", 3),
+    ("chains-257.set", 4),
+    ("spread-short.set", 5),
+    ("spread-0.set", 6),
+    ("slices-513.set", 7),
+    ("rows-short.set", 8),
+    ("spare-bit.set", 9),
+    ("valued-unknown.set", 10),
 ];
 
 fn number<T>(reply: Result<T, u64>) -> u64 {
@@ -33,20 +27,24 @@ fn number<T>(reply: Result<T, u64>) -> u64 {
 
 #[test]
 fn calls_on_sets() {
-    let mut both = Both::new(Side::End);
+    let mut both = Both::new();
     for (name, n) in BAD_SETS {
         let set = sample(name);
         both.at = name.to_string();
-        assert_eq!(both.read_set(&set), n, "{name}");
-        assert_eq!(both.rows(&set, 0), n, "{name}");
+        assert_eq!(number(both.read_set(&set)), n, "{name}");
+        assert_eq!(number(both.rows(&set, 0)), n, "{name}");
         assert_eq!(number(both.sign(&set, &[])), n, "{name}");
-        assert_eq!(both.list_columns(&set, 9), n, "{name}");
+        assert_eq!(number(both.list_columns(&set, 9)), n, "{name}");
         assert_eq!(number(both.plan(&set, 9, 9)), n, "{name}");
     }
-    let set = sample("sample");
-    both.at = "sample".to_string();
+}
+
+#[test]
+fn calls_on_the_sample_and_on_sets_at_the_edges() {
+    let mut both = Both::at("sample");
+    let set = sample("sample.set");
     for (slice, n) in [(0, 0), (1, 0), (2, 11), (u64::MAX, 11)] {
-        assert_eq!(both.rows(&set, slice), n, "slice {slice}");
+        assert_eq!(number(both.rows(&set, slice)), n, "slice {slice}");
     }
     let records: [(&[u8], u64); 6] = [
         (&[1, 1], 0),
@@ -59,69 +57,70 @@ fn calls_on_sets() {
     for (record, n) in records {
         assert_eq!(number(both.sign(&set, record)), n, "record {record:?}");
     }
-    assert_eq!(both.list_columns(&set, 1), 0);
-    assert_eq!(both.list_columns(&set, 0), 14);
+    assert_eq!(number(both.list_columns(&set, 1)), 0);
+    assert_eq!(number(both.list_columns(&set, 0)), 14);
     assert_eq!(number(both.plan(&set, 1, 2)), 0);
     assert_eq!(number(both.plan(&set, 0, 2)), 14);
     assert_eq!(number(both.plan(&set, 1, 1)), 18);
-    assert_eq!(number(both.plan(&sample("no-words"), 1, 0)), 17);
+    assert_eq!(number(both.plan(&sample("no-words.set"), 1, 0)), 17);
     for (name, n) in [
-        ("chains-256", 0),
-        ("slices-0", 0),
-        ("width-1", 0),
-        ("width-64", 0),
-        ("largest", 0),
-        ("too-long", 8),
+        ("chains-256.set", 0),
+        ("slices-0.set", 0),
+        ("width-1.set", 0),
+        ("width-64.set", 0),
+        ("largest.set", 0),
+        ("too-long.set", 8),
     ] {
-        assert_eq!(both.read_set(&sample(name)), n, "{name}");
+        assert_eq!(number(both.read_set(&sample(name))), n, "{name}");
+    }
+}
+
+type SetLine<'a> = (u64, u64, &'a [u64], &'a [u8], &'a [u8], u64, usize, u64);
+
+#[test]
+fn the_set_writer() {
+    let lines: [SetLine; 18] = [
+        (3, 3, &[1, 4], &[1, 1], &[2, 0], 2, 34, 0),
+        (0, 3, &[1, 4], &[1, 1], &[2, 0], 2, 34, 2),
+        (65, 3, &[1, 4], &[1, 1], &[2, 0], 2, 34, 2),
+        (3, 2, &[1, 4], &[1, 1], &[2, 0], 2, 34, 3),
+        (3, 9, &[1, 4], &[1, 1], &[2, 0], 2, 34, 3),
+        (3, 3, &[], &[], &[], 0, 34, 4),
+        (3, 3, &[1; 256], &[], &[], 0, 3_000, 0),
+        (3, 3, &[1; 257], &[], &[], 0, 3_000, 4),
+        (3, 3, &[1, 0], &[1, 1], &[2, 0], 2, 34, 6),
+        (3, 3, &[1, 8], &[1, 1], &[2, 0], 2, 34, 6),
+        (3, 3, &[1, 4], &[0; 512], &[0; 512], 512, 2_000, 0),
+        (3, 3, &[1, 4], &[0; 513], &[0; 513], 513, 2_000, 7),
+        (3, 3, &[1, 4], &[1], &[2, 0], 2, 34, 8),
+        (3, 3, &[1, 4], &[1, 1], &[2, 0, 0], 2, 34, 8),
+        (3, 3, &[1, 4], &[1, 4], &[2, 0], 2, 34, 9),
+        (3, 3, &[1, 4], &[1, 1], &[2, 0x80], 2, 34, 9),
+        (3, 3, &[1, 4], &[3, 1], &[2, 0], 2, 34, 10),
+        (3, 3, &[1, 4], &[1, 1], &[2, 0], 2, 33, 24),
+    ];
+    let mut both = Both::new();
+    for (m, taps, spread, values, marks, s, room, n) in lines {
+        let content = Content {
+            m,
+            taps,
+            spread: spread.to_vec(),
+            values: values.to_vec(),
+            marks: marks.to_vec(),
+            s,
+        };
+        both.at = format!("{content:?} {room}");
+        assert_eq!(number(both.write_set(&content, room)), n, "{}", both.at);
     }
 }
 
 #[test]
-fn the_set_writer() {
-    let mut both = Both::new(Side::End);
-    let mut write = |m: u64,
-                     taps: u64,
-                     spread: &[u64],
-                     values: &[u8],
-                     marks: &[u8],
-                     s: u64,
-                     room: usize,
-                     n: u64| {
-        both.at = format!("{m} {taps} {spread:?} {values:?} {marks:?} {s} {room}");
-        assert_eq!(
-            number(both.write_set(m, taps, spread, values, marks, s, room)),
-            n,
-            "{}",
-            both.at
-        );
-    };
-    write(3, 3, &[1, 4], &[1, 1], &[2, 0], 2, 34, 0);
-    write(0, 3, &[1, 4], &[1, 1], &[2, 0], 2, 34, 2);
-    write(65, 3, &[1, 4], &[1, 1], &[2, 0], 2, 34, 2);
-    write(3, 2, &[1, 4], &[1, 1], &[2, 0], 2, 34, 3);
-    write(3, 9, &[1, 4], &[1, 1], &[2, 0], 2, 34, 3);
-    write(3, 3, &[], &[], &[], 0, 34, 4);
-    write(3, 3, &[1; 256], &[], &[], 0, 3_000, 0);
-    write(3, 3, &[1; 257], &[], &[], 0, 3_000, 4);
-    write(3, 3, &[1, 0], &[1, 1], &[2, 0], 2, 34, 6);
-    write(3, 3, &[1, 8], &[1, 1], &[2, 0], 2, 34, 6);
-    write(3, 3, &[1, 4], &[0; 512], &[0; 512], 512, 2_000, 0);
-    write(3, 3, &[1, 4], &[0; 513], &[0; 513], 513, 2_000, 7);
-    write(3, 3, &[1, 4], &[1], &[2, 0], 2, 34, 8);
-    write(3, 3, &[1, 4], &[1, 1], &[2, 0, 0], 2, 34, 8);
-    write(3, 3, &[1, 4], &[1, 4], &[2, 0], 2, 34, 9);
-    write(3, 3, &[1, 4], &[1, 1], &[2, 0x80], 2, 34, 9);
-    write(3, 3, &[1, 4], &[3, 1], &[2, 0], 2, 34, 10);
-    write(3, 3, &[1, 4], &[1, 1], &[2, 0], 2, 33, 24);
-}
-
-#[test]
 fn the_clock() {
-    let mut both = Both::new(Side::End);
+    let mut both = Both::new();
     let mut clock = |m: u64, taps: u64, state: u64, spread: &[u64], row: &[u8], n: u64| {
         both.at = format!("{m} {taps} {state} {spread:?} {row:?}");
-        assert_eq!(both.clock(m, taps, state, spread, row), n, "{}", both.at);
+        let clocked = both.clock(m, taps, state, spread, row);
+        assert_eq!(number(clocked), n, "{}", both.at);
     };
     clock(3, 3, 7, &[1, 4], &[3], 0);
     clock(0, 3, 7, &[1, 4], &[3], 2);
@@ -139,7 +138,7 @@ fn the_clock() {
 
 #[test]
 fn the_elimination() {
-    let mut both = Both::new(Side::End);
+    let mut both = Both::new();
     let lines: [(u64, &[u64], usize, u64); 10] = [
         (2, &[0], 2, 0),
         (0, &[], 2, 2),
@@ -154,7 +153,8 @@ fn the_elimination() {
     ];
     for (m, columns, room, n) in lines {
         both.at = format!("m {m}, {columns:?}, {room} places");
-        assert_eq!(both.eliminate(m, columns, room), n, "{}", both.at);
+        let answer = both.eliminate(m, columns, room);
+        assert_eq!(number(answer), n, "{}", both.at);
     }
 }
 
@@ -163,17 +163,15 @@ const PLAN: [u8; 23] = [
     3, 0, 2, 0, 3, 0, 0, 0, 0, 0, 0, 0, 4, 0, 0, 0, 0, 0, 0, 0, 2, 0, 0,
 ];
 
-#[test]
-fn calls_on_plans() {
-    let mut both = Both::new(Side::End);
-    let changed = |at: usize, byte: u8| {
-        let mut plan = PLAN.to_vec();
-        plan[at] = byte;
-        plan
-    };
-    let mut long = PLAN.to_vec();
-    long.push(0);
-    let plans = [
+/// The sample's plan with one byte changed.
+fn changed(at: usize, byte: u8) -> Vec<u8> {
+    let mut plan = PLAN.to_vec();
+    plan[at] = byte;
+    plan
+}
+
+fn plans() -> Vec<(Vec<u8>, u64, &'static str)> {
+    vec![
         (PLAN.to_vec(), 0, "as it is"),
         (vec![], 19, "empty"),
         (vec![3], 19, "one byte"),
@@ -191,33 +189,32 @@ fn calls_on_plans() {
         (PLAN[..21].to_vec(), 22, "cut in the second count"),
         (changed(20, 1), 22, "counts that disagree"),
         (PLAN[..22].to_vec(), 22, "no expected bits"),
-        (long, 22, "one byte more"),
+        ([&PLAN[..], &[0]].concat(), 22, "one byte more"),
         (changed(22, 4), 22, "a spare bit"),
         (changed(22, 3), 0, "both expected bits 1"),
-    ];
-    for (plan, n, what) in plans {
+    ]
+}
+
+#[test]
+fn calls_on_plans() {
+    let mut both = Both::new();
+    for (plan, n, what) in plans() {
         both.at = what.to_string();
         assert_eq!(number(both.judge(&plan, 0)), n, "{what}");
-        assert_eq!(both.read_plan(&plan, 2), n, "{what}");
+        assert_eq!(number(both.read_plan(&plan, 2)), n, "{what}");
         // 18 comes after 22
-        assert_eq!(
-            both.read_plan(&plan, 1),
-            if n == 0 { 18 } else { n },
-            "{what}"
-        );
+        let short = number(both.read_plan(&plan, 1));
+        assert_eq!(short, if n == 0 { 18 } else { n }, "{what}");
         // 22 comes before 23
-        assert_eq!(
-            number(both.judge(&plan, 8)),
-            if n == 0 { 23 } else { n },
-            "{what}"
-        );
+        let wide = number(both.judge(&plan, 8));
+        assert_eq!(wide, if n == 0 { 23 } else { n }, "{what}");
     }
     assert_eq!(number(both.judge(&PLAN, 7)), 0);
 }
 
 #[test]
 fn the_plan_writer() {
-    let mut both = Both::new(Side::End);
+    let mut both = Both::new();
     let lines: [(u64, &[u64], u64, usize, u64); 12] = [
         (3, &[3, 4], 0, 23, 0),
         (0, &[3, 4], 0, 23, 19),
@@ -234,11 +231,11 @@ fn the_plan_writer() {
     ];
     for (m, words, expected, room, n) in lines {
         both.at = format!("{m} {words:?} {expected} {room}");
-        assert_eq!(
-            number(both.write_plan(m, words, expected, room)),
-            n,
-            "{}",
-            both.at
-        );
+        let plan = Plan {
+            m,
+            words: words.to_vec(),
+            expected,
+        };
+        assert_eq!(number(both.write_plan(&plan, room)), n, "{}", both.at);
     }
 }

@@ -1,35 +1,40 @@
 //! The plan printer over standard input: the stored samples, random and damaged sets, small pieces through a pipe, a standard
 //! output that nobody reads, and an input that can't be read.
 
-use reference::planning::printed;
 use reference::random::*;
+use reference::repository::{repository, sample};
+use reference::second::planning::printed;
 use std::fs::File;
-use std::io::{Read, Write};
-use std::path::{Path, PathBuf};
+use std::io::Write;
+use std::os::unix::process::ExitStatusExt;
+use std::path::PathBuf;
 use std::process::{Child, Command, Output, Stdio};
 use std::time::{Duration, Instant};
 
-fn repository() -> PathBuf {
-    Path::new(env!("CARGO_MANIFEST_DIR")).join("..")
-}
-
-fn printer() -> Command {
+fn printer() -> PathBuf {
     let path = repository().join("target/bin/plan_printer");
     assert!(
         path.exists(),
         "{} is missing: run `rt check plan_printer` first",
         path.display()
     );
-    Command::new(path)
+    path
 }
 
-fn started() -> Child {
-    printer()
+fn started(mut command: Command) -> Child {
+    command
         .stdin(Stdio::piped())
         .stdout(Stdio::piped())
         .stderr(Stdio::piped())
         .spawn()
         .expect("the printer starts")
+}
+
+/// The printer as a shell command starts it: `$0` is its path.
+fn shell(line: &str) -> Child {
+    let mut command = Command::new("sh");
+    command.arg("-c").arg(line).arg(printer());
+    started(command)
 }
 
 /// Waits for the end, which must come.
@@ -51,7 +56,7 @@ fn ended(mut child: Child) -> Output {
 
 /// What the printer writes for this input, handed over in pieces of `piece` bytes.
 fn prints(input: &[u8], piece: usize) -> String {
-    let mut child = started();
+    let mut child = started(Command::new(printer()));
     let mut stdin = child.stdin.take().unwrap();
     for part in input.chunks(piece) {
         // the printer stops reading where an input is longer than any set
@@ -93,7 +98,7 @@ fn the_stored_samples() {
 
 #[test]
 fn the_sample_writes_document_01s_four_lines() {
-    let set = std::fs::read(repository().join("samples/sample.set")).unwrap();
+    let set = sample("sample.set");
     assert_eq!(
         prints(&set, 1 << 20),
         "set 3 2 2 1\nword 0 3 0\nword 1 4 0\nend 2\n"
@@ -106,8 +111,8 @@ fn random_sets() {
         let mut r = Random::new(seed);
         let c = small_content(&mut r, 64, 40, 30);
         assert_eq!(
-            prints(&c.file(), 1 << 20),
-            printed(&c.file()),
+            prints(&file_of(&c), 1 << 20),
+            printed(&file_of(&c)),
             "seed {seed}"
         );
     }
@@ -117,7 +122,7 @@ fn random_sets() {
 fn damaged_sets() {
     for seed in 210_000..210_150 {
         let mut r = Random::new(seed);
-        let mut file = small_content(&mut r, 64, 12, 5).file();
+        let mut file = file_of(&small_content(&mut r, 64, 12, 5));
         for _ in 0..1 + r.below(3) {
             let at = r.below(file.len());
             match r.below(3) {
@@ -133,7 +138,7 @@ fn damaged_sets() {
 #[test]
 fn inputs_around_the_longest_set() {
     let mut r = Random::new(5);
-    let longest = content(&mut r, 64, 256, 512, 1, 40).file();
+    let longest = file_of(&content(&mut r, 64, 256, 512, 1, 40));
     for length in [34_828, 34_829, 34_830, 34_831, 34_832, 100_000] {
         let mut input = longest.clone();
         input.resize(length, 0);
@@ -151,57 +156,63 @@ fn inputs_around_the_longest_set() {
 #[test]
 fn small_pieces_through_a_pipe() {
     let mut r = Random::new(6);
-    let small = content(&mut r, 20, 9, 7, 1, 9).file();
+    let small = file_of(&content(&mut r, 20, 9, 7, 1, 9));
     assert_eq!(prints(&small, 1), printed(&small));
-    let large = content(&mut r, 64, 256, 512, 1, 2000).file();
+    let large = file_of(&content(&mut r, 64, 256, 512, 1, 2000));
     assert_eq!(prints(&large, 97), printed(&large));
     assert_eq!(prints(&large, 4096), printed(&large));
 }
 
+/// A standard output that can't be written: the printer says so and ends by itself.
+fn tells_of_its_output(output: &Output) {
+    let message = String::from_utf8_lossy(&output.stderr);
+    assert_eq!(
+        message, "plan_printer: writing standard output failed\n",
+        "{:?}",
+        output.status
+    );
+    assert!(output.status.code().is_some(), "{:?}", output.status);
+}
+
 #[test]
-fn a_standard_output_that_nobody_reads() {
-    let set = std::fs::read(repository().join("samples/sample.set")).unwrap();
-    let mut child = started();
+fn a_pipe_that_nobody_reads() {
+    let set = sample("sample.set");
+    // the write fails where the signal is ignored
+    let mut child = shell("trap '' PIPE; exec \"$0\"");
     drop(child.stdout.take());
     child.stdin.take().unwrap().write_all(&set).unwrap();
-    ended(child);
-    // closed from the start
-    let mut child = Command::new("sh")
-        .arg("-c")
-        .arg("exec \"$0\" >&-")
-        .arg(repository().join("target/bin/plan_printer"))
-        .stdin(Stdio::piped())
-        .stderr(Stdio::piped())
-        .spawn()
-        .expect("sh starts");
+    tells_of_its_output(&ended(child));
+    // and else the signal of a broken pipe ends the printer, as it ends every program; nothing but that signal may
+    let mut child = started(Command::new(printer()));
+    drop(child.stdout.take());
     child.stdin.take().unwrap().write_all(&set).unwrap();
-    ended(child);
+    let status = ended(child).status;
+    const BROKEN_PIPE: i32 = 13;
+    assert_eq!(status.signal(), Some(BROKEN_PIPE), "{status:?}");
+}
+
+#[test]
+fn a_standard_output_closed_from_the_start() {
+    let mut child = shell("exec \"$0\" >&-");
+    let set = sample("sample.set");
+    child.stdin.take().unwrap().write_all(&set).unwrap();
+    tells_of_its_output(&ended(child));
 }
 
 #[test]
 fn an_input_that_cannot_be_read() {
     // a folder can be opened, and reading it fails
-    let folder = File::open(repository()).unwrap();
-    let mut child = printer()
-        .stdin(Stdio::from(folder))
+    let child = Command::new(printer())
+        .stdin(Stdio::from(File::open(repository()).unwrap()))
         .stdout(Stdio::piped())
         .stderr(Stdio::piped())
         .spawn()
         .unwrap();
-    let (mut out, mut err) = (String::new(), String::new());
-    child
-        .stdout
-        .take()
-        .unwrap()
-        .read_to_string(&mut out)
-        .unwrap();
-    child
-        .stderr
-        .take()
-        .unwrap()
-        .read_to_string(&mut err)
-        .unwrap();
-    ended(child);
-    assert_eq!(out, "", "no plan is written");
-    assert!(err.contains("read"), "a clear message: {err:?}");
+    let output = ended(child);
+    assert!(output.stdout.is_empty(), "no plan is written");
+    assert!(output.status.code().is_some(), "{:?}", output.status);
+    assert_eq!(
+        String::from_utf8_lossy(&output.stderr),
+        "plan_printer: reading standard input failed\n"
+    );
 }

@@ -2,18 +2,11 @@
 //! row (M1, Z1, s0). Where a paper contradicts itself, the test says so and pins what the definitions give.
 
 use reference::both::Both;
-use reference::elimination::reduced_list;
-use reference::library::Side;
-use reference::planning::Planned;
-use reference::random::{Content, Random};
-use reference::row_bytes;
+use reference::random::{file_of, Random};
+use reference::second::layout::row_bytes;
+use reference::second::plan::Plan;
+use reference::second::set::Content;
 use std::collections::BTreeSet;
-
-fn both(at: &str) -> Both {
-    let mut both = Both::new(Side::End);
-    both.at = at.to_string();
-    both
-}
 
 /// Rows of bits written from the paper, top row first, as columns: bit i of a column is row i.
 fn columns_of(rows: &[&str]) -> Vec<u64> {
@@ -38,15 +31,14 @@ fn one_slice(m: usize, spread: &[u64], unknown: &[usize]) -> Vec<u8> {
     for &c in unknown {
         marks[c / 8] |= 1 << (c % 8);
     }
-    Content {
+    file_of(&Content {
         m: m as u64,
         taps: 1,
         spread: spread.to_vec(),
         values: vec![0; b],
         marks,
         s: 1,
-    }
-    .file()
+    })
 }
 
 /// The record of one slice in which these cells are 1.
@@ -58,13 +50,11 @@ fn cells(n: usize, ones: &[usize]) -> Vec<u8> {
     row
 }
 
-fn planned(both: &mut Both, set: &[u8]) -> (Planned, Vec<u8>) {
+fn planned(both: &mut Both, set: &[u8]) -> (Plan, Vec<u8>) {
     let p = both
         .plan(set, 300, 64)
         .expect("the paper's example has X-free words");
-    let file = both
-        .write_plan(p.m, &p.words, p.expected, 600)
-        .expect("a plan can be written");
+    let file = both.write_plan(&p, 600).expect("a plan can be written");
     (p, file)
 }
 
@@ -110,12 +100,12 @@ const FIGURE_2: [&str; 6] = ["1000", "1110", "0010", "1000", "1010", "0011"];
 
 #[test]
 fn document_000_figures_2_and_3() {
-    let mut both = both("000, figures 2 and 3");
+    let mut both = Both::at("000, figures 2 and 3");
     let columns = columns_of(&FIGURE_2);
     assert_eq!(columns, [27, 2, 54, 32]);
-    both.eliminate(6, &columns, 64);
+    let (_, words) = both.eliminate(6, &columns, 64).unwrap();
     // M1 + M4 and M1 + M3 + M5
-    assert_eq!(reduced_list(6, &columns), [0b001001, 0b010101]);
+    assert_eq!(words, [0b001001, 0b010101]);
     let set = one_slice(6, &columns, &[0, 1, 2, 3]);
     let (p, plan) = planned(&mut both, &set);
     assert_eq!((p.words, p.expected), (vec![9, 21], 0));
@@ -136,7 +126,7 @@ fn document_000_figures_2_and_3() {
 #[test]
 fn document_000_section_2_m4_stands_for_m6() {
     // "M1 and M4 in Fig. 1 are represented as X1 and X3 + X4": by the figure's own matrix M4 is X1 alone, and M6 is X3 + X4
-    let mut both = both("000, section II");
+    let mut both = Both::at("000, section II");
     let set = one_slice(6, &columns_of(&FIGURE_2), &[0, 1, 2, 3]);
     for x in 0..4 {
         let y = both.sign(&set, &cells(4, &[x])).unwrap();
@@ -149,7 +139,7 @@ fn document_000_section_2_m4_stands_for_m6() {
 #[test]
 fn document_000_section_2_the_share_of_signatures_that_pass() {
     // "The probability of aliasing is 2^k / 2^m": 16 of 64 here, and 1 - 2^-q for q 2 is three quarters
-    let mut both = both("000, section II");
+    let mut both = Both::at("000, section II");
     let set = one_slice(6, &columns_of(&FIGURE_2), &[0, 1, 2, 3]);
     let (p, plan) = planned(&mut both, &set);
     let passing = (0..64)
@@ -159,43 +149,45 @@ fn document_000_section_2_the_share_of_signatures_that_pass() {
     assert_eq!(passing, 16);
 }
 
+// One slice of 18 chains, a chain to a cell; X1 to X4 stand in cells 1, 4, 7 and 18. The text prints
+//   M1 = X1 + O3 + O8 + O13,  M6 = O2 + X3 + X4,  M1 + M3 + M5 = O3 + O5 + O8 + O10 + O12 + O13 + O15 + O17
+const IN_M1: [usize; 3] = [3, 8, 13];
+const IN_SUM: [usize; 8] = [3, 5, 8, 10, 12, 13, 15, 17];
+
+/// The spread words of figure 1. What the text leaves open (M2 and M4 of the known cells) is chosen so that none is 0.
+fn figure_1() -> Vec<u64> {
+    let word = |cell: usize| match cell {
+        1 => 27,
+        4 => 2,
+        7 => 54,
+        18 => 32,
+        _ => {
+            let m1 = u64::from(IN_M1.contains(&cell));
+            let m6 = u64::from(cell == 2) << 5;
+            let m5 = (u64::from(IN_SUM.contains(&cell)) ^ m1) << 4;
+            m1 | m6 | m5 | 2
+        }
+    };
+    (1..=18).map(word).collect()
+}
+
 #[test]
 fn document_000_figure_1_from_the_printed_equations() {
-    // One slice of 18 chains, a chain to a cell; X1 to X4 stand in cells 1, 4, 7 and 18. The text prints
-    //   M1 = X1 + O3 + O8 + O13,  M6 = O2 + X3 + X4,  M1 + M3 + M5 = O3 + O5 + O8 + O10 + O12 + O13 + O15 + O17;
-    // what it leaves open (M2 and M4 of the known cells) is chosen here so that no spread word is 0.
-    let in_m1 = [3, 8, 13];
-    let in_sum = [3, 5, 8, 10, 12, 13, 15, 17];
-    let mut spread = Vec::new();
-    for cell in 1..=18usize {
-        let word = match cell {
-            1 => 27,
-            4 => 2,
-            7 => 54,
-            18 => 32,
-            _ => {
-                let m1 = u64::from(in_m1.contains(&cell));
-                let m6 = u64::from(cell == 2) << 5;
-                let m5 = (u64::from(in_sum.contains(&cell)) ^ m1) << 4;
-                m1 | m6 | m5 | 2
-            }
-        };
-        spread.push(word);
-    }
+    let spread = figure_1();
     let unknown = [0, 3, 6, 17];
     let set = one_slice(6, &spread, &unknown);
-    let mut both = both("000, figure 1");
+    let mut both = Both::at("000, figure 1");
     let (p, plan) = planned(&mut both, &set);
     assert_eq!(p.words, [9, 21]);
     for cell in 1..=18usize {
         let y = both.sign(&set, &cells(18, &[cell - 1])).unwrap();
         let unknown_cell = unknown.contains(&(cell - 1));
         if !unknown_cell {
-            assert_eq!(y & 1 == 1, in_m1.contains(&cell), "O{cell} in M1");
+            assert_eq!(y & 1 == 1, IN_M1.contains(&cell), "O{cell} in M1");
             assert_eq!(y >> 5 & 1 == 1, cell == 2, "O{cell} in M6");
         }
         let judged = both.judge(&plan, y).unwrap();
-        let in_word = !unknown_cell && in_sum.contains(&cell);
+        let in_word = !unknown_cell && IN_SUM.contains(&cell);
         assert_eq!(
             judged.cancelled >> 1 & 1 == 1,
             in_word,
@@ -210,7 +202,7 @@ const CHECK_MATRIX: [&str; 4] = ["11101000", "11010100", "10110010", "11111111"]
 
 #[test]
 fn document_003_equations_1_to_3() {
-    let mut both = both("003, equations 1 to 3");
+    let mut both = Both::at("003, equations 1 to 3");
     let h = columns_of(&CHECK_MATRIX);
     let set = one_slice(4, &h, &[3, 4]);
     let (_, plan) = planned(&mut both, &set);
@@ -232,7 +224,7 @@ fn document_003_equations_1_to_3() {
 
 #[test]
 fn document_003_section_3_example_1() {
-    let mut both = both("003, section III-A, example 1");
+    let mut both = Both::at("003, section III-A, example 1");
     let set = one_slice(4, &columns_of(&CHECK_MATRIX), &[3, 4]);
     let (p, plan) = planned(&mut both, &set);
     // s2 + s1 and s3 + s0 + s1
@@ -266,7 +258,7 @@ fn document_003_section_3_example_1() {
 
 #[test]
 fn document_003_section_3_example_2() {
-    let mut both = both("003, section III-A, example 2");
+    let mut both = Both::at("003, section III-A, example 2");
     let set = one_slice(4, &columns_of(&CHECK_MATRIX), &[2]);
     let (p, plan) = planned(&mut both, &set);
     // s1, s2 + s0 and s3 + s0
@@ -296,16 +288,16 @@ fn document_003_section_3_example_2() {
 
 #[test]
 fn document_003_section_4_the_filter_array() {
-    let mut both = both("003, section IV");
+    let mut both = Both::at("003, section IV");
     let columns = columns_of(&["000", "101", "101", "011", "100", "111"]);
-    both.eliminate(6, &columns, 64);
+    let (_, words) = both.eliminate(6, &columns, 64).unwrap();
     // row 0 depends on nothing, row 2 is row 1, row 5 is rows 3 and 4
-    assert_eq!(reduced_list(6, &columns), [0b000001, 0b000110, 0b111000]);
+    assert_eq!(words, [0b000001, 0b000110, 0b111000]);
 }
 
 #[test]
 fn document_003_theorem_2_2_on_the_8_4_4_code() {
-    let mut both = both("003, theorem 2.2");
+    let mut both = Both::at("003, theorem 2.2");
     let h = columns_of(&CHECK_MATRIX);
     let all: Vec<usize> = (0..8).collect();
     for x in 0..4 {
@@ -351,7 +343,7 @@ fn document_003_section_5_the_special_code_at_width_4() {
     assert_eq!(sorted, rule, "the printed matrix is the rule's");
     single_errors_beside_one_unknown(4, &printed);
     // one or two errors without unknowns
-    let mut both = both("003, section V, width 4");
+    let mut both = Both::at("003, section V, width 4");
     let set = one_slice(4, &printed, &[]);
     let (_, plan) = planned(&mut both, &set);
     let all: Vec<usize> = (0..10).collect();
@@ -380,7 +372,7 @@ fn document_003_section_5_the_special_code_at_width_8() {
 
 /// "Any one error can be detected in the presence of one unknown."
 fn single_errors_beside_one_unknown(m: usize, code: &[u64]) {
-    let mut both = both("003, section V");
+    let mut both = Both::at("003, section V");
     for unknown in 0..code.len() {
         let set = one_slice(m, code, &[unknown]);
         let (_, plan) = planned(&mut both, &set);
@@ -397,7 +389,7 @@ fn single_errors_beside_one_unknown(m: usize, code: &[u64]) {
 fn document_003_section_5_the_extended_hamming_code_at_width_9() {
     // 2^8 chains, the largest chain count; the last row is the complement of the first
     let code: Vec<u64> = (0..256u64).map(|i| i | (!i & 1) << 8).collect();
-    let mut both = both("003, section V, extended Hamming");
+    let mut both = Both::at("003, section V, extended Hamming");
     let mut r = Random::new(3);
     for unknown in [0, 1, 2, 100, 254, 255] {
         let set = one_slice(9, &code, &[unknown]);
@@ -471,11 +463,12 @@ fn document_004_figure_2_as_an_elimination() {
         }
     }
     assert_eq!(columns[1], columns[4], "X2 and X5 reach the same cells");
-    let mut both = both("004, figure 2");
-    for room in [0, 3, 4, 64] {
-        both.eliminate(12, &columns, room);
+    let mut both = Both::at("004, figure 2");
+    for room in [0, 3] {
+        assert_eq!(both.eliminate(12, &columns, room), Err(18));
     }
-    let words = reduced_list(12, &columns);
+    let (rank, words) = both.eliminate(12, &columns, 4).unwrap();
+    assert_eq!(rank, 8);
     // Z6 is Z3, Z7 and Z10 are Z1 + Z4, and Z11 is Z5 + Z8
     assert_eq!(
         words,
@@ -492,13 +485,12 @@ fn document_004_figure_2_as_an_elimination() {
 fn document_004_figure_1_clocked() {
     // Z1 to Z4 after one clock are X2 + X5, X3, X1 + X4, X1 + X6: bits Z4, Z3, Z2, Z1 from bit 0 on shift up, the old Z1 comes
     // in at Z4 and Z3, so the tap word is 3; X5, X7, X9 come in at Z1 and X6, X8, X10 at Z4
-    let mut both = both("004, figure 1");
+    let mut both = Both::at("004, figure 1");
     for symbol in 1..=10usize {
         let mut state: u64 = if symbol <= 4 { 1 << (4 - symbol) } else { 0 };
         for slice in 0..3 {
             let row = [u8::from(symbol == 5 + 2 * slice) | u8::from(symbol == 6 + 2 * slice) << 1];
-            both.clock(4, 3, state, &[8, 1], &row);
-            state = reference::set::clock(4, 3, state, &[8, 1], &row).unwrap();
+            state = both.clock(4, 3, state, &[8, 1], &row).unwrap();
             for z in 0..4 {
                 let there = state >> (3 - z) & 1 == 1;
                 assert_eq!(

@@ -1,0 +1,68 @@
+//! The benchmark: one table of every call, ours beside the same algorithm in Rust, the straightforward one, and M4RI and PARI where
+//! they are installed; a second table of how listing and planning grow, drawn as a picture.
+//!
+//! `bench` prints the tables, `bench PICTURE` also writes the picture. `bench --count CALL SIDE TIMES` makes one call so many times
+//! and nothing else, for counting instructions; SIDE is `ours` or `rust`.
+
+mod growth;
+mod others;
+mod ours;
+mod plain;
+mod row;
+mod rows;
+mod same;
+mod timing;
+
+use row::{Row, Side};
+use std::hint::black_box;
+
+/// The calls whose instructions are counted, each with one input.
+const COUNTED: [(&str, fn() -> Row); 14] = [
+    ("read_set", rows::reader),
+    ("value_row", || rows::stretch(false)),
+    ("write_set", rows::set_writer),
+    ("clock", rows::one_clock),
+    ("sign", rows::signature),
+    ("list-63", || rows::listing(512, 63, 63, 1)),
+    ("list-4096", || rows::listing(512, 4_096, 63, 1)),
+    ("plan-63", || rows::planning(512, 63, 63, 1)),
+    ("plan-4096", || rows::planning(512, 4_096, 63, 1)),
+    ("eliminate-63", || rows::elimination(63, 63, 1)),
+    ("eliminate-131072", || rows::elimination(131_072, 40, 1)),
+    ("read_plan", rows::plan_reader),
+    ("write_plan", rows::plan_writer),
+    ("judge", rows::judging),
+];
+
+fn counted(words: &[String]) {
+    let [call, side, times] = words else {
+        let names = COUNTED.map(|(name, _)| name);
+        return println!("{}", names.join("\n"));
+    };
+    let side = match side.as_str() {
+        "ours" => Side::Ours,
+        _ => Side::Same,
+    };
+    let times: usize = times.parse().expect("TIMES is a number");
+    let (_, row) = COUNTED.iter().find(|(name, _)| name == call).expect("CALL");
+    let row = row();
+    for (of, mut make) in row.sides {
+        if of == side {
+            (0..times).for_each(|i| drop(black_box(make(i % row.inputs, false))));
+        }
+    }
+}
+
+fn main() {
+    let words: Vec<String> = std::env::args().skip(1).collect();
+    if words.first().is_some_and(|w| w == "--count") {
+        return counted(&words[1..]);
+    }
+    println!("| Call | Size | Gives | Ours | Same algorithm in Rust | Straightforward | Others |");
+    println!("|---|---|---|---|---|---|---|");
+    rows::print_all();
+    let lines = growth::print_all();
+    if let Some(path) = words.first() {
+        std::fs::write(path, growth::picture(&lines)).unwrap_or_else(|e| panic!("{path}: {e}"));
+    }
+}

@@ -1,0 +1,238 @@
+//! The straightforward algorithms on machine words, to measure against: cell by cell, column by column, bit by bit.
+
+/// A set that was checked: its numbers, and its rows where they stand.
+pub struct PlainSet<'a> {
+    pub m: u32,
+    pub taps: u64,
+    pub spread: Vec<u64>,
+    pub s: usize,
+    pub b: usize,
+    pub rows: &'a [u8],
+}
+
+fn count(bytes: &[u8], at: usize) -> usize {
+    usize::from(bytes[at]) + 256 * usize::from(bytes[at + 1])
+}
+
+fn word(bytes: &[u8], at: usize) -> u64 {
+    (0..8).fold(0, |w, i| w | u64::from(bytes[at + i]) << (8 * i))
+}
+
+fn bit(row: &[u8], c: usize) -> bool {
+    row[c / 8] >> (c % 8) & 1 == 1
+}
+
+fn beyond(m: u32, w: u64) -> bool {
+    m < 64 && w >> m != 0
+}
+
+/// The register and the chains: m, the tap word and the spread words.
+fn read_head(set: &[u8]) -> Result<(u32, u64, Vec<u64>), u64> {
+    if set.len() < 10 {
+        return Err(1);
+    }
+    let m = count(set, 0) as u32;
+    if !(1..=64).contains(&m) {
+        return Err(2);
+    }
+    let taps = word(set, 2);
+    if taps & 1 == 0 || beyond(m, taps) {
+        return Err(3);
+    }
+    if set.len() < 12 || !(1..=256).contains(&count(set, 10)) {
+        return Err(4);
+    }
+    let n = count(set, 10);
+    if set.len() < 12 + 8 * n {
+        return Err(5);
+    }
+    let spread: Vec<u64> = (0..n).map(|c| word(set, 12 + 8 * c)).collect();
+    if spread.iter().any(|&w| w == 0 || beyond(m, w)) {
+        return Err(6);
+    }
+    Ok((m, taps, spread))
+}
+
+/// Whether a row has a spare bit set.
+fn spare(row: &[u8], n: usize) -> bool {
+    (n..8 * row.len()).any(|c| bit(row, c))
+}
+
+/// The set reader, checking cell by cell.
+pub fn read_set(set: &[u8]) -> Result<PlainSet<'_>, u64> {
+    let (m, taps, spread) = read_head(set)?;
+    let n = spread.len();
+    if set.len() < 14 + 8 * n || count(set, 12 + 8 * n) > 512 {
+        return Err(7);
+    }
+    let s = count(set, 12 + 8 * n);
+    let b = n.div_ceil(8);
+    if set.len() != 14 + 8 * n + 2 * b * s {
+        return Err(8);
+    }
+    let rows = &set[14 + 8 * n..];
+    if rows.chunks(b).any(|row| spare(row, n)) {
+        return Err(9);
+    }
+    for slice in rows.chunks(2 * b) {
+        for c in 0..n {
+            if bit(slice, c) && bit(&slice[b..], c) {
+                return Err(10);
+            }
+        }
+    }
+    Ok(PlainSet {
+        m,
+        taps,
+        spread,
+        s,
+        b,
+        rows,
+    })
+}
+
+impl PlainSet<'_> {
+    fn clocked(&self, state: u64) -> u64 {
+        let mask = if self.m == 64 {
+            u64::MAX
+        } else {
+            (1 << self.m) - 1
+        };
+        let feedback = if state >> (self.m - 1) & 1 == 1 {
+            self.taps
+        } else {
+            0
+        };
+        (state << 1 & mask) ^ feedback
+    }
+
+    /// A record's signature, testing each cell. `step` is the bytes from one row to the next.
+    pub fn signature(&self, rows: &[u8], step: usize) -> u64 {
+        let mut state = 0;
+        for t in 0..self.s {
+            state = self.clocked(state);
+            for c in 0..self.spread.len() {
+                if bit(&rows[step * t..], c) {
+                    state ^= self.spread[c];
+                }
+            }
+        }
+        state
+    }
+
+    fn unknown(&self, t: usize, c: usize) -> bool {
+        bit(&self.rows[2 * self.b * t + self.b..], c)
+    }
+
+    /// The columns, each clocked to the end.
+    pub fn columns(&self) -> Vec<u64> {
+        let mut columns = Vec::new();
+        for t in 0..self.s {
+            for c in 0..self.spread.len() {
+                if self.unknown(t, c) {
+                    let mut state = self.spread[c];
+                    for _ in t + 1..self.s {
+                        state = self.clocked(state);
+                    }
+                    columns.push(state);
+                }
+            }
+        }
+        columns
+    }
+
+    /// The columns by a backward sweep: every chain's word advanced by one clock for each slice.
+    pub fn swept_columns(&self) -> Vec<u64> {
+        let mut words = self.spread.clone();
+        let mut columns = Vec::new();
+        for t in (0..self.s).rev() {
+            for c in (0..words.len()).rev() {
+                if self.unknown(t, c) {
+                    columns.push(words[c]);
+                }
+            }
+            for w in &mut words {
+                *w = self.clocked(*w);
+            }
+        }
+        columns.reverse();
+        columns
+    }
+
+    /// Planning: sweep, walk, and the signature cell by cell.
+    pub fn plan(&self) -> Option<(Vec<u64>, u64)> {
+        let words = eliminate(self.m, &self.swept_columns())?;
+        let zero = self.signature(self.rows, 2 * self.b);
+        let expected = words
+            .iter()
+            .enumerate()
+            .map(|(i, w)| u64::from((w & zero).count_ones() & 1) << i)
+            .sum();
+        Some((words, expected))
+    }
+}
+
+/// The words, by a basis of the columns kept fully reduced. None where there is none.
+pub fn eliminate(m: u32, columns: &[u64]) -> Option<Vec<u64>> {
+    // basis[i] has pivot bit i, its lowest, which no other has
+    let mut basis = [0u64; 64];
+    for &column in columns {
+        let mut left = column;
+        for (i, &row) in basis.iter().enumerate() {
+            if left >> i & 1 == 1 && row != 0 {
+                left ^= row;
+            }
+        }
+        if left != 0 {
+            let pivot = left.trailing_zeros() as usize;
+            for row in &mut basis {
+                if *row >> pivot & 1 == 1 {
+                    *row ^= left;
+                }
+            }
+            basis[pivot] = left;
+        }
+    }
+    // a bit without a pivot gives one word: that bit with the pivots of the rows that hold it
+    let mut words = Vec::new();
+    for bit in 0..m as usize {
+        if basis[bit] == 0 {
+            let mut word = 1u64 << bit;
+            for (i, row) in basis.iter().enumerate() {
+                if row >> bit & 1 == 1 {
+                    word |= 1 << i;
+                }
+            }
+            words.push(word);
+        }
+    }
+    if words.is_empty() {
+        None
+    } else {
+        Some(words)
+    }
+}
+
+/// Judging, bit by bit: the cancelled bits and the first word that disagrees.
+pub fn judge(plan: &[u8], signature: u64) -> (u64, Option<usize>) {
+    let q = count(plan, 2);
+    let at = 6 + 8 * q;
+    let mut cancelled = 0;
+    let mut first = None;
+    for i in 0..q {
+        let w = word(plan, 4 + 8 * i);
+        let mut odd = false;
+        for k in 0..64 {
+            if w >> k & 1 == 1 && signature >> k & 1 == 1 {
+                odd = !odd;
+            }
+        }
+        if odd {
+            cancelled |= 1u64 << i;
+        }
+        if odd != bit(&plan[at..], i) && first.is_none() {
+            first = Some(i);
+        }
+    }
+    (cancelled, first)
+}

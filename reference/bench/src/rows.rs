@@ -1,0 +1,405 @@
+//! The rows of the table, each with its inputs. m is 64, with 256 chains and 512 slices, where a set is meant.
+
+use crate::others::kernels;
+use crate::row::{put, Row, Side};
+use crate::same::elimination::eliminate;
+use crate::same::response::{list_columns, plan, sign};
+use crate::same::set::{clock, mark_row, read_set, value_row, write_set};
+use crate::{ours, plain, same};
+use reference::library::{CPlanned, CStretch};
+use reference::random::*;
+use reference::second::set::Content;
+use std::hint::black_box;
+
+/// Inputs below a thousand columns are 64 different ones in turn, so that the branch predictor learns nothing.
+pub fn inputs_for(columns: usize) -> usize {
+    if columns < 1000 {
+        64
+    } else {
+        1
+    }
+}
+
+/// What the sides of a row read stands until the benchmark ends.
+fn kept<T>(value: T) -> &'static T {
+    Box::leak(Box::new(value))
+}
+
+type Files = &'static Vec<Vec<u8>>;
+
+fn sets(seed: u64, s: usize, unknowns: usize, rank: usize, inputs: usize) -> Files {
+    let r = &mut Random::new(seed);
+    let one = |_| file_of(&content_of_rank(r, (64, 256, s), rank, unknowns));
+    kept((0..inputs).map(one).collect())
+}
+
+fn plain_sets(sets: Files) -> &'static Vec<plain::PlainSet<'static>> {
+    let read = |set: &'static Vec<u8>| plain::read_set(set).expect("a good set");
+    kept(sets.iter().map(read).collect())
+}
+
+/// Listing the columns of sets of s slices. The straightforward ways find the set read.
+pub fn listing(s: usize, unknowns: usize, rank: usize, inputs: usize) -> Row {
+    let sets = sets(1, s, unknowns, rank, inputs);
+    let read = plain_sets(sets);
+    let mut columns = vec![0; 131_072];
+    let mut other = vec![0; 131_072];
+    Row::new("listing columns", format!("{unknowns} unknowns"), inputs)
+        .side(Side::Ours, move |i, ask| {
+            let listed = black_box(ours::list_columns(&sets[i], &mut columns));
+            put(ask, listed.refusal, || {
+                columns[..listed.count as usize].to_vec()
+            })
+        })
+        .side(Side::Same, move |i, ask| {
+            let listed = black_box(list_columns(&sets[i], &mut other));
+            put(ask, listed.err().unwrap_or(0), || {
+                other[..listed.unwrap()].to_vec()
+            })
+        })
+        .side(Side::Plain, move |i, ask| {
+            let columns = black_box(read[i].columns());
+            put(ask, 0, || columns)
+        })
+        .side(Side::Other("backward sweep"), move |i, ask| {
+            let columns = black_box(read[i].swept_columns());
+            put(ask, 0, || columns)
+        })
+}
+
+fn of_plan(answer: [u64; 3], words: &[u64]) -> Vec<u64> {
+    [&answer[..], &words[..answer[1] as usize]].concat()
+}
+
+fn planned(p: CPlanned, words: &[u64]) -> Vec<u64> {
+    of_plan([p.m, p.q, p.expected], words)
+}
+
+/// Planning sets of s slices.
+pub fn planning(s: usize, unknowns: usize, rank: usize, inputs: usize) -> Row {
+    let sets = sets(2, s, unknowns, rank, inputs);
+    let (mut columns, mut words) = (vec![0; 131_072], [0; 64]);
+    let (mut other, mut in_rust) = (vec![0; 131_072], [0; 64]);
+    let size = match rank {
+        64 => format!("{unknowns} unknowns of full rank"),
+        _ => format!("{unknowns} unknowns of rank {rank}"),
+    };
+    Row::new("planning", size, inputs)
+        .side(Side::Ours, move |i, ask| {
+            let p = black_box(ours::plan(&sets[i], &mut columns, &mut words));
+            put(ask, p.refusal, || planned(p, &words))
+        })
+        .side(Side::Same, move |i, ask| {
+            let p = black_box(plan(&sets[i], &mut other, &mut in_rust));
+            put(ask, p.err().unwrap_or(0), || of_plan(p.unwrap(), &in_rust))
+        })
+        .side(Side::Plain, move |i, ask| {
+            let set = plain::read_set(&sets[i]).unwrap();
+            let p = black_box(set.plan());
+            put(ask, if p.is_some() { 0 } else { 17 }, || {
+                let (words, expected) = p.unwrap();
+                of_plan([64, words.len() as u64, expected], &words)
+            })
+        })
+}
+
+/// A set of the largest shape with 63 unknown cells, and a record.
+fn large() -> (&'static Content, &'static Vec<u8>, &'static Vec<u8>) {
+    let r = &mut Random::new(3);
+    let content = kept(content_of_rank(r, (64, 256, 512), 63, 63));
+    (content, kept(file_of(content)), kept(record(r, 256, 512)))
+}
+
+pub fn reader() -> Row {
+    let (_, set, _) = large();
+    let all = |m: u64, taps: u64, n: u64, s: u64, spread: &[u64]| {
+        [&[m, taps, n, s], &spread[..n as usize]].concat()
+    };
+    Row::new("set reader", "34,830 bytes".into(), 1)
+        .side(Side::Ours, move |_, ask| {
+            let read = black_box(ours::read_set(black_box(set)));
+            put(ask, read.refusal, || {
+                all(read.m, read.taps, read.n, read.s, &read.spread)
+            })
+        })
+        .side(Side::Same, move |_, ask| {
+            let read = black_box(read_set(black_box(set)));
+            put(ask, 0, || {
+                let (read, spread) = read.unwrap();
+                all(read.m, read.taps, read.n as u64, read.s as u64, &spread)
+            })
+        })
+        .side(Side::Plain, move |_, ask| {
+            let read = black_box(plain::read_set(black_box(set)));
+            put(ask, 0, || {
+                let read = read.unwrap();
+                let n = read.spread.len() as u64;
+                all(read.m.into(), read.taps, n, read.s as u64, &read.spread)
+            })
+        })
+}
+
+type Place = Result<(usize, usize), u64>;
+
+/// A row call: value_row or mark_row.
+pub fn stretch(marks: bool) -> Row {
+    let (_, set, _) = large();
+    let (name, one, other): (_, fn(&[u8], u64) -> CStretch, fn(&[u8], u64) -> Place) = match marks {
+        false => ("value row", ours::value_row, value_row),
+        true => ("mark row", ours::mark_row, mark_row),
+    };
+    Row::new(name, "34,830 bytes".into(), 512)
+        .side(Side::Ours, move |i, ask| {
+            let at = black_box(one(black_box(set), i as u64));
+            put(ask, at.refusal, || vec![at.start, at.length])
+        })
+        .side(Side::Same, move |i, ask| {
+            let at = black_box(other(black_box(set), i as u64));
+            put(ask, at.err().unwrap_or(0), || {
+                let (start, length) = at.unwrap();
+                vec![start as u64, length as u64]
+            })
+        })
+        .side(Side::Plain, move |i, ask| {
+            let set = black_box(plain::read_set(black_box(set))).unwrap();
+            let start = 14 + 8 * set.spread.len() + set.b * (2 * i + usize::from(marks));
+            put(ask, 0, || vec![start as u64, set.b as u64])
+        })
+}
+
+pub fn signature() -> Row {
+    let (_, set, record) = large();
+    let read = plain::read_set(set).unwrap();
+    Row::new("a record's signature", "131,072 cells, half 1".into(), 1)
+        .side(Side::Ours, move |_, ask| {
+            let signed = black_box(ours::sign(set, black_box(record)));
+            put(ask, signed.refusal, || vec![signed.signature])
+        })
+        .side(Side::Same, move |_, ask| {
+            let signed = black_box(sign(set, black_box(record)));
+            put(ask, signed.err().unwrap_or(0), || vec![signed.unwrap()])
+        })
+        .side(Side::Plain, move |_, ask| {
+            let signed = black_box(read.signature(black_box(record), 32));
+            put(ask, 0, || vec![signed])
+        })
+}
+
+/// The bytes as words, for comparing.
+fn bytes(out: &[u8]) -> Vec<u64> {
+    out.iter().map(|&b| u64::from(b)).collect()
+}
+
+pub fn set_writer() -> Row {
+    let (content, _, _) = large();
+    let (mut out, mut other) = (vec![0; 34_830], vec![0; 34_830]);
+    Row::new("set writer", "34,830 bytes".into(), 1)
+        .side(Side::Ours, move |_, ask| {
+            let wrote = black_box(ours::write_set(black_box(content), &mut out));
+            put(ask, wrote.refusal, || bytes(&out[..wrote.length as usize]))
+        })
+        .side(Side::Same, move |_, ask| {
+            let wrote = black_box(write_set(black_box(content), &mut other));
+            put(ask, wrote.err().unwrap_or(0), || {
+                bytes(&other[..wrote.unwrap()])
+            })
+        })
+}
+
+pub fn one_clock() -> Row {
+    let (content, _, record) = large();
+    let row = |i: usize| &record[32 * i..32 * (i + 1)];
+    let state = |i: usize| (i as u64).wrapping_mul(0x9E37_79B9_7F4A_7C15);
+    Row::new("one clock", "256 chains".into(), 512)
+        .side(Side::Ours, move |i, ask| {
+            let clocked = black_box(ours::clock(content, state(i), row(i)));
+            put(ask, clocked.refusal, || vec![clocked.state])
+        })
+        .side(Side::Same, move |i, ask| {
+            let c = content;
+            let clocked = black_box(clock(c.m, c.taps, state(i), &c.spread, row(i)));
+            put(ask, clocked.err().unwrap_or(0), || vec![clocked.unwrap()])
+        })
+}
+
+/// 63 words, their expected bits, and their plan file.
+fn large_plan() -> (&'static Vec<u64>, u64, &'static Vec<u8>) {
+    let r = &mut Random::new(4);
+    let mut words = [0; 64];
+    ours::eliminate(&[r.word() | 1], &mut words);
+    let expected = r.word() >> 1;
+    let mut out = vec![0; 526];
+    let wrote = ours::write_plan(&words[..63], expected, &mut out);
+    out.truncate(wrote.length as usize);
+    (kept(words[..63].to_vec()), expected, kept(out))
+}
+
+pub fn judging() -> Row {
+    let (_, _, plan) = large_plan();
+    let r = &mut Random::new(5);
+    let signatures: &Vec<u64> = kept((0..256).map(|_| r.word()).collect());
+    let at = |first: Option<u64>| vec![u64::from(first.is_some()), first.unwrap_or(0)];
+    Row::new("judging", "63 words".into(), 256)
+        .side(Side::Ours, move |i, ask| {
+            let j = black_box(ours::judge(black_box(plan), signatures[i]));
+            put(ask, j.refusal, || vec![j.cancelled, j.failed, j.index])
+        })
+        .side(Side::Same, move |i, ask| {
+            let j = black_box(same::plan::judge(black_box(plan), signatures[i]));
+            put(ask, j.err().unwrap_or(0), || {
+                let (cancelled, first) = j.unwrap();
+                [vec![cancelled], at(first.map(u64::from))].concat()
+            })
+        })
+        .side(Side::Plain, move |i, ask| {
+            let (cancelled, first) = black_box(plain::judge(black_box(plan), signatures[i]));
+            put(ask, 0, || {
+                [vec![cancelled], at(first.map(|f| f as u64))].concat()
+            })
+        })
+}
+
+pub fn plan_reader() -> Row {
+    let (_, _, plan) = large_plan();
+    let (mut words, mut other) = ([0; 64], [0; 64]);
+    Row::new("plan reader", "63 words".into(), 1)
+        .side(Side::Ours, move |_, ask| {
+            let p = black_box(ours::read_plan(black_box(plan), &mut words));
+            put(ask, p.refusal, || planned(p, &words))
+        })
+        .side(Side::Same, move |_, ask| {
+            let p = black_box(same::plan::read_plan(black_box(plan), &mut other));
+            put(ask, p.err().unwrap_or(0), || of_plan(p.unwrap(), &other))
+        })
+}
+
+pub fn plan_writer() -> Row {
+    let (words, expected, _) = large_plan();
+    let (mut out, mut other) = ([0; 526], [0; 526]);
+    Row::new("plan writer", "63 words".into(), 1)
+        .side(Side::Ours, move |_, ask| {
+            let wrote = black_box(ours::write_plan(black_box(words), expected, &mut out));
+            put(ask, wrote.refusal, || bytes(&out[..wrote.length as usize]))
+        })
+        .side(Side::Same, move |_, ask| {
+            let wrote = same::plan::write_plan(64, black_box(words), expected, &mut other);
+            let wrote = black_box(wrote);
+            put(ask, wrote.err().unwrap_or(0), || {
+                bytes(&other[..wrote.unwrap()])
+            })
+        })
+}
+
+/// An elimination at width 64, by the libraries too. What those give is a count of words, compared here.
+pub fn elimination(count: usize, rank: usize, inputs: usize) -> Row {
+    let r = &mut Random::new(6);
+    let one = |_| columns_of_rank(r, 64, rank, count);
+    let lists: &Vec<Vec<u64>> = kept((0..inputs).map(one).collect());
+    let (mut words, mut other) = ([0; 64], [0; 64]);
+    let size = match rank {
+        64 => format!("{count} columns of full rank"),
+        _ => format!("{count} columns of rank {rank}"),
+    };
+    let mut row = Row::new("elimination", size, inputs)
+        .side(Side::Ours, move |i, ask| {
+            let e = black_box(ours::eliminate(&lists[i], &mut words));
+            put(ask, e.refusal, || words[..e.q as usize].to_vec())
+        })
+        .side(Side::Same, move |i, ask| {
+            let e = black_box(eliminate(64, &lists[i], &mut other));
+            put(ask, e.err().unwrap_or(0), || other[..e.unwrap().1].to_vec())
+        })
+        .side(Side::Plain, move |i, ask| {
+            let words = black_box(plain::eliminate(64, &lists[i]));
+            put(ask, if words.is_some() { 0 } else { 17 }, || words.unwrap())
+        });
+    for (name, kernel) in kernels() {
+        row = row.side(Side::Other(name), move |i, ask| {
+            let found = black_box(kernel(lists[i].as_ptr(), lists[i].len()));
+            assert!(!ask || found as usize == 64 - rank, "{name} finds {found}");
+            None
+        });
+    }
+    row
+}
+
+pub const PLANNINGS: [(usize, usize); 8] = [
+    (63, 63),
+    (500, 40),
+    (500, 63),
+    (4_096, 40),
+    (4_096, 63),
+    (131_072, 40),
+    (131_072, 63),
+    (131_072, 64),
+];
+
+pub const ELIMINATIONS: [(usize, usize); 7] = [
+    (16, 16),
+    (63, 63),
+    (500, 40),
+    (500, 63),
+    (131_072, 40),
+    (131_072, 63),
+    (131_072, 64),
+];
+
+/// The calls with one size.
+const OTHERS: [fn() -> Row; 9] = [
+    reader,
+    || stretch(false),
+    || stretch(true),
+    signature,
+    set_writer,
+    one_clock,
+    judging,
+    plan_reader,
+    plan_writer,
+];
+
+/// The whole table, row by row.
+pub fn print_all() {
+    for unknowns in [63, 500, 4_096, 131_072] {
+        listing(512, unknowns, 63, inputs_for(unknowns)).print();
+    }
+    for (unknowns, rank) in PLANNINGS {
+        planning(512, unknowns, rank, inputs_for(unknowns)).print();
+    }
+    for row in OTHERS {
+        row().print();
+    }
+    for (count, rank) in ELIMINATIONS {
+        elimination(count, rank, inputs_for(count)).print();
+    }
+}
+
+#[cfg(test)]
+mod tests {
+    use super::*;
+
+    /// What the sides of a row give to its inputs agrees.
+    fn agree(mut row: Row, gives: &str) {
+        assert_eq!(row.compared(), gives, "{} of {}", row.call, row.size);
+    }
+
+    #[test]
+    fn all_sides_agree_where_the_library_changes_its_way() {
+        for unknowns in [1, 63, 511, 512, 513, 700] {
+            let rank = unknowns.min(40);
+            agree(listing(9, unknowns, rank, 4), "an answer");
+            agree(planning(9, unknowns, rank, 4), "an answer");
+        }
+        agree(planning(9, 700, 64, 4), "refusal 17");
+        for (count, rank) in [(16, 16), (500, 40), (700, 40), (9_000, 62), (9_000, 63)] {
+            agree(elimination(count, rank, 4), "an answer");
+        }
+        agree(elimination(9_000, 64, 4), "refusal 17");
+    }
+
+    #[test]
+    fn all_sides_of_the_other_calls_agree() {
+        for row in OTHERS {
+            agree(row(), "an answer");
+        }
+    }
+}

@@ -1,0 +1,96 @@
+//! The elimination: it keeps the word list itself, and passes over columns that change nothing by a table of parities of bytes.
+
+use super::*;
+
+/// Takes a column into the words; how many are left.
+fn add_column(words: &mut [u64], column: u64) -> usize {
+    let Some(at) = words.iter().position(|&w| odd(w, column) == 1) else {
+        return words.len();
+    };
+    let pivot = words[at];
+    for i in at + 1..words.len() {
+        let w = words[i];
+        words[i - 1] = if odd(w, column) == 1 { w ^ pivot } else { w };
+    }
+    words.len() - 1
+}
+
+/// The parities of every byte of a column with the words.
+fn byte_table(words: &[u64]) -> [u64; 2048] {
+    let mut bits = [0; 64];
+    for (i, entry) in bits.iter_mut().enumerate() {
+        *entry = parities(words, 1 << i);
+    }
+    let mut table = [0; 2048];
+    for e in 0..2048usize {
+        let byte = e % 256;
+        if byte != 0 {
+            let top = byte.ilog2() as usize;
+            table[e] = table[e - (1 << top)] ^ bits[8 * (e / 256) + top];
+        }
+    }
+    table
+}
+
+fn looked_up(table: &[u64; 2048], column: u64) -> u64 {
+    let bytes = column.to_le_bytes();
+    let entries = table.chunks_exact(256).zip(bytes);
+    entries.fold(0, |all, (entry, byte)| all ^ entry[usize::from(byte)])
+}
+
+/// How many of the columns are even with all the words, up to the first that isn't.
+fn skip_even(words: &[u64], columns: &[u64]) -> usize {
+    let table = byte_table(words);
+    let first = columns.iter().position(|&c| looked_up(&table, c) != 0);
+    first.unwrap_or(columns.len())
+}
+
+/// The place of the column to take next: the table is made where the last column changed nothing and it pays.
+fn next_place(words: &[u64], before: usize, columns: &[u64], from: usize) -> usize {
+    let count = words.len();
+    if count != before || count < 2 || columns.len() <= from {
+        return from;
+    }
+    if (columns.len() - from) / 64 * count < 256 {
+        return from;
+    }
+    from + skip_even(words, &columns[from..])
+}
+
+/// How many words are left, at the front of `held`.
+fn reduce(held: &mut [u64], columns: &[u64]) -> usize {
+    let mut left = held.len();
+    let mut i = 0;
+    while i < columns.len() {
+        if left == 0 {
+            return 0;
+        }
+        let before = left;
+        left = add_column(&mut held[..left], columns[i]);
+        i = next_place(&held[..left], before, columns, i + 1);
+    }
+    left
+}
+
+/// The elimination: the words over the front of the list, and the rank and q.
+pub fn eliminate(m: u64, columns: &[u64], words: &mut [u64]) -> Result<(u64, usize), u64> {
+    if !(1..=64).contains(&m) {
+        return Err(2);
+    }
+    if m < 64 && beyond(m, columns.iter().fold(0, |a, c| a | c)) {
+        return Err(15);
+    }
+    let mut held = [0u64; 64];
+    for (i, w) in held.iter_mut().enumerate() {
+        *w = 1 << i;
+    }
+    let q = reduce(&mut held[..m as usize], columns);
+    if q == 0 {
+        return Err(17);
+    }
+    if words.len() < q {
+        return Err(18);
+    }
+    words[..q].copy_from_slice(&held[..q]);
+    Ok((m - q as u64, q))
+}

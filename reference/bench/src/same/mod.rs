@@ -1,0 +1,60 @@
+//! The library's own algorithms in ordinary Rust, thresholds and tables included, to measure what proof and Rattle's compiler cost.
+//! Built for plain x86-64, as the library is. The files follow its crates, and a function that does what one of the library's does has
+//! its name.
+
+pub mod elimination;
+pub mod plan;
+pub mod response;
+pub mod set;
+
+/// The count of two bytes at place `at`, which are there.
+fn count(bytes: &[u8], at: usize) -> usize {
+    usize::from(bytes[at]) | usize::from(bytes[at + 1]) << 8
+}
+
+/// The word of eight bytes at place `at`; bytes past the end count as 0.
+fn word(bytes: &[u8], at: usize) -> u64 {
+    match bytes.get(at..at + 8) {
+        Some(eight) => u64::from_le_bytes(eight.try_into().unwrap()),
+        None => short_word(bytes, at),
+    }
+}
+
+fn short_word(bytes: &[u8], at: usize) -> u64 {
+    let there = bytes.iter().skip(at).take(8).rev();
+    there.fold(0, |w, &b| w << 8 | u64::from(b))
+}
+
+fn beyond(m: u64, w: u64) -> bool {
+    m < 64 && w >> m != 0
+}
+
+fn odd(a: u64, b: u64) -> u64 {
+    u64::from((a & b).count_ones() & 1)
+}
+
+/// The parities of the words with y as one word, bit i for word i.
+fn parities(words: &[u64], y: u64) -> u64 {
+    words.iter().rev().fold(0, |bits, &w| 2 * bits + odd(w, y))
+}
+
+fn bad_taps(m: u64, taps: u64) -> bool {
+    taps & 1 == 0 || beyond(m, taps)
+}
+
+fn bad_spread(m: u64, spread: &[u64]) -> bool {
+    spread.iter().any(|&w| w == 0 || beyond(m, w))
+}
+
+/// Whether a row of n chains has a spare bit set, by one byte.
+fn spare_bit(n: usize, row: &[u8]) -> bool {
+    n % 8 != 0 && row[n / 8] >> (n % 8) != 0
+}
+
+/// .. one of some rows; rows of whole bytes have none.
+fn spare_row(n: usize, rows: &[u8]) -> bool {
+    n % 8 != 0
+        && rows
+            .chunks_exact(n.div_ceil(8))
+            .any(|row| spare_bit(n, row))
+}

@@ -1,0 +1,163 @@
+//! Responses: a record's signature, the signature for all unknowns 0, and the columns; and planning.
+
+use super::elimination::eliminate;
+use super::set::{next_state, read_set, Read};
+use super::*;
+
+/// The XORs of the spread words of each half byte of a row.
+fn half_bytes(spread: &[u64]) -> [u64; 1024] {
+    let mut table = [0; 1024];
+    for e in 0..16 * spread.len().div_ceil(4) {
+        let half = e % 16;
+        if half != 0 {
+            let top = half.ilog2() as usize;
+            let last = spread.get(4 * (e / 16) + top).copied();
+            table[e] = table[e - (1 << top)] ^ last.unwrap_or(0);
+        }
+    }
+    table
+}
+
+/// The signature of the rows of b bytes that stand `stride` bytes apart.
+fn run_rows(read: Read, spread: &[u64], bytes: &[u8], stride: usize, b: usize) -> u64 {
+    let table = half_bytes(spread);
+    let mut state = 0;
+    for t in 0..read.s {
+        let row = &bytes[stride * t..stride * t + b];
+        let mut drive = 0;
+        for (half_pair, &byte) in table.chunks_exact(32).zip(row) {
+            drive ^= half_pair[usize::from(byte % 16)] ^ half_pair[16 + usize::from(byte / 16)];
+        }
+        state = next_state(read.m, read.taps, state) ^ drive;
+    }
+    state
+}
+
+/// A record's signature.
+pub fn sign(set: &[u8], record: &[u8]) -> Result<u64, u64> {
+    let (read, spread) = read_set(set)?;
+    let b = read.n.div_ceil(8);
+    if record.len() != b * read.s {
+        return Err(12);
+    }
+    if spare_row(read.n, record) {
+        return Err(13);
+    }
+    Ok(run_rows(read, &spread[..read.n], record, b, b))
+}
+
+fn mark_row(set: &[u8], n: usize, t: usize) -> &[u8] {
+    let b = n.div_ceil(8);
+    let at = 14 + 8 * n + 2 * b * t + b;
+    &set[at..at + b]
+}
+
+/// The unknown cells, by four words of 64 marks for each row.
+fn count_unknowns(set: &[u8], read: Read) -> usize {
+    let mut found = 0;
+    for t in 0..read.s {
+        let row = mark_row(set, read.n, t);
+        for i in 0..4 {
+            found += word(row, 8 * i).count_ones() as usize;
+        }
+    }
+    found
+}
+
+/// The words of a row's marked chains over the end of the list, by words of 64 marks; how many places stand before them. (The
+/// library has a second way here, for lists that are too short: no call comes to it.)
+fn list_row(columns: &mut [u64], words: &[u64], row: &[u8]) -> usize {
+    let mut place = columns.len();
+    for i in (0..words.len().div_ceil(64)).rev() {
+        let left = words.len() - 64 * i;
+        let mask = if left < 64 { (1 << left) - 1 } else { u64::MAX };
+        let mut marks = word(row, 8 * i) & mask;
+        if marks == 0 {
+            continue;
+        }
+        let end = place;
+        place -= marks.count_ones() as usize;
+        for column in &mut columns[place..end] {
+            *column = words[64 * i + marks.trailing_zeros() as usize];
+            marks &= marks - 1;
+        }
+    }
+    place
+}
+
+/// From the last slice on, all chains' words advanced by one clock for each.
+fn fill_swept(set: &[u8], read: Read, spread: &[u64; 256], columns: &mut [u64]) {
+    let mut all = *spread;
+    let words = &mut all[..read.n];
+    let mut place = columns.len();
+    for t in (0..read.s).rev() {
+        place = list_row(&mut columns[..place], words, mark_row(set, read.n, t));
+        for w in &mut *words {
+            *w = next_state(read.m, read.taps, *w);
+        }
+    }
+}
+
+/// The word 1 after 0 to 575 clocks.
+fn powers(read: Read) -> [u64; 576] {
+    let mut table = [0u64; 576];
+    let mut power = 1;
+    for entry in &mut table {
+        *entry = power;
+        power = next_state(read.m, read.taps, power);
+    }
+    table
+}
+
+/// Each column from the powers of the register: bit i of the spread word, j clocks later, is bit 0 after i + j clocks.
+fn fill_sparse(set: &[u8], read: Read, spread: &[u64; 256], columns: &mut [u64]) {
+    let table = powers(read);
+    let mut place = columns.len();
+    for t in (0..read.s).rev() {
+        let row = mark_row(set, read.n, t);
+        let start = list_row(&mut columns[..place], &spread[..read.n], row);
+        let later = &table[read.s - 1 - t..][..read.m as usize];
+        for column in &mut columns[start..place] {
+            let w = *column;
+            let bit = |k: usize| (w >> k & 1).wrapping_neg();
+            let chosen = later.iter().enumerate().map(|(k, p)| p & bit(k));
+            *column = chosen.fold(0, |a, p| a ^ p);
+        }
+        place = start;
+    }
+}
+
+/// Up to 512 columns are made one by one; for more, all the chains' words are advanced together.
+fn fill_columns(set: &[u8], read: Read, spread: &[u64; 256], columns: &mut [u64]) {
+    if columns.len() > 512 || bad_spread(read.m, &spread[..read.n]) {
+        fill_swept(set, read, spread, columns)
+    } else {
+        fill_sparse(set, read, spread, columns)
+    }
+}
+
+/// The columns.
+pub fn list_columns(set: &[u8], columns: &mut [u64]) -> Result<usize, u64> {
+    let (read, spread) = read_set(set)?;
+    let unknowns = count_unknowns(set, read);
+    if columns.len() < unknowns {
+        return Err(14);
+    }
+    fill_columns(set, read, &spread, &mut columns[..unknowns]);
+    Ok(unknowns)
+}
+
+/// Planning: m, q and the expected bits.
+pub fn plan(set: &[u8], columns: &mut [u64], words: &mut [u64]) -> Result<[u64; 3], u64> {
+    let (read, spread) = read_set(set)?;
+    let unknowns = count_unknowns(set, read);
+    if columns.len() < unknowns {
+        return Err(14);
+    }
+    fill_columns(set, read, &spread, &mut columns[..unknowns]);
+    let (_, q) = eliminate(read.m, &columns[..unknowns], words)?;
+    let b = read.n.div_ceil(8);
+    let rows = &set[14 + 8 * read.n..];
+    let zero = run_rows(read, &spread[..read.n], rows, 2 * b, b);
+    Ok([read.m, q as u64, parities(&words[..q], zero)])
+}

@@ -1,0 +1,203 @@
+//! The set file: its reader, the rows of one slice, its writer; and the register's clock.
+
+use super::*;
+use reference::second::set::Content;
+
+#[derive(Clone, Copy)]
+pub struct Read {
+    pub m: u64,
+    pub taps: u64,
+    pub n: usize,
+    pub s: usize,
+}
+
+/// Numbers 1 to 6, the spread words read where they stand.
+fn head_refusal(set: &[u8]) -> u64 {
+    if set.len() < 10 {
+        return 1;
+    }
+    let m = count(set, 0) as u64;
+    if !(1..=64).contains(&m) {
+        return 2;
+    }
+    if bad_taps(m, word(set, 2)) {
+        return 3;
+    }
+    if set.len() < 12 || !(1..=256).contains(&count(set, 10)) {
+        return 4;
+    }
+    let n = count(set, 10);
+    if set.len() < 12 + 8 * n {
+        return 5;
+    }
+    let mut words = set[12..12 + 8 * n].chunks_exact(8).map(|b| word(b, 0));
+    if words.any(|w| w == 0 || beyond(m, w)) {
+        return 6;
+    }
+    0
+}
+
+/// Whether a byte of the values and the byte of the marks at the same place have a bit in common.
+fn share_a_bit(values: &[u8], marks: &[u8]) -> bool {
+    let shared = values.iter().zip(marks).fold(0, |a, (v, k)| a | (v & k));
+    shared != 0
+}
+
+/// .. and 7 to 10: 9 by one byte of each row, 10 by whole bytes.
+fn first_refusal(set: &[u8]) -> u64 {
+    let number = head_refusal(set);
+    if number != 0 {
+        return number;
+    }
+    let n = count(set, 10);
+    if set.len() < 14 + 8 * n || count(set, 12 + 8 * n) > 512 {
+        return 7;
+    }
+    let (b, s) = (n.div_ceil(8), count(set, 12 + 8 * n));
+    if set.len() != 14 + 8 * n + 2 * b * s {
+        return 8;
+    }
+    let rows = &set[14 + 8 * n..];
+    if spare_row(n, rows) {
+        return 9;
+    }
+    for slice in rows.chunks_exact(2 * b) {
+        if share_a_bit(&slice[..b], &slice[b..]) {
+            return 10;
+        }
+    }
+    0
+}
+
+pub fn read_set(set: &[u8]) -> Result<(Read, [u64; 256]), u64> {
+    let number = first_refusal(set);
+    if number != 0 {
+        return Err(number);
+    }
+    let n = count(set, 10);
+    let mut spread = [0; 256];
+    for (w, bytes) in spread[..n].iter_mut().zip(set[12..].chunks_exact(8)) {
+        *w = word(bytes, 0);
+    }
+    let read = Read {
+        m: count(set, 0) as u64,
+        taps: word(set, 2),
+        n,
+        s: count(set, 12 + 8 * n),
+    };
+    Ok((read, spread))
+}
+
+/// Where the value row of a slice stands, and its bytes.
+pub fn value_row(set: &[u8], slice: u64) -> Result<(usize, usize), u64> {
+    let number = first_refusal(set);
+    if number != 0 {
+        return Err(number);
+    }
+    let n = count(set, 10);
+    if slice >= count(set, 12 + 8 * n) as u64 {
+        return Err(11);
+    }
+    let b = n.div_ceil(8);
+    Ok((14 + 8 * n + 2 * b * slice as usize, b))
+}
+
+pub fn mark_row(set: &[u8], slice: u64) -> Result<(usize, usize), u64> {
+    value_row(set, slice).map(|(start, bytes)| (start + bytes, bytes))
+}
+
+fn write_refusal(c: &Content, room: usize) -> u64 {
+    if !(1..=64).contains(&c.m) {
+        return 2;
+    }
+    if bad_taps(c.m, c.taps) {
+        return 3;
+    }
+    let n = c.spread.len();
+    if !(1..=256).contains(&n) {
+        return 4;
+    }
+    if bad_spread(c.m, &c.spread) {
+        return 6;
+    }
+    if c.s > 512 {
+        return 7;
+    }
+    let rows = n.div_ceil(8) * c.s as usize;
+    if c.values.len() != rows || c.marks.len() != rows {
+        return 8;
+    }
+    if spare_row(n, &c.values) || spare_row(n, &c.marks) {
+        return 9;
+    }
+    if share_a_bit(&c.values, &c.marks) {
+        return 10;
+    }
+    if room < 14 + 8 * n + 2 * rows {
+        return 24;
+    }
+    0
+}
+
+/// The set writer.
+pub fn write_set(c: &Content, out: &mut [u8]) -> Result<usize, u64> {
+    let number = write_refusal(c, out.len());
+    if number != 0 {
+        return Err(number);
+    }
+    let n = c.spread.len();
+    let b = n.div_ceil(8);
+    out[..2].copy_from_slice(&(c.m as u16).to_le_bytes());
+    out[2..10].copy_from_slice(&c.taps.to_le_bytes());
+    out[10..12].copy_from_slice(&(n as u16).to_le_bytes());
+    for (to, w) in out[12..].chunks_exact_mut(8).zip(&c.spread) {
+        to.copy_from_slice(&w.to_le_bytes());
+    }
+    let at = 14 + 8 * n;
+    out[at - 2..at].copy_from_slice(&(c.s as u16).to_le_bytes());
+    let rows = c.values.chunks_exact(b).zip(c.marks.chunks_exact(b));
+    for (to, (values, marks)) in out[at..].chunks_exact_mut(2 * b).zip(rows) {
+        to[..b].copy_from_slice(values);
+        to[b..].copy_from_slice(marks);
+    }
+    Ok(at + 2 * b * c.s as usize)
+}
+
+/// The state after one clock with all cells 0.
+pub fn next_state(m: u64, taps: u64, state: u64) -> u64 {
+    let feedback = if state >> (m - 1) & 1 == 1 { taps } else { 0 };
+    (state << 1 & (u64::MAX >> (64 - m))) ^ feedback
+}
+
+/// One clock with the cells of a row, cell by cell.
+pub fn clock(m: u64, taps: u64, state: u64, spread: &[u64], row: &[u8]) -> Result<u64, u64> {
+    if !(1..=64).contains(&m) {
+        return Err(2);
+    }
+    if bad_taps(m, taps) {
+        return Err(3);
+    }
+    let n = spread.len();
+    if !(1..=256).contains(&n) {
+        return Err(4);
+    }
+    if bad_spread(m, spread) {
+        return Err(6);
+    }
+    if row.len() != n.div_ceil(8) {
+        return Err(8);
+    }
+    if spare_bit(n, row) {
+        return Err(9);
+    }
+    if beyond(m, state) {
+        return Err(23);
+    }
+    let mut drive = 0;
+    for (c, &w) in spread.iter().enumerate() {
+        if row[c / 8] >> (c % 8) & 1 == 1 {
+            drive ^= w;
+        }
+    }
+    Ok(next_state(m, taps, state) ^ drive)
+}
