@@ -58,20 +58,19 @@ Prints set cs ws l r cs′ ws′ l′ =
 pub refused-front : {l : List ℕ} (n : ℕ) {r : ℕ} {l′ : List ℕ} → Put l 0 (refusedLine n) r l′ → length l ≡ 4096 → (r ≡ length (refusedLine n)) × (l′ ≡ front (refusedLine n) l)
 refused-front n p h = put-front (refusedLine n) p (omega (arith, length-refused-line n))
 
-pub told : (p : Planned) (n k : ℕ) → p ≡ Refused n → k ≡ numberOf (said p) → refusal k ≡ said p
-told p n k e h = ap refusal (h ∙ ap (λ (x : Planned). numberOf (said x)) e) ∙ sym (ap said e)
-
-pub prints-refused : (set cs ws l : List ℕ) (r : ℕ) (cs′ ws′ l′ : List ℕ) (k : ℕ) → refusal k ≡ planReply set (length cs) (length ws) → cs′ ≡ columnsAfter set cs
-    → ws′ ≡ lent (planReply set (length cs) (length ws)) (wordsOf set) ws → r ≡ length (refusedLine k) → l′ ≡ front (refusedLine k) l → Prints set cs ws l r cs′ ws′ l′
+-- planning refuses; k is the number that `number_of` gives
+pub prints-refused : (set cs ws l : List ℕ) (r : ℕ) (cs′ ws′ l′ : List ℕ) (p : Planned) (n k : ℕ) → Ends set cs ws p cs′ ws′ → p ≡ Refused n → k ≡ numberOf (said p)
+    → r ≡ length (refusedLine k) → l′ ≡ front (refusedLine k) l → Prints set cs ws l r cs′ ws′ l′
 unfolding planText
-prints-refused set cs ws l r cs′ ws′ l′ k e c w er el =
-    let text : refusedLine k ≡ planText set (length cs) (length ws) = ap (λ (x : Reply PlanParts). textOf x set) e in
-    (er ∙ ap length text, (el ∙ ap (λ (x : List ℕ). front x l) text, (c, w)))
+prints-refused set cs ws l r cs′ ws′ l′ p n k ends e h er el =
+    let told : refusal k ≡ said p = ap refusal (h ∙ ap (λ (x : Planned). numberOf (said x)) e) ∙ sym (ap said e) in
+    let text : refusedLine k ≡ planText set (length cs) (length ws) = ap (λ (x : Reply PlanParts). textOf x set) (told ∙ ends .0) in
+    (er ∙ ap length text, (el ∙ ap (λ (x : List ℕ). front x l) text, ends .1))
 
 -- the set is refused before planning
 pub ends-at-set : (set cs ws l : List ℕ) (r : ℕ) (l′ : List ℕ) (k : ℕ) → Ends set cs ws (Refused k) cs ws → r ≡ length (refusedLine k) → l′ ≡ front (refusedLine k) l
     → Prints set cs ws l r cs ws l′
-ends-at-set set cs ws l r l′ k e = prints-refused set cs ws l r cs ws l′ k (e .0) (e .1 .0) (e .1 .1)
+ends-at-set set cs ws l r l′ k ends = prints-refused set cs ws l r cs ws l′ (Refused k) k k ends refl refl
 
 -- a plan
 

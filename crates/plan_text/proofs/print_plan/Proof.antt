@@ -1,11 +1,11 @@
 -- `print_plan` meets its contract: each way out by its law.
-use mathlib.Core.Path.{sym, _∙_}
+use mathlib.Core.Path.{sym}
 use lib.Seq.{length-take-le}
 use borrow.Author.Needs.{needs}
 use Rattle.set_file.proofs.ReadLaws.{refused-set, taken-set}
 use Rattle.columns.proofs.CallLaws.{list-set-refused, unknowns-are}
 use Rattle.planner.proofs.CallLaws.{ends-unlisted}
-use Rattle.plan_text.proofs.PrintLaws.{told, ends-at-set, prints-refused, printed-room, prints-plan}
+use Rattle.plan_text.proofs.PrintLaws.{ends-at-set, prints-refused, printed-room, prints-plan}
 use Rattle.plan_text.proofs.print_plan.Statement.{statement}
 use Rattle.plan_text.proofs.print_plan.Tie as tie
 
@@ -21,9 +21,8 @@ returns-2 : tie.Need-returns-2
 returns-2 c =
     let args = c .before .before .before .before .before .before .before .before .before .before .before .before .before .before .before .before .before .before .before .args in
     let plan = c .before .before .before .before .before .before .before .before .before .plan .ensures in
-    prints-refused (args .set .now) (args .columns .now) (args .words .now) (args .out .now) _ _ _ _ _
-    (told _ _ _ (c .before .before .before .enum-told2 .given .1) (c .before .number-of2 .ensures) ∙ plan .0) (plan .1 .0) (plan .1 .1)
-    (c .put-refused2 .ensures .0) (c .put-refused2 .ensures .1)
+    prints-refused (args .set .now) (args .columns .now) (args .words .now) (args .out .now) _ _ _ _ _ _ _ plan
+    (c .before .before .before .enum-told2 .given .1) (c .before .number-of2 .ensures) (c .put-refused2 .ensures .0) (c .put-refused2 .ensures .1)
 
 -- the words stand in the word list
 slice-reshare-prefix-put-word-lines : tie.Need-slice-reshare-prefix-put-word-lines
