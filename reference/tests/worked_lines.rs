@@ -1,33 +1,81 @@
-//! Document 01, "Worked on paper", each line through the library beside the second implementation.
+//! Document 01, "Worked on paper", each line through the library beside the second implementation, and beside the lines their
+//! nearest neighbours: other widths, lists of one place, each row of the sample, records that are refused.
 
 use reference::both::Both;
 use reference::repository::sample;
+use reference::second::set::{read_set, row_place, Row};
+use reference::second::word_of;
 
 fn both() -> Both {
     Both::at("document 01, worked on paper")
 }
 
+/// What the set reader answers with: m, the tap word, n and s.
+fn read(set: &[u8]) -> Result<(u64, u64, usize, usize), u64> {
+    both().read_set(set)?;
+    let set = read_set(set)?;
+    let (m, taps) = (set.circuit.m as u64, word_of(&set.circuit.taps));
+    Ok((m, taps, set.n(), set.s()))
+}
+
+/// A set that ends before its rows: n chains, each with the spread word 1, and the slice count s.
+fn without_rows(m: u16, taps: u64, n: u16, s: u16) -> Vec<u8> {
+    let mut set = [&m.to_le_bytes()[..], &taps.to_le_bytes(), &n.to_le_bytes()].concat();
+    for _ in 0..n {
+        set.extend(1u64.to_le_bytes());
+    }
+    set.extend(s.to_le_bytes());
+    set
+}
+
 #[test]
 fn eliminations() {
-    let lines: [(u64, Vec<u64>, &[u64]); 4] = [
-        (6, vec![27, 2, 54, 32], &[9, 21]),
-        (4, vec![14, 9], &[6, 11]),
-        (3, vec![], &[1, 2, 4]),
-        (2, vec![0], &[1, 2]),
+    let lines: [(u64, &[u64], u64, &[u64]); 6] = [
+        (6, &[27, 2, 54, 32], 4, &[9, 21]),
+        (4, &[14, 9], 2, &[6, 11]),
+        (3, &[], 0, &[1, 2, 4]),
+        (2, &[0], 0, &[1, 2]),
+        (3, &[7; 512], 1, &[3, 5]),
+        (1, &[0], 0, &[1]),
     ];
-    for (m, columns, words) in lines {
-        let (_, listed) = both().eliminate(m, &columns, 64).unwrap();
-        assert_eq!(listed, words, "m {m}");
+    for (m, columns, rank, words) in lines {
+        let answer = Ok((rank, words.to_vec()));
+        assert_eq!(both().eliminate(m, columns, 64), answer, "m {m}");
     }
-    let sevens = vec![7; 512];
-    assert_eq!(both().eliminate(3, &sevens, 64), Ok((1, vec![3, 5])));
-    assert_eq!(both().eliminate(1, &[1], 64), Err(17));
+    // column 9 leaves each bit but 0 and 3 a word of its own, and the XOR of these two
+    let words = (1..64).map(|i| if i == 3 { 9 } else { 1 << i }).collect();
+    assert_eq!(both().eliminate(64, &[9], 64), Ok((1, words)));
+}
+
+#[test]
+fn eliminations_refused() {
+    let lines: [(u64, &[u64], u64); 4] = [
+        (1, &[1], 17),
+        (0, &[9], 2),
+        (65, &[9], 2),
+        (2, &[1, 2, 4], 15),
+    ];
+    for (m, columns, number) in lines {
+        assert_eq!(both().eliminate(m, columns, 64), Err(number), "m {m}");
+    }
+}
+
+#[test]
+fn eliminations_into_one_place() {
+    assert_eq!(both().eliminate(3, &[7], 1), Err(18));
+    assert_eq!(both().eliminate(2, &[1], 1), Ok((1, vec![2])));
 }
 
 #[test]
 fn clocks() {
-    for (state, next) in [(4, 3), (7, 5)] {
-        assert_eq!(both().clock(3, 3, state, &[1, 4], &[0]), Ok(next));
+    let lines = [
+        (3, 4, Ok(3)),
+        (3, 7, Ok(5)),
+        (9, 0, Err(3)),
+        (3, 8, Err(23)),
+    ];
+    for (taps, state, next) in lines {
+        assert_eq!(both().clock(3, taps, state, &[1, 4], &[0]), next);
     }
 }
 
@@ -35,8 +83,8 @@ fn clocks() {
 fn the_sample() {
     let set = sample("sample.set");
     assert_eq!(set.len(), 34);
+    assert_eq!(read(&set), Ok((3, 3, 2, 2)));
     let mut both = both();
-    both.read_set(&set).unwrap();
     assert_eq!(both.list_columns(&set, 1), Ok(vec![3]));
     let p = both.plan(&set, 1, 2).unwrap();
     assert_eq!((p.m, p.words.clone(), p.expected), (3, vec![3, 4], 0));
@@ -48,11 +96,34 @@ fn the_sample() {
             "signature {y}"
         );
     }
-    for (record, y) in [
-        ("sample-unknown-0.record", 3),
-        ("sample-unknown-1.record", 0),
-    ] {
-        assert_eq!(both.sign(&set, &sample(record)), Ok(y), "{record}");
+}
+
+#[test]
+fn the_samples_rows() {
+    let set = sample("sample.set");
+    for (t, values, marks) in [(0, 1, 2), (1, 1, 0)] {
+        assert_eq!(both().rows(&set, t), Ok(()));
+        for (row, byte) in [(Row::Values, values), (Row::Marks, marks)] {
+            let (start, length) = row_place(&set, t, row).unwrap();
+            assert_eq!(set[start..start + length], [byte], "slice {t}");
+        }
+    }
+    assert_eq!(both().rows(&set, 2), Err(11));
+}
+
+#[test]
+fn the_samples_records() {
+    let set = sample("sample.set");
+    assert_eq!(sample("sample-unknown-0.record"), [1, 1]);
+    assert_eq!(sample("sample-unknown-1.record"), [3, 1]);
+    let lines: [(&[u8], Result<u64, u64>); 4] = [
+        (&[1, 1], Ok(3)),
+        (&[3, 1], Ok(0)),
+        (&[1], Err(12)),
+        (&[4, 1], Err(13)),
+    ];
+    for (record, answer) in lines {
+        assert_eq!(both().sign(&set, record), answer, "{record:?}");
     }
 }
 
@@ -73,4 +144,28 @@ fn edges() {
         assert_eq!(both().read_set(&sample(name)), answer, "{name}");
     }
     assert_eq!(both().sign(&sample("slices-0.set"), &[]), Ok(0));
+}
+
+#[test]
+fn edges_without_rows() {
+    let lines = [
+        (1, 1, 1, 0, 22, Ok((1, 1, 1, 0))),
+        (64, 1, 1, 0, 22, Ok((64, 1, 1, 0))),
+        (0, 1, 1, 0, 22, Err(2)),
+        (65, 1, 1, 0, 22, Err(2)),
+        (3, 9, 1, 0, 22, Err(3)),
+        (3, 3, 256, 0, 2062, Ok((3, 3, 256, 0))),
+        (3, 3, 257, 0, 2070, Err(4)),
+        (3, 3, 1, 513, 22, Err(7)),
+        // 512 slices are taken, but their rows are not there
+        (3, 3, 1, 512, 22, Err(8)),
+    ];
+    for (m, taps, n, s, length, answer) in lines {
+        let set = without_rows(m, taps, n, s);
+        assert_eq!(set.len(), length);
+        assert_eq!(read(&set), answer, "m {m}, taps {taps}, n {n}, s {s}");
+    }
+    let none = without_rows(3, 3, 1, 0);
+    assert_eq!(both().sign(&none, &[]), Ok(0));
+    assert_eq!(both().list_columns(&none, 1), Ok(vec![]));
 }

@@ -1,10 +1,11 @@
 -- How much of its input the plan printer has to read. Document 01: "An input longer than any set counts as a set of the wrong
 -- length." The longest set has 34,830 bytes, and an input that is longer prints what its first 34,831 bytes print:
 --
---   longest-set       a set that meets none of 1 to 10 has at most 34,830 bytes
+--   longest           the bytes of the longest set
+--   longest-set       a set that meets none of 1 to 10 has no more
 --   long-refused      a longer input prints its first number
 --   long-number       .. which is 8 or an earlier one
---   long-input        .. and so do its first 34,831 bytes, for any column places and word places
+--   long-input        .. and so do its bytes up to the first too many, for any column places and word places
 -- Assumes nothing.
 use mathlib.Core.Path.{_≡_, refl, sym, ap, ap₂, _∙_}
 use mathlib.Core.Bool.{Bool, true, false, cond, not, _||_}
@@ -22,15 +23,16 @@ use Rattle.word.specs.Reply.{Reply, replied, firstOf}
 use Rattle.word.proofs.BoolLaws.{or-false-right}
 use Rattle.numbers.proofs.ByteLaws.{number-at-zero, number-at-suc}
 use Rattle.word.proofs.ReplyLaws.{replied-refusal}
-use Rattle.word.proofs.TestLaws.{first-of-sooner}
+use Rattle.word.proofs.TestLaws.{first-sooner}
 use Rattle.rows.specs.Row.{rowBytes}
-use Rattle.register.specs.Circuit.{badTaps, badChains}
+use Rattle.register.specs.Circuit.{badTaps, badChains, tooManySlices}
 use Rattle.chains.specs.Driven.{badSpread}
-use Rattle.set_layout.specs.Layout.{spreadAt, slicesAt, rowsAt, setLength, widthOf, tapsOf, chainsOf, spreadOf, slicesOf}
+use Rattle.set_layout.specs.Layout.{tapsAt, chainsAt, spreadAt, slicesAt, headLength, setLength, widthOf, tapsOf, chainsOf, spreadOf, slicesOf}
+use Rattle.set_layout.proofs.LayoutLaws.{good-chains}
 use Rattle.set_file.specs.Reading.{badSlices, setTests}
 use Rattle.set_file.proofs.Laws.{Accepted, accepted, accepted-chains}
 use Rattle.columns.specs.Listing.{listTests}
-use Rattle.planner.specs.Planning.{PlanParts, planTests, partsOf, planReply}
+use Rattle.planner.specs.Planning.{PlanParts, earlierTests, planTests, partsOf, planReply}
 use Rattle.plan_text.specs.PlanText.{refusedLine, textOf, planText}
 
 -- ---- numbers in the first bytes of a list
@@ -50,11 +52,14 @@ words-at-take (suc k) s n i h =
 
 -- ---- the longest set
 
-set-length-most : (n s : ℕ) → n ≤ 256 → s ≤ 512 → setLength n s ≤ 34830
+abbrev pub longest : ℕ
+longest = setLength 256 512
+
+set-length-most : (n s : ℕ) → n ≤ 256 → s ≤ 512 → setLength n s ≤ longest
 set-length-most n s hn hs =
     let rows : 2 * rowBytes n ≤ 64 = omega arith in omega (arith, mul-le-mul-right s rows)
 
-pub longest-set : (set : List ℕ) → Accepted set → length set ≤ 34830
+pub longest-set : (set : List ℕ) → Accepted set → length set ≤ longest
 longest-set set a =
     omega (arith, a .long, set-length-most (chainsOf set) (slicesOf set) (accepted-chains set a .1) (a .slices))
 
@@ -74,46 +79,46 @@ at-most false n x l h = h refl
 at-last : (b : Bool) (n x : ℕ) → n ≤ 8 → b ≡ true → cond b n x ≤ 8
 at-last b n x l e = omega (arith, stops b n x e)
 
-module _ (set : List ℕ) (h : 34830 < length set) where
+module _ (set : List ℕ) (h : longest < length set) where
   abbrev front : List ℕ
-  front = take 34831 set
+  front = take (suc longest) set
 
-  front-length : length front ≡ 34831
-  front-length = length-take-le 34831 set h
+  front-length : length front ≡ suc longest
+  front-length = length-take-le (suc longest) set h
 
   -- neither ends before place n
-  neither-ends : (n : ℕ) → n ≤ 34831 → ltb (length front) n ≡ ltb (length set) n
+  neither-ends : (n : ℕ) → n ≤ suc longest → ltb (length front) n ≡ ltb (length set) n
   neither-ends n l = le-ltb (length front) n (omega (arith, front-length)) ∙ sym (le-ltb (length set) n (omega arith))
 
   same-width : widthOf front ≡ widthOf set
-  same-width = number-at-take 2 set 34831 0 (omega arith)
+  same-width = number-at-take 2 set (suc longest) 0 (omega arith)
 
   same-taps : tapsOf front ≡ tapsOf set
-  same-taps = number-at-take 8 set 34831 2 (omega arith)
+  same-taps = number-at-take 8 set (suc longest) tapsAt (omega arith)
 
   same-chains : chainsOf front ≡ chainsOf set
-  same-chains = number-at-take 2 set 34831 10 (omega arith)
+  same-chains = number-at-take 2 set (suc longest) chainsAt (omega arith)
 
   -- 5 to 8, for a number of chains that does not meet 4
   module _ (n : chainsOf set ≤ 256) where
     same-spread : spreadOf front ≡ spreadOf set
-    same-spread = ap (wordsAt front spreadAt) same-chains ∙ words-at-take (chainsOf set) set 34831 spreadAt (omega arith)
+    same-spread = ap (wordsAt front spreadAt) same-chains ∙ words-at-take (chainsOf set) set (suc longest) spreadAt (omega arith)
 
     same-slices : slicesOf front ≡ slicesOf set
     same-slices =
-        ap (λ (c : ℕ). numberAt 2 front (slicesAt c)) same-chains ∙ number-at-take 2 set 34831 (slicesAt (chainsOf set)) (omega arith)
+        ap (λ (c : ℕ). numberAt 2 front (slicesAt c)) same-chains ∙ number-at-take 2 set (suc longest) (slicesAt (chainsOf set)) (omega arith)
 
     same-bad-slices : badSlices front ≡ badSlices set
     unfolding badSlices
     same-bad-slices =
-        ap₂ (λ (c s : ℕ). ltb (length front) (rowsAt c) || ltb 512 s) same-chains same-slices
-        ∙ ap (λ (b : Bool). b || ltb 512 (slicesOf set)) (neither-ends (rowsAt (chainsOf set)) (omega arith))
+        ap₂ (λ (c s : ℕ). ltb (length front) (headLength c) || tooManySlices s) same-chains same-slices
+        ∙ ap (λ (b : Bool). b || tooManySlices (slicesOf set)) (neither-ends (headLength (chainsOf set)) (omega arith))
 
     few-slices : badSlices set ≡ false → slicesOf set ≤ 512
     unfolding badSlices
-    few-slices e = ltb-false 512 (slicesOf set) (or-false-right (ltb (length set) (rowsAt (chainsOf set))) (ltb 512 (slicesOf set)) e)
+    few-slices e = ltb-false 512 (slicesOf set) (or-false-right (ltb (length set) (headLength (chainsOf set))) (tooManySlices (slicesOf set)) e)
 
-    too-long : (l : ℕ) → 34830 < l → slicesOf set ≤ 512 → not (eqb l (setLength (chainsOf set) (slicesOf set))) ≡ true
+    too-long : (l : ℕ) → longest < l → slicesOf set ≤ 512 → not (eqb l (setLength (chainsOf set) (slicesOf set))) ≡ true
     too-long l g s =
         ap not (ne-eqb l (setLength (chainsOf set) (slicesOf set)) (λ (e : l ≡ setLength (chainsOf set) (slicesOf set)). omega (arith, set-length-most (chainsOf set) (slicesOf set) n s)))
 
@@ -122,23 +127,19 @@ module _ (set : List ℕ) (h : 34830 < length set) where
         ap₂ (λ (c t : ℕ). not (eqb (length front) (setLength c t))) same-chains same-slices
         ∙ too-long (length front) (omega (arith, front-length)) s
 
-  few-chains : (ltb (length set) 12 || badChains (chainsOf set)) ≡ false → chainsOf set ≤ 256
-  unfolding badChains
-  few-chains e =
-      ltb-false 256 (chainsOf set)
-      (or-false-right (ltb (chainsOf set) 1) (ltb 256 (chainsOf set))
-      (or-false-right (ltb (length set) 12) (ltb (chainsOf set) 1 || ltb 256 (chainsOf set)) e))
+  few-chains : (ltb (length set) spreadAt || badChains (chainsOf set)) ≡ false → chainsOf set ≤ 256
+  few-chains e = good-chains (chainsOf set) (or-false-right (ltb (length set) spreadAt) (badChains (chainsOf set)) e) .1
 
   same-first : firstOf (setTests front) ≡ firstOf (setTests set)
   unfolding setTests
   same-first =
-      alike _ _ 1 _ _ (neither-ends 10 (omega arith))
+      alike _ _ 1 _ _ (neither-ends chainsAt (omega arith))
       (λ e1.
       alike _ _ 2 _ _ (ap badWidth same-width)
       (λ e2.
       alike _ _ 3 _ _ (ap₂ badTaps same-width same-taps)
       (λ e3.
-      alike _ _ 4 _ _ (ap₂ (λ (b : Bool) (c : ℕ). b || badChains c) (neither-ends 12 (omega arith)) same-chains)
+      alike _ _ 4 _ _ (ap₂ (λ (b : Bool) (c : ℕ). b || badChains c) (neither-ends spreadAt (omega arith)) same-chains)
       (λ e4.
       let n : chainsOf set ≤ 256 = few-chains e4 in
       alike _ _ 5 _ _ (ap (λ (c : ℕ). ltb (length front) (slicesAt c)) same-chains ∙ neither-ends (slicesAt (chainsOf set)) (omega arith))
@@ -153,13 +154,13 @@ module _ (set : List ℕ) (h : 34830 < length set) where
   pub long-number : firstOf (setTests set) ≤ 8
   unfolding setTests
   long-number =
-      at-most (ltb (length set) 10) 1 _ (omega arith)
+      at-most (ltb (length set) chainsAt) 1 _ (omega arith)
       (λ e1.
       at-most (badWidth (widthOf set)) 2 _ (omega arith)
       (λ e2.
       at-most (badTaps (widthOf set) (tapsOf set)) 3 _ (omega arith)
       (λ e3.
-      at-most (ltb (length set) 12 || badChains (chainsOf set)) 4 _ (omega arith)
+      at-most (ltb (length set) spreadAt || badChains (chainsOf set)) 4 _ (omega arith)
       (λ e4.
       at-most (ltb (length set) (slicesAt (chainsOf set))) 5 _ (omega arith)
       (λ e5.
@@ -169,22 +170,21 @@ module _ (set : List ℕ) (h : 34830 < length set) where
       (λ e7. at-last _ 8 _ (omega arith) (too-long (few-chains e4) (length set) h (few-slices (few-chains e4) e7)))))))))
 
   some-number : firstOf (setTests set) ≡ 0 → ⊥
-  some-number z = let l : length set ≤ 34830 = longest-set set (accepted set z) in omega arith
+  some-number z = let l : length set ≤ longest = longest-set set (accepted set z) in omega arith
 
 -- a set that meets one of 1 to 10 prints it
-refused-set : (set : List ℕ) (k l : ℕ) → (firstOf (setTests set) ≡ 0 → ⊥) → planText set k l ≡ refusedLine (firstOf (setTests set))
-unfolding planText planReply planTests listTests
-refused-set set k l h =
-    let sooner : firstOf (listTests set k) ≡ firstOf (setTests set) = first-of-sooner (setTests set) _ h in
-    let first : firstOf (planTests set k l) ≡ firstOf (setTests set) =
-    first-of-sooner (listTests set k) _ (λ (z : firstOf (listTests set k) ≡ 0). h (sym sooner ∙ z)) ∙ sooner in
+number-printed : (set : List ℕ) (k l : ℕ) → (firstOf (setTests set) ≡ 0 → ⊥) → planText set k l ≡ refusedLine (firstOf (setTests set))
+unfolding planText planReply planTests earlierTests listTests
+number-printed set k l h =
+    let listed = first-sooner (setTests set) _ _ refl h in
+    let first = first-sooner (earlierTests set k) _ _ (first-sooner (listTests set k) _ _ listed h) h in
     ap (λ (x : Reply PlanParts). textOf x set)
-    (ap (λ (x : ℕ). replied x (partsOf set)) first ∙ replied-refusal (firstOf (setTests set)) (partsOf set) h)
+    (ap (λ (x : ℕ). replied x (partsOf set)) (sym first) ∙ replied-refusal (firstOf (setTests set)) (partsOf set) h)
 
-pub long-refused : (set : List ℕ) (k l : ℕ) → 34830 < length set → planText set k l ≡ refusedLine (firstOf (setTests set))
-long-refused set k l h = refused-set set k l (some-number set h)
+pub long-refused : (set : List ℕ) (k l : ℕ) → longest < length set → planText set k l ≡ refusedLine (firstOf (setTests set))
+long-refused set k l h = number-printed set k l (some-number set h)
 
-pub long-input : (set : List ℕ) (k l : ℕ) → 34830 < length set → planText (take 34831 set) k l ≡ planText set k l
+pub long-input : (set : List ℕ) (k l : ℕ) → longest < length set → planText (take (suc longest) set) k l ≡ planText set k l
 long-input set k l h =
-    refused-set (take 34831 set) k l (λ (z : firstOf (setTests (take 34831 set)) ≡ 0). some-number set h (sym (same-first set h) ∙ z))
+    number-printed (take (suc longest) set) k l (λ (z : firstOf (setTests (take (suc longest) set)) ≡ 0). some-number set h (sym (same-first set h) ∙ z))
     ∙ ap refusedLine (same-first set h) ∙ sym (long-refused set k l h)

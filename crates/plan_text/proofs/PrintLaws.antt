@@ -2,7 +2,7 @@
 -- in the two lent lists. Assumes nothing.
 use mathlib.Core.Path.{_≡_, refl, sym, ap, ap₂, _∙_}
 use mathlib.Core.List.{List, _++_}
-use Prim.Native.Nat.{ℕ, zero, suc, _≤_, min}
+use Prim.Native.Nat.{ℕ, zero, suc, _≤_}
 use native.Mathlib.Omega.{arith}
 use lib.ListN.{length, take, drop, length-append}
 use lib.Seq.{take-append-seam}
@@ -10,15 +10,12 @@ use Rattle.word.specs.Reply.{Reply, answer, refusal, replied, firstOf, numberOf
 use Rattle.word.proofs.TestLaws.{first-of-none, replied-answer}
 use Rattle.combinations.proofs.Theorems.{words-and-rank}
 use Rattle.set_layout.specs.Layout.{widthOf, chainsOf, slicesOf}
-use Rattle.set_file.specs.Reading.{setTests, setReply, said as setSaid}
-use Rattle.set_file.specs.declared.SetAnswer.{SetAnswer}
-use Rattle.set_file.specs.declared.SetAnswer.the-variants.{Read}
+use Rattle.set_file.specs.Reading.{setTests}
 use Rattle.set_file.proofs.Laws.{Accepted, accepted, accepted-width}
 use Rattle.signatures.specs.Sets.{columnsOf, unknownsOf}
 use Rattle.columns.specs.Listing.{listTests}
-use Rattle.response.specs.Code.{marksBelow}
-use Rattle.signatures.proofs.SetLaws.{columns-of-within, read-width, read-chains, read-slices, read-unknowns}
-use Rattle.planner.specs.Planning.{PlanParts, wordsOf, planTests, partsOf, planReply, columnsAfter, said}
+use Rattle.signatures.proofs.SetLaws.{columns-of-within}
+use Rattle.planner.specs.Planning.{PlanParts, wordsOf, earlierTests, planTests, partsOf, planReply, columnsAfter, said}
 use Rattle.planner.specs.declared.Planned.{Planned}
 use Rattle.planner.specs.declared.Planned.the-variants.{Plan, Refused}
 use Rattle.planner.proofs.CallLaws.{Ends}
@@ -30,16 +27,16 @@ use Rattle.plan_text.proofs.LineLaws.{length-refused-line, length-plan-
 -- ---- the text fits
 
 few-words : (set : List ℕ) → Accepted set → length (wordsOf set) ≤ 64
-unfolding wordsOf
+unfolding wordsOf columnsOf
 few-words set a =
     omega (arith, words-and-rank (widthOf set) (columnsOf set) (columns-of-within set a), accepted-width set a .1)
 
 -- the text of a reply whose first number is n; 0 stands for none
 number-fits : (set : List ℕ) (k l n : ℕ) → firstOf (planTests set k l) ≡ n → length (textOf (replied n (partsOf set)) set) ≤ 4096
-unfolding planTests listTests
+unfolding planTests earlierTests listTests
 number-fits set k l zero e =
-    let few : length (wordsOf set) ≤ 64 =
-    few-words set (accepted set (first-of-none (setTests set) _ (first-of-none (listTests set k) _ e))) in
+    let listed : firstOf (listTests set k) ≡ 0 = first-of-none (listTests set k) _ (first-of-none (earlierTests set k) _ e) in
+    let few : length (wordsOf set) ≤ 64 = few-words set (accepted set (first-of-none (setTests set) _ listed)) in
     length-plan-lines _ _ _ _ _ (wordsOf set) _ _ (omega (arith, few)) few
 number-fits set k l (suc n) e = length-refused-line (suc n)
 
@@ -61,20 +58,19 @@ Prints set cs ws l r cs′ ws′ l′ =
 pub refused-front : {l : List ℕ} (n : ℕ) {r : ℕ} {l′ : List ℕ} → Put l 0 (refusedLine n) r l′ → length l ≡ 4096 → (r ≡ length (refusedLine n)) × (l′ ≡ front (refusedLine n) l)
 refused-front n p h = put-front (refusedLine n) p (omega (arith, length-refused-line n))
 
-pub told : (p : Planned) (n k : ℕ) → p ≡ Refused n → k ≡ numberOf (said p) → refusal k ≡ said p
-told p n k e h = ap refusal (h ∙ ap (λ (x : Planned). numberOf (said x)) e) ∙ sym (ap said e)
-
-pub prints-refused : (set cs ws l : List ℕ) (r : ℕ) (cs′ ws′ l′ : List ℕ) (k : ℕ) → refusal k ≡ planReply set (length cs) (length ws) → cs′ ≡ columnsAfter set cs
-    → ws′ ≡ lent (planReply set (length cs) (length ws)) (wordsOf set) ws → r ≡ length (refusedLine k) → l′ ≡ front (refusedLine k) l → Prints set cs ws l r cs′ ws′ l′
+-- planning refuses; k is the number that `number_of` gives
+pub prints-refused : (set cs ws l : List ℕ) (r : ℕ) (cs′ ws′ l′ : List ℕ) (p : Planned) (n k : ℕ) → Ends set cs ws p cs′ ws′ → p ≡ Refused n → k ≡ numberOf (said p)
+    → r ≡ length (refusedLine k) → l′ ≡ front (refusedLine k) l → Prints set cs ws l r cs′ ws′ l′
 unfolding planText
-prints-refused set cs ws l r cs′ ws′ l′ k e c w er el =
-    let text : refusedLine k ≡ planText set (length cs) (length ws) = ap (λ (x : Reply PlanParts). textOf x set) e in
-    (er ∙ ap length text, (el ∙ ap (λ (x : List ℕ). front x l) text, (c, w)))
+prints-refused set cs ws l r cs′ ws′ l′ p n k ends e h er el =
+    let told : refusal k ≡ said p = ap refusal (h ∙ ap (λ (x : Planned). numberOf (said x)) e) ∙ sym (ap said e) in
+    let text : refusedLine k ≡ planText set (length cs) (length ws) = ap (λ (x : Reply PlanParts). textOf x set) (told ∙ ends .0) in
+    (er ∙ ap length text, (el ∙ ap (λ (x : List ℕ). front x l) text, ends .1))
 
 -- the set is refused before planning
 pub ends-at-set : (set cs ws l : List ℕ) (r : ℕ) (l′ : List ℕ) (k : ℕ) → Ends set cs ws (Refused k) cs ws → r ≡ length (refusedLine k) → l′ ≡ front (refusedLine k) l
     → Prints set cs ws l r cs ws l′
-ends-at-set set cs ws l r l′ k e = prints-refused set cs ws l r cs ws l′ k (e .0) (e .1 .0) (e .1 .1)
+ends-at-set set cs ws l r l′ k ends = prints-refused set cs ws l r cs ws l′ (Refused k) k k ends refl refl
 
 -- a plan
 
@@ -101,22 +97,22 @@ module _ (set cs ws : List ℕ) (p : Planned) (ep : said p ≡ planReply set (le
     unfolding front
     printed-words = ap₂ take q-is words-are ∙ take-append-seam (wordsOf set) (drop (length (wordsOf set)) ws)
 
-    module _ (a : SetAnswer) (ea : setSaid a ≡ setReply set) (w t n s : ℕ) (read : a ≡ Read w t n s) (u : ℕ) (eu : u ≡ marksBelow (min n 256) set (min s 512)) where
-      lines : setLine w n s u ++ wordLines 0 (take q ws′) e ++ endLine q ≡ planText set (length cs) (length ws)
+    -- n, s and the number of unknown cells of the set, as the printer knows them
+    module _ (n s u : ℕ) (en : n ≡ chainsOf set) (es : s ≡ slicesOf set) (eu : u ≡ unknownsOf set) where
+      lines : setLine m n s u ++ wordLines 0 (take q ws′) e ++ endLine q ≡ planText set (length cs) (length ws)
       unfolding planText
       lines =
-          ap₂ (λ (x y : ℕ). setLine x y s u ++ wordLines 0 (take q ws′) e ++ endLine q) (read-width set a ea w t n s read) (read-chains set a ea w t n s read)
-          ∙ ap₂ (λ (x y : ℕ). setLine (widthOf set) (chainsOf set) x y ++ wordLines 0 (take q ws′) e ++ endLine q) (read-slices set a ea w t n s read)
-          (eu ∙ read-unknowns set a ea w t n s read)
+          ap₂ (λ (x y : ℕ). setLine x y s u ++ wordLines 0 (take q ws′) e ++ endLine q) (ap (λ (x : PlanParts). x .m) parts) en
+          ∙ ap₂ (λ (x y : ℕ). setLine (widthOf set) (chainsOf set) x y ++ wordLines 0 (take q ws′) e ++ endLine q) es eu
           ∙ ap (λ (x : List ℕ). setLine (widthOf set) (chainsOf set) (slicesOf set) (unknownsOf set) ++ wordLines 0 x e ++ endLine q) printed-words
           ∙ sym (ap (λ (x : Reply PlanParts). textOf x set) planned)
 
       pub prints-plan : (l : List ℕ) (r₁ : ℕ) (l₁ : List ℕ) (r₂ : ℕ) (l₂ : List ℕ) (r : ℕ) (cs′ l′ : List ℕ) → cs′ ≡ columnsAfter set cs → length l ≡ 4096
-          → Put l 0 (setLine w n s u) r₁ l₁ → Put l₁ r₁ (wordLines 0 (take q ws′) e) r₂ l₂ → Put l₂ r₂ (endLine q) r l′ → Prints set cs ws l r cs′ ws′ l′
+          → Put l 0 (setLine m n s u) r₁ l₁ → Put l₁ r₁ (wordLines 0 (take q ws′) e) r₂ l₂ → Put l₂ r₂ (endLine q) r l′ → Prints set cs ws l r cs′ ws′ l′
       prints-plan l r₁ l₁ r₂ l₂ r cs′ l′ c long p₁ p₂ p₃ =
-          let whole : length (setLine w n s u ++ wordLines 0 (take q ws′) e ++ endLine q) ≤ length l =
+          let whole : length (setLine m n s u ++ wordLines 0 (take q ws′) e ++ endLine q) ≤ length l =
           omega (arith, ap length lines, text-fits set (length cs) (length ws)) in
-          let put = put-front (setLine w n s u ++ wordLines 0 (take q ws′) e ++ endLine q) (put-then (put-then p₁ p₂) p₃) whole in
+          let put = put-front (setLine m n s u ++ wordLines 0 (take q ws′) e ++ endLine q) (put-then (put-then p₁ p₂) p₃) whole in
           (put .0 ∙ ap length lines, (put .1 ∙ ap (λ (x : List ℕ). front x l) lines, (c, ew)))
 
 -- ---- a caller's part

@@ -82,16 +82,16 @@ pub fn print_plan(set: &[u8], columns: &mut [u64], words: &mut [u64], out: &mut 
 {
     let read = set_file::read_set(set);
     let answer = read.answer;
-    let SetAnswer::Read { m, taps: _, n, s } = answer else {
+    let SetAnswer::Read { register: _, n, s } = answer else {
         return put_refused(out, set_file::number_of(answer));
     };
     let planned = planner::plan(set, columns, words);
-    let Planned::Plan { m: _, q, expected } = planned else {
+    let Planned::Plan { m, q, expected } = planned else {
         return put_refused(out, planner::number_of(planned));
     };
-    let unknowns = response::count_unknowns(set, n, s);
+    let unknowns = marked_words::count_marks(set, set_layout::mark_rows(n), s);
     let count = q as usize;
-    let words_at = put_set_line(out, 0, m, n, s, unknowns);
+    let words_at = put_set_line(out, 0, m, n as u64, s as u64, unknowns);
     let end_at = put_word_lines(out, words_at, &words[..count], expected);
     put_end_line(out, end_at, q)
 }

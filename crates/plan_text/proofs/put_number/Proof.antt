@@ -5,20 +5,18 @@ use borrow.Author.Needs.{needs}
 use Rattle.plan_text.proofs.put_number.Statement.{statement}
 use Rattle.plan_text.proofs.put_number.Tie as tie
 
-put-decimal-requires : tie.Need-put-decimal-requires
-put-decimal-requires c κs = search needs
-
-put-requires : tie.Need-put-requires
-put-requires c κs = search needs
-
-same-length : tie.Need-same-length
-same-length c = search needs
-
 returns : tie.Need-returns
 returns c =
-    put-then
-    (put-one (decimal (c .before .before .before .before .before .before .before .before .before .before .args .n)) (c .before .before .before .before .before .before .put-decimal .ensures .0) (c .before .before .before .before .before .before .put-decimal .ensures .1))
-    (put-one (c .before .before .before .before .before .before .before .before .before .before .args .end .now) (c .before .before .put .ensures .0) (c .before .before .put .ensures .1))
+    let args = c .before .before .before .before .before .before .before .before .before .before .args in
+    let digits = c .before .before .before .before .before .before .put-decimal .ensures in
+    let ending = c .before .before .put .ensures in
+    put-then (put-one (decimal (args .n)) (digits .0) (digits .1)) (put-one (args .end .now) (ending .0) (ending .1))
 
 pub put-number-spec : {M : Type 1} → statement M
-put-number-spec = tie.close (tie.spec put-decimal-requires put-requires same-length returns)
+put-number-spec =
+    tie.close
+    (tie.spec
+    (λ c κs. search needs)
+    (λ c κs. search needs)
+    (λ c. search needs)
+    returns)

@@ -15,28 +15,10 @@ abbrev μ-loop : tie.MeasureT-loop
 loop-holds : tie.Need-loop-holds Inv-loop μ-loop
 loop-holds c = lining-start _ _ _ _
 
-mul-put-word-line : tie.Need-mul-put-word-line Inv-loop μ-loop
-mul-put-word-line c = search needs
-
-shared-slice-read-put-word-line : tie.Need-shared-slice-read-put-word-line Inv-loop μ-loop
-shared-slice-read-put-word-line c = search needs
-
-put-word-line-requires : tie.Need-put-word-line-requires Inv-loop μ-loop
-put-word-line-requires c κs = search needs
-
-add-i : tie.Need-add-i Inv-loop μ-loop
-add-i c = search needs
-
-loop-less : tie.Need-loop-less Inv-loop μ-loop
-loop-less c = search needs
-
 loop-again : tie.Need-loop-again Inv-loop μ-loop
 loop-again c =
-    lining-turn _ _ _ _ _ _ _ _ _ _ (c .before .before .before .before .before .before .loop .inv) (search needs) (search needs)
-    (c .before .before .put-word-line .ensures)
-
-same-length : tie.Need-same-length Inv-loop μ-loop
-same-length c = search needs
+    let before = c .before .before .before .before .before .before .loop .inv in
+    lining-turn _ _ _ _ _ _ _ _ _ _ before (search needs) (search needs) (c .before .before .put-word-line .ensures)
 
 returns : tie.Need-returns Inv-loop μ-loop
 returns c = lining-end _ _ _ _ _ _ _ _ (c .before .loop .inv) (search needs)
@@ -48,11 +30,11 @@ put-word-lines-spec =
     Inv-loop
     μ-loop
     loop-holds
-    mul-put-word-line
-    shared-slice-read-put-word-line
-    put-word-line-requires
-    add-i
-    loop-less
+    (λ c. search needs)
+    (λ c. search needs)
+    (λ c κs. search needs)
+    (λ c. search needs)
+    (λ c. search needs)
     loop-again
-    same-length
+    (λ c. search needs)
     returns)
