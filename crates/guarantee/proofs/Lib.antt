@@ -2,5 +2,6 @@ pub mod Explaining
 pub mod Planned
 pub mod Content
 pub mod Theorems
+pub mod Seventeen
 pub mod WorkLaws
 pub mod Worked

@@ -30,7 +30,7 @@ use Rattle.guarantee.specs.Demand.{planFile}
 -- ---- lists of tests
 
 -- no test of the list has the number n
-abbrev without : ℕ → List Test → Bool
+abbrev pub without : ℕ → List Test → Bool
 without n [] = true
 without n ((k when b) ∷ ts) = not (eqb k n) && without n ts
 
@@ -41,7 +41,7 @@ without-next n k true ts d h f =
 without-next n k false ts d h f = f h
 
 -- .. so n isn't the first that applies
-first-of-without : (n : ℕ) (ts : List Test) → without n ts ≡ true → firstOf ts ≡ n → n ≡ 0
+pub first-of-without : (n : ℕ) (ts : List Test) → without n ts ≡ true → firstOf ts ≡ n → n ≡ 0
 first-of-without n [] d h = sym h
 first-of-without n ((k when b) ∷ ts) d h =
     without-next n k b ts d h (first-of-without n ts (and-right (not (eqb k n)) (without n ts) d))

@@ -1,0 +1,97 @@
+-- 17 "from any call that makes words of a set" (document 01): a call that begins with planning, and whose later parts never give 17,
+-- gives 17 exactly when planning does.
+--
+--   seventeen-exactly   .. so it gives 17 only when every signature of the register's width is explained, and always then where no
+--                       number before 17 applies
+--   planned-seventeen   planning itself
+--   record-seventeen    judging a record by the plan of its set; each of two records
+-- Assumes nothing.
+use mathlib.Core.Path.{_≡_, refl, sym, ap, _∙_}
+use mathlib.Core.Bool.{true}
+use mathlib.Core.List.{List}
+use Prim.Native.Nat.{ℕ, _^_, _<_}
+use native.Mathlib.Omega.{arith}
+use lib.Dec.{eqb, ltb}
+use Rattle.word.specs.Word.{badWidth, beyond}
+use Rattle.word.specs.Reply.{Test, Reply, answer, refusal, replied, firstOf}
+use Rattle.word.proofs.TestLaws.{replied-number}
+use Rattle.set_layout.specs.Layout.{widthOf, chainsOf, slicesOf}
+use Rattle.set_file.specs.Reading.{setTests}
+use Rattle.signatures.specs.Sets.{Explained}
+use Rattle.signing.specs.Signing.{signTests, signReply}
+use Rattle.planner.specs.Planning.{wordsOf, PlanParts, earlierTests, planReply}
+use Rattle.plan_file.specs.Checking.{planFileTests}
+use Rattle.plan_writer.specs.Writing.{PlanContent, planContent, planWriteTests, planWriteReply}
+use Rattle.judge.specs.Verdict.{Finding, judgeTests, judgeReply}
+use Rattle.guarantee.specs.AtWork.{after, madeReply, planOf, signedReply, recordReply}
+use Rattle.guarantee.proofs.Planned.{without, first-of-without}
+use Rattle.guarantee.proofs.Theorems.{seventeen-explained, explained-seventeen}
+
+-- ---- calls one after the other
+
+after-after : {A : Type 0} {B : Type 0} {C : Type 0} (r : Reply A) (f : A → Reply B) (g : B → Reply C)
+    → after (after r f) g ≡ after r (λ a. after (f a) g)
+after-after (answer a) f g = refl
+after-after (refusal n) f g = refl
+
+same-number : {B : Type 0} (k n : ℕ) → _≡_ {A = Reply B} (refusal k) (refusal n) → k ≡ n
+same-number k n h = cc
+
+-- a call that begins with another, and whose later part never gives n, gives n where the first does and nowhere else
+after-number : {A : Type 0} {B : Type 0} (r : Reply A) (f : A → Reply B) (n : ℕ) → ((a : A) → f a ≡ refusal n → ⊥)
+    → after r f ≡ refusal n → r ≡ refusal n
+after-number (answer a) f n d h = absurd (d a h)
+after-number (refusal k) f n d h = ap refusal (same-number k n h)
+
+never : {A : Type 0} (n : ℕ) (ts : List Test) (a : A) → (n ≡ 0 → ⊥) → without n ts ≡ true → replied (firstOf ts) a ≡ refusal n → ⊥
+never n ts a z d h = z (first-of-without n ts d (replied-number (firstOf ts) a n h))
+
+-- ---- 17
+
+module _ (set : List ℕ) (k l : ℕ) {B : Type 0} (f : PlanParts → Reply B) (d : (p : PlanParts) → f p ≡ refusal 17 → ⊥) where
+  pub seventeen-exactly : (after (planReply set k l) f ≡ refusal 17 → (y : ℕ) → y < 2 ^ widthOf set → Explained set y)
+      × (firstOf (earlierTests set k) ≡ 0 → ((y : ℕ) → y < 2 ^ widthOf set → Explained set y) → after (planReply set k l) f ≡ refusal 17)
+  seventeen-exactly = (
+    (λ h. seventeen-explained set k l (after-number (planReply set k l) f 17 d h)),
+    (λ h e. ap (λ (r : Reply PlanParts). after r f) (explained-seventeen set k l h e)),
+  )
+
+pub planned-seventeen : (set : List ℕ) (k l : ℕ)
+    → (planReply set k l ≡ refusal 17 → (y : ℕ) → y < 2 ^ widthOf set → Explained set y)
+    × (firstOf (earlierTests set k) ≡ 0 → ((y : ℕ) → y < 2 ^ widthOf set → Explained set y) → planReply set k l ≡ refusal 17)
+planned-seventeen set k l = (seventeen-explained set k l, explained-seventeen set k l)
+
+-- ---- judging a record by the plan of its set
+
+written-never : (c : PlanContent) (room : ℕ) → planWriteReply c room ≡ refusal 17 → ⊥
+unfolding planWriteReply planWriteTests
+written-never c room = never 17 (planWriteTests c room) _ (λ (z : 17 ≡ 0). omega arith) refl
+
+signed-never : (set r : List ℕ) → signReply set r ≡ refusal 17 → ⊥
+unfolding signReply signTests setTests
+signed-never set r = never 17 (signTests set r) _ (λ (z : 17 ≡ 0). omega arith) refl
+
+judged-never : (plan : List ℕ) (y : ℕ) → judgeReply plan y ≡ refusal 17 → ⊥
+unfolding judgeReply judgeTests planFileTests
+judged-never plan y = never 17 (judgeTests plan y) _ (λ (z : 17 ≡ 0). omega arith) refl
+
+later-never : (set r : List ℕ) (room : ℕ) (p : PlanParts)
+    → after (planWriteReply (planContent (p .m) (wordsOf set) (p .expected)) room) (λ n. signedReply set r (planOf set)) ≡ refusal 17 → ⊥
+unfolding signedReply
+later-never set r room p h =
+    written-never (planContent (p .m) (wordsOf set) (p .expected)) room
+    (after-number (planWriteReply (planContent (p .m) (wordsOf set) (p .expected)) room) (λ n. after (signReply set r) (λ y. judgeReply (planOf set) y)) 17
+    (λ n g. signed-never set r (after-number (signReply set r) (λ y. judgeReply (planOf set) y) 17 (judged-never (planOf set)) g)) h)
+
+pub record-seventeen : (set r : List ℕ) (k l room : ℕ)
+    → (recordReply set r k l room ≡ refusal 17 → (y : ℕ) → y < 2 ^ widthOf set → Explained set y)
+    × (firstOf (earlierTests set k) ≡ 0 → ((y : ℕ) → y < 2 ^ widthOf set → Explained set y) → recordReply set r k l room ≡ refusal 17)
+unfolding recordReply madeReply
+record-seventeen set r k l room =
+    let both =
+    seventeen-exactly set k l
+    (λ (p : PlanParts). after (planWriteReply (planContent (p .m) (wordsOf set) (p .expected)) room) (λ n. signedReply set r (planOf set)))
+    (later-never set r room)
+    in
+    let same = after-after (planReply set k l) (λ p. planWriteReply (planContent (p .m) (wordsOf set) (p .expected)) room) (λ n. signedReply set r (planOf set)) in
+    ((λ h. both .0 (sym same ∙ h)), (λ h e. same ∙ both .1 h e))
