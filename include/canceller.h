@@ -6,6 +6,8 @@
  * is 0, but for the clock's state, which comes back as it was handed in.
  * Lent memory: success writes the front of each lent list or output and not the rest; a refusal writes nothing, but that
  * canceller_plan, once past 14, has filled the front of its column list, whether or not 16, 17 or 18 follows.
+ * In what follows m is the register's bits, n the chains, s the slices, B the bytes of a row (n / 8 rounded up) and q the words, m
+ * less the rank of the columns. README.md has the files byte by byte.
  * No call has a precondition beyond C's own. No call keeps anything between calls; calls on different memory may run at once.
  *
  * The numbers, in the order in which they are looked for:
