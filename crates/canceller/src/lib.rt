@@ -8,7 +8,8 @@ ghost use Rattle.elimination.specs.Elimination.{eliminationReply, said as saidE
 ghost use Rattle.register.specs.Clock.{clockReply, said as saidClocked};
 ghost use Rattle.set_file.specs.Reading.{setReply, spreadBeside, said as saidSet};
 ghost use Rattle.slice_rows.specs.Rows.{valueReply, markReply, saidPlace};
-ghost use Rattle.set_writer.specs.Writing.{contentOf as setContent, writeReply as setWriteReply, setBytes, saidWritten as saidSetWritten};
+ghost use Rattle.set_content.specs.Content.{setContent};
+ghost use Rattle.set_writer.specs.Writing.{setWriteReply, setBytes, saidSetWritten};
 ghost use Rattle.signatures.specs.Sets.{columnsOf};
 ghost use Rattle.signing.specs.Signing.{signReply, saidSigned};
 ghost use Rattle.columns.specs.Listing.{listReply, saidListed};
@@ -102,12 +103,12 @@ fn set_of(read: SetRead) -> CSet
     let answer = read.answer;
     let spread = read.spread;
     match answer {
-        SetAnswer::Read { m, taps, n, s } => CSet {
+        SetAnswer::Read { register, n, s } => CSet {
             refusal: 0,
-            m,
-            taps,
-            n,
-            s,
+            m: register.m,
+            taps: register.taps,
+            n: n as u64,
+            s: s as u64,
             spread,
         },
         SetAnswer::Refused { number } => CSet {
