@@ -1,5 +1,5 @@
 use mathlib.Core.Path.{ap₂, _∙_}
-use Rattle.canceller.specs.Boundary.{setOf}
+use Rattle.crossing.specs.Boundary.{setOf}
 use borrow.Author.Needs.{needs}
 use Rattle.canceller.proofs.canceller_read_set.Statement.{statement}
 use Rattle.canceller.proofs.canceller_read_set.Tie as tie

@@ -1,9 +1,9 @@
 use mathlib.Core.Path.{sym, ap}
 use Rattle.set_writer.specs.Writing.{saidSetWritten}
-use Rattle.canceller.specs.Boundary.{writtenOf}
+use Rattle.crossing.specs.Boundary.{writtenOf}
 use borrow.Author.Needs.{needs}
-use Rattle.canceller.proofs.set_written_of.Statement.{statement}
-use Rattle.canceller.proofs.set_written_of.Tie as tie
+use Rattle.crossing.proofs.set_written_of.Statement.{statement}
+use Rattle.crossing.proofs.set_written_of.Tie as tie
 
 enum-known-written : tie.Need-enum-known-written
 enum-known-written c = search needs
