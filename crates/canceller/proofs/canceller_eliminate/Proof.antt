@@ -1,5 +1,5 @@
 use mathlib.Core.Path.{ap, _∙_}
-use Rattle.canceller.specs.Boundary.{eliminatedOf}
+use Rattle.crossing.specs.Boundary.{eliminatedOf}
 use borrow.Author.Needs.{needs}
 use Rattle.canceller.proofs.canceller_eliminate.Statement.{statement}
 use Rattle.canceller.proofs.canceller_eliminate.Tie as tie
@@ -14,7 +14,9 @@ same-length : tie.Need-same-length
 same-length c = search needs
 
 returns : tie.Need-returns
-returns c = (c .eliminated-of .ensures ∙ ap eliminatedOf (c .before .before .before .eliminate .ensures .0), c .before .before .before .eliminate .ensures .1)
+returns c =
+    let call = c .before .before .before .eliminate .ensures in
+    (c .eliminated-of .ensures ∙ ap eliminatedOf (call .0), call .1)
 
 pub canceller-eliminate-spec : {M : Type 1} → statement M
 canceller-eliminate-spec =

@@ -1,5 +1,5 @@
 use mathlib.Core.Path.{ap, _∙_}
-use Rattle.canceller.specs.Boundary.{judgedOf}
+use Rattle.crossing.specs.Boundary.{judgedOf}
 use borrow.Author.Needs.{needs}
 use Rattle.canceller.proofs.canceller_judge.Statement.{statement}
 use Rattle.canceller.proofs.canceller_judge.Tie as tie

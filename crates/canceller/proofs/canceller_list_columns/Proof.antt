@@ -1,5 +1,5 @@
 use mathlib.Core.Path.{ap, _∙_}
-use Rattle.canceller.specs.Boundary.{listedOf}
+use Rattle.crossing.specs.Boundary.{listedOf}
 use borrow.Author.Needs.{needs}
 use Rattle.canceller.proofs.canceller_list_columns.Statement.{statement}
 use Rattle.canceller.proofs.canceller_list_columns.Tie as tie
@@ -14,7 +14,9 @@ same-length : tie.Need-same-length
 same-length c = search needs
 
 returns : tie.Need-returns
-returns c = (c .listed-of .ensures ∙ ap listedOf (c .before .before .before .list-columns .ensures .0), c .before .before .before .list-columns .ensures .1)
+returns c =
+    let call = c .before .before .before .list-columns .ensures in
+    (c .listed-of .ensures ∙ ap listedOf (call .0), call .1)
 
 pub canceller-list-columns-spec : {M : Type 1} → statement M
 canceller-list-columns-spec =

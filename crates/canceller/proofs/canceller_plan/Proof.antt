@@ -1,5 +1,5 @@
 use mathlib.Core.Path.{ap, _∙_}
-use Rattle.canceller.specs.Boundary.{plannedOf}
+use Rattle.crossing.specs.Boundary.{plannedOf}
 use borrow.Author.Needs.{needs}
 use Rattle.canceller.proofs.canceller_plan.Statement.{statement}
 use Rattle.canceller.proofs.canceller_plan.Tie as tie
@@ -17,7 +17,9 @@ same-length-2 : tie.Need-same-length-2
 same-length-2 c = search needs
 
 returns : tie.Need-returns
-returns c = (c .planned-of .ensures ∙ ap plannedOf (c .before .before .before .before .before .plan .ensures .0), c .before .before .before .before .before .plan .ensures .1)
+returns c =
+    let call = c .before .before .before .before .before .plan .ensures in
+    (c .planned-of .ensures ∙ ap plannedOf (call .0), call .1)
 
 pub canceller-plan-spec : {M : Type 1} → statement M
 canceller-plan-spec =

@@ -1,5 +1,5 @@
 use mathlib.Core.Path.{ap, _∙_}
-use Rattle.canceller.specs.Boundary.{readOf}
+use Rattle.crossing.specs.Boundary.{readOf}
 use borrow.Author.Needs.{needs}
 use Rattle.canceller.proofs.canceller_read_plan.Statement.{statement}
 use Rattle.canceller.proofs.canceller_read_plan.Tie as tie
@@ -14,7 +14,9 @@ same-length : tie.Need-same-length
 same-length c = search needs
 
 returns : tie.Need-returns
-returns c = (c .read-of .ensures ∙ ap readOf (c .before .before .before .read-plan .ensures .0), c .before .before .before .read-plan .ensures .1)
+returns c =
+    let call = c .before .before .before .read-plan .ensures in
+    (c .read-of .ensures ∙ ap readOf (call .0), call .1)
 
 pub canceller-read-plan-spec : {M : Type 1} → statement M
 canceller-read-plan-spec =

@@ -1,5 +1,5 @@
 use mathlib.Core.Path.{ap, _∙_}
-use Rattle.canceller.specs.Boundary.{signedOf}
+use Rattle.crossing.specs.Boundary.{signedOf}
 use borrow.Author.Needs.{needs}
 use Rattle.canceller.proofs.canceller_sign.Statement.{statement}
 use Rattle.canceller.proofs.canceller_sign.Tie as tie

@@ -1,5 +1,5 @@
 use mathlib.Core.Path.{ap, _∙_}
-use Rattle.canceller.specs.Boundary.{writtenOf}
+use Rattle.crossing.specs.Boundary.{writtenOf}
 use borrow.Author.Needs.{needs}
 use Rattle.canceller.proofs.canceller_write_plan.Statement.{statement}
 use Rattle.canceller.proofs.canceller_write_plan.Tie as tie
@@ -14,7 +14,9 @@ same-length : tie.Need-same-length
 same-length c = search needs
 
 returns : tie.Need-returns
-returns c = (c .plan-written-of .ensures ∙ ap writtenOf (c .before .before .before .write-plan .ensures .0), c .before .before .before .write-plan .ensures .1)
+returns c =
+    let call = c .before .before .before .write-plan .ensures in
+    (c .plan-written-of .ensures ∙ ap writtenOf (call .0), call .1)
 
 pub canceller-write-plan-spec : {M : Type 1} → statement M
 canceller-write-plan-spec =

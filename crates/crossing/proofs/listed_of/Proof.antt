@@ -1,9 +1,9 @@
 use mathlib.Core.Path.{sym, ap}
 use Rattle.columns.specs.Listing.{saidListed}
-use Rattle.canceller.specs.Boundary.{listedOf}
+use Rattle.crossing.specs.Boundary.{listedOf}
 use borrow.Author.Needs.{needs}
-use Rattle.canceller.proofs.listed_of.Statement.{statement}
-use Rattle.canceller.proofs.listed_of.Tie as tie
+use Rattle.crossing.proofs.listed_of.Statement.{statement}
+use Rattle.crossing.proofs.listed_of.Tie as tie
 
 enum-known-listed : tie.Need-enum-known-listed
 enum-known-listed c = search needs

@@ -10,8 +10,9 @@
 --   listedOf r        the number of unknown cells
 --   eliminatedOf r    the elimination's rank and q
 --   plannedOf r       planning's m, q and expected bits
---   readOf r          the plan reader's
---   judgedOf r        judging's cancelled bits and verdict: failed is 0 where it passes, and 1 where it fails at index
+--   readOf r          the plan reader's, which crosses as planning's does
+--   judgedFor b o     judging's cancelled bits b and outcome o: failed is 0 where it passes, and 1 where it fails at index
+--   judgedOf r        judging's reply: its cancelled bits and outcome
 use mathlib.Core.List.{List}
 use Prim.Native.Nat.{ℕ}
 use Rattle.word.specs.Reply.{Reply, answer, refusal}
@@ -22,15 +23,15 @@ use Rattle.planner.specs.Planning.{PlanParts}
 use Rattle.plan_file.specs.Checking.{PlanFileParts}
 use Rattle.judge.specs.Verdict.{Outcome, passes, failsAt, Finding}
 use Rattle.register.specs.declared.Register.{Register}
-use Rattle.canceller.specs.declared.CSet.{CSet}
-use Rattle.canceller.specs.declared.CStretch.{CStretch}
-use Rattle.canceller.specs.declared.CWritten.{CWritten}
-use Rattle.canceller.specs.declared.CClocked.{CClocked}
-use Rattle.canceller.specs.declared.CSigned.{CSigned}
-use Rattle.canceller.specs.declared.CListed.{CListed}
-use Rattle.canceller.specs.declared.CEliminated.{CEliminated}
-use Rattle.canceller.specs.declared.CPlanned.{CPlanned}
-use Rattle.canceller.specs.declared.CJudged.{CJudged}
+use Rattle.crossing.specs.declared.CSet.{CSet}
+use Rattle.crossing.specs.declared.CStretch.{CStretch}
+use Rattle.crossing.specs.declared.CWritten.{CWritten}
+use Rattle.crossing.specs.declared.CClocked.{CClocked}
+use Rattle.crossing.specs.declared.CSigned.{CSigned}
+use Rattle.crossing.specs.declared.CListed.{CListed}
+use Rattle.crossing.specs.declared.CEliminated.{CEliminated}
+use Rattle.crossing.specs.declared.CPlanned.{CPlanned}
+use Rattle.crossing.specs.declared.CJudged.{CJudged}
 
 abbrev pub setOf : Reply SetParts → List ℕ → CSet
 setOf (answer p) ws = record { refusal = 0; m = p .m; taps = p .taps; n = p .n; s = p .s; spread = ws }
@@ -68,8 +69,8 @@ plannedOf (answer p) = record { refusal = 0; m = p .m; q = p .q; expected = p .e
 plannedOf (refusal k) = record { refusal = k; m = 0; q = 0; expected = 0 }
 
 abbrev pub readOf : Reply PlanFileParts → CPlanned
-readOf (answer p) = record { refusal = 0; m = p .m; q = p .q; expected = p .expected }
-readOf (refusal k) = record { refusal = k; m = 0; q = 0; expected = 0 }
+readOf (answer p) = plannedOf (answer (record { m = p .m; q = p .q; expected = p .expected }))
+readOf (refusal k) = plannedOf (refusal k)
 
 abbrev pub judgedFor : ℕ → Outcome → CJudged
 judgedFor b passes = record { refusal = 0; cancelled = b; failed = 0; index = 0 }

@@ -1,9 +1,9 @@
 use mathlib.Core.Path.{sym, ap}
 use Rattle.planner.specs.Planning.{said}
-use Rattle.canceller.specs.Boundary.{plannedOf}
+use Rattle.crossing.specs.Boundary.{plannedOf}
 use borrow.Author.Needs.{needs}
-use Rattle.canceller.proofs.planned_of.Statement.{statement}
-use Rattle.canceller.proofs.planned_of.Tie as tie
+use Rattle.crossing.proofs.planned_of.Statement.{statement}
+use Rattle.crossing.proofs.planned_of.Tie as tie
 
 enum-known-planned : tie.Need-enum-known-planned
 enum-known-planned c = search needs

@@ -1,9 +1,9 @@
 use mathlib.Core.Path.{sym, ap}
 use Rattle.judge.specs.Verdict.{said}
-use Rattle.canceller.specs.Boundary.{judgedOf}
+use Rattle.crossing.specs.Boundary.{judgedOf}
 use borrow.Author.Needs.{needs}
-use Rattle.canceller.proofs.judged_of.Statement.{statement}
-use Rattle.canceller.proofs.judged_of.Tie as tie
+use Rattle.crossing.proofs.judged_of.Statement.{statement}
+use Rattle.crossing.proofs.judged_of.Tie as tie
 
 enum-known-judged : tie.Need-enum-known-judged
 enum-known-judged c = search needs

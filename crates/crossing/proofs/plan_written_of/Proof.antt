@@ -1,9 +1,9 @@
 use mathlib.Core.Path.{sym, ap}
 use Rattle.plan_writer.specs.Writing.{said}
-use Rattle.canceller.specs.Boundary.{writtenOf}
+use Rattle.crossing.specs.Boundary.{writtenOf}
 use borrow.Author.Needs.{needs}
-use Rattle.canceller.proofs.plan_written_of.Statement.{statement}
-use Rattle.canceller.proofs.plan_written_of.Tie as tie
+use Rattle.crossing.proofs.plan_written_of.Statement.{statement}
+use Rattle.crossing.proofs.plan_written_of.Tie as tie
 
 enum-known-written : tie.Need-enum-known-written
 enum-known-written c = search needs

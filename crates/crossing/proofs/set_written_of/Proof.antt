@@ -1,9 +1,9 @@
 use mathlib.Core.Path.{sym, ap}
-use Rattle.set_writer.specs.Writing.{saidWritten}
-use Rattle.canceller.specs.Boundary.{writtenOf}
+use Rattle.set_writer.specs.Writing.{saidSetWritten}
+use Rattle.crossing.specs.Boundary.{writtenOf}
 use borrow.Author.Needs.{needs}
-use Rattle.canceller.proofs.set_written_of.Statement.{statement}
-use Rattle.canceller.proofs.set_written_of.Tie as tie
+use Rattle.crossing.proofs.set_written_of.Statement.{statement}
+use Rattle.crossing.proofs.set_written_of.Tie as tie
 
 enum-known-written : tie.Need-enum-known-written
 enum-known-written c = search needs
@@ -12,10 +12,10 @@ enum-known-written-2 : tie.Need-enum-known-written-2
 enum-known-written-2 c = search needs
 
 returns : tie.Need-returns
-returns c = sym (ap (λ x. writtenOf (saidWritten x)) (c .before .written .given .1))
+returns c = sym (ap (λ x. writtenOf (saidSetWritten x)) (c .before .written .given .1))
 
 returns-2 : tie.Need-returns-2
-returns-2 c = sym (ap (λ x. writtenOf (saidWritten x)) (c .before .written2 .given .1))
+returns-2 c = sym (ap (λ x. writtenOf (saidSetWritten x)) (c .before .written2 .given .1))
 
 pub set-written-of-spec : {M : Type 1} → statement M
 set-written-of-spec =

@@ -1,9 +1,9 @@
 use mathlib.Core.Path.{sym, ap}
 use Rattle.signing.specs.Signing.{saidSigned}
-use Rattle.canceller.specs.Boundary.{signedOf}
+use Rattle.crossing.specs.Boundary.{signedOf}
 use borrow.Author.Needs.{needs}
-use Rattle.canceller.proofs.signed_of.Statement.{statement}
-use Rattle.canceller.proofs.signed_of.Tie as tie
+use Rattle.crossing.proofs.signed_of.Statement.{statement}
+use Rattle.crossing.proofs.signed_of.Tie as tie
 
 enum-known-signed : tie.Need-enum-known-signed
 enum-known-signed c = search needs

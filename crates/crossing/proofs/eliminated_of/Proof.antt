@@ -1,9 +1,9 @@
 use mathlib.Core.Path.{sym, ap}
 use Rattle.elimination.specs.Elimination.{said}
-use Rattle.canceller.specs.Boundary.{eliminatedOf}
+use Rattle.crossing.specs.Boundary.{eliminatedOf}
 use borrow.Author.Needs.{needs}
-use Rattle.canceller.proofs.eliminated_of.Statement.{statement}
-use Rattle.canceller.proofs.eliminated_of.Tie as tie
+use Rattle.crossing.proofs.eliminated_of.Statement.{statement}
+use Rattle.crossing.proofs.eliminated_of.Tie as tie
 
 enum-known-eliminated : tie.Need-enum-known-eliminated
 enum-known-eliminated c = search needs

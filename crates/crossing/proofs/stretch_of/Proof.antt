@@ -1,9 +1,9 @@
 use mathlib.Core.Path.{sym, ap}
 use Rattle.slice_rows.specs.Rows.{saidPlace}
-use Rattle.canceller.specs.Boundary.{stretchOf}
+use Rattle.crossing.specs.Boundary.{stretchOf}
 use borrow.Author.Needs.{needs}
-use Rattle.canceller.proofs.stretch_of.Statement.{statement}
-use Rattle.canceller.proofs.stretch_of.Tie as tie
+use Rattle.crossing.proofs.stretch_of.Statement.{statement}
+use Rattle.crossing.proofs.stretch_of.Tie as tie
 
 enum-known-place : tie.Need-enum-known-place
 enum-known-place c = search needs
