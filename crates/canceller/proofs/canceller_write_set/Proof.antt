@@ -14,9 +14,7 @@ same-length : tie.Need-same-length
 same-length c = search needs
 
 returns : tie.Need-returns
-returns c =
-    let call = c .before .before .before .write-set .ensures in
-    (c .set-written-of .ensures ∙ ap writtenOf (call .0), call .1)
+returns c = (c .set-written-of .ensures ∙ ap writtenOf (c .before .before .before .write-set .ensures .0), c .before .before .before .write-set .ensures .1)
 
 pub canceller-write-set-spec : {M : Type 1} → statement M
 canceller-write-set-spec =
