@@ -16,6 +16,9 @@ use rows::Rows;
 use set_file::SetAnswer;
 use set_file::Taken;
 
+// Up to so many columns are made one by one; from there on it is faster to advance all the chains' words together.
+const FEW_COLUMNS: usize = 512;
+
 // What listing the columns answers: the number of unknown cells, or the first number that applies.
 pub enum Listed {
     Count { unknowns: u64 },
@@ -87,7 +90,7 @@ fn has_bad_word(taken: Taken) -> bool
 pub fn fill_columns(taken: Taken, list: &[u8], marks: Rows, columns: &mut [u64])
     ensures { λ _. ⌜ now (columns .exit) ≡ back (columnsBelow (takenCircuit taken) (min (taken .s) 512) (cellsOf (now (list .entry)) marks) (min (taken .s) 512)) (now (columns .entry)) ⌝ }
 {
-    if 512 < columns.len() {
+    if FEW_COLUMNS < columns.len() {
         fill_swept(taken, list, marks, columns);
         return;
     }

@@ -7,6 +7,7 @@ use native.Mathlib.Omega.{arith}
 use borrow.Author.Tests.{le-ltb, lt-ltb, eq-eqb, ne-eqb}
 use lib.ListN.{length, take, drop, length-append}
 use lib.Seq.{take-append-le, length-take-le}
+use Rattle.word.proofs.ReplyLaws.{Leaves, refusal-leaves, answer-leaves}
 use Rattle.word.specs.Word.{beyond, badWidth}
 use Rattle.word.specs.Some.{anyOf}
 use Rattle.word.specs.Reply.{Reply, answer, refusal, front, lent}
@@ -24,11 +25,10 @@ use Rattle.elimination.proofs.LoopLaws.{units-front}
 
 -- what the call answers, e, and leaves in the list l, l′
 abbrev pub Ends : ℕ → List ℕ → List ℕ → Eliminated → List ℕ → Type 0
-Ends m cs l e l′ =
-    (said e ≡ eliminationReply m cs (length l)) × (l′ ≡ lent (eliminationReply m cs (length l)) (reducedList m cs) l)
+Ends m cs l e l′ = Leaves (eliminationReply m cs (length l)) (reducedList m cs) (said e) l l′
 
 ends-refused : (m : ℕ) (cs l : List ℕ) (e : Eliminated) (n : ℕ) → e ≡ Refused n → eliminationReply m cs (length l) ≡ refusal n → Ends m cs l e l
-ends-refused m cs l e n r h = (ap said r ∙ sym h, sym (ap (λ (x : Reply Counts). lent x (reducedList m cs) l) h))
+ends-refused m cs l e n r h = refusal-leaves _ (said e) n (reducedList m cs) l h (ap said r)
 
 pub ends-2 : (m : ℕ) (cs l : List ℕ) (e : Eliminated) (b : Bool) → b ≡ badWidth m → b ≡ true → e ≡ Refused 2 → Ends m cs l e l
 ends-2 m cs l e b w t r = ends-refused m cs l e 2 r (reply-2 m cs (length l) (sym w ∙ t))
@@ -68,11 +68,9 @@ pub ends-done : (m : ℕ) (cs l l′ from : List ℕ) (q : ℕ) → Kept m cs q 
     → (length from ≤ length l → l′ ≡ front from l) → Ends m cs l (Done (m - q) q) l′
 ends-done m cs l l′ from q g n h e w =
     let ranked : m - q ≡ rank cs = omega (arith, words-and-rank m cs (g .columns), g .count) in
-    let fits : length from ≤ length l = omega (arith, ap length e, g .count) in (
-      ap₂ (λ (x y : ℕ). answer (record { rank = x; q = y })) ranked (g .count) ∙ sym (done-reply m cs l q g n h),
-      w fits ∙ ap (λ (x : List ℕ). front x l) e
-          ∙ sym (ap (λ (x : Reply Counts). lent x (reducedList m cs) l) (done-reply m cs l q g n h)),
-    )
+    let fits : length from ≤ length l = omega (arith, ap length e, g .count) in
+    answer-leaves _ _ _ (reducedList m cs) l l′ (done-reply m cs l q g n h)
+    (ap₂ (λ (x y : ℕ). answer (record { rank = x; q = y })) ranked (g .count)) (w fits ∙ ap (λ (x : List ℕ). front x l) e)
 
 -- ---- the words that the steps leave
 

@@ -1,5 +1,5 @@
 -- Each way out of the check and of the plan reader, and what the reader answers and leaves in the lent list. Assumes nothing.
-use mathlib.Core.Path.{_≡_, sym, ap, ap₂, _∙_}
+use mathlib.Core.Path.{_≡_, refl, sym, ap, ap₂, _∙_}
 use mathlib.Core.List.{List, [], _∷_}
 use Prim.Native.Nat.{ℕ, _+_, _*_, _<_, _≤_}
 use native.Mathlib.Numerals.{add-one}
@@ -10,7 +10,7 @@ use lib.ListN.{length, take, set}
 use Rattle.numbers.specs.Bytes.{wordAt}
 use Rattle.word.specs.Reply.{Reply, answer, refusal, replied, firstOf, numberOf, _when_, front, lent}
 use Rattle.word.proofs.FrontLaws.{front-next, front-whole}
-use Rattle.word.proofs.ReplyLaws.{replied-refusal}
+use Rattle.word.proofs.ReplyLaws.{replied-refusal, Leaves, refusal-leaves, answer-leaves}
 use Rattle.plan_file.specs.Layout.{bitsAt, fileWidth, fileCount, fileWords}
 use Rattle.plan_file.specs.Checking.{planFileTests, PlanFileParts, fileParts, planCheckReply, saidChecked}
 use Rattle.plan_file.specs.Reading.{planReadTests, planFileReply, said}
@@ -41,11 +41,10 @@ checks-sound plan n m q bits e z a b f =
 
 -- what the reader answers, a, and leaves in the list l, l′
 abbrev pub Ends : List ℕ → List ℕ → PlanAnswer → List ℕ → Type 0
-Ends plan l a l′ =
-    (said a ≡ planFileReply plan (length l)) × (l′ ≡ lent (planFileReply plan (length l)) (fileWords plan) l)
+Ends plan l a l′ = Leaves (planFileReply plan (length l)) (fileWords plan) (said a) l l′
 
 ends-refused : (plan l : List ℕ) (n : ℕ) → planFileReply plan (length l) ≡ refusal n → Ends plan l (Refused n) l
-ends-refused plan l n r = (sym r, sym (ap (λ (x : Reply PlanFileParts). lent x (fileWords plan) l) r))
+ends-refused plan l n r = refusal-leaves _ _ n (fileWords plan) l r refl
 
 module _ (plan l : List ℕ) (c : PlanCheck) (h : saidChecked c ≡ planCheckReply plan) where
   pub ends-unsound : (n k : ℕ) → c ≡ PlanCheck.Refused n → k ≡ numberOf (saidChecked c) → Ends plan l (Refused k) l
@@ -74,10 +73,7 @@ module _ (plan l : List ℕ) (c : PlanCheck) (h : saidChecked c ≡ planCheckRep
     pub ends-read : (l′ : List ℕ) → q ≤ length l → (fileCount plan ≤ length l → l′ ≡ front (fileWords plan) l) → Ends plan l (Read m q e) l′
     ends-read l′ room w =
         let enough : fileCount plan ≤ length l = omega (arith, sound-count) in
-        let r : planFileReply plan (length l) ≡ answer (fileParts plan) = rw (le-ltb (length l) (fileCount plan) enough) at read-reply in (
-          ap answer sound-parts ∙ sym r,
-          w enough ∙ sym (ap (λ (x : Reply PlanFileParts). lent x (fileWords plan) l) r),
-        )
+        answer-leaves _ _ _ (fileWords plan) l l′ (rw (le-ltb (length l) (fileCount plan) enough) at read-reply) (ap answer sound-parts) (w enough)
 
 -- ---- the words copied to the lent list
 

@@ -14,7 +14,7 @@ use Rattle.numbers.specs.Bytes.{bytesOf, wordBytes}
 use Rattle.word.specs.Reply.{Reply, answer, refusal, replied, firstOf, front, lent}
 use Rattle.numbers.proofs.ByteLaws.{bytes-of-length, length-word-bytes}
 use Rattle.numbers.proofs.FileLaws.{sets-parts, front-sets}
-use Rattle.word.proofs.ReplyLaws.{replied-refusal, none-applies}
+use Rattle.word.proofs.ReplyLaws.{replied-refusal, none-applies, Leaves, refused-leaves, answer-leaves}
 use Rattle.combinations.specs.Reduced.{isReduced}
 use Rattle.reduced_list.specs.WordCount.{badWordCount}
 use Rattle.plan_file.specs.Layout.{planLength}
@@ -116,28 +116,18 @@ write-room k room h = ltb-false room (planLength (wordCount k)) (none-of-write k
 
 -- what the writer answers, a, and leaves in the output l, l′
 abbrev pub Ends : PlanContent → List ℕ → Written → List ℕ → Type 0
-Ends k l a l′ =
-    (said a ≡ planWriteReply k (length l)) × (l′ ≡ lent (planWriteReply k (length l)) (planBytes k) l)
-
-refused-reply : (k : PlanContent) (room n : ℕ) → n ≡ firstOf (planWriteTests k room) → (n ≡ 0 → ⊥) → planWriteReply k room ≡ refusal n
-unfolding planWriteReply
-refused-reply k room n e h =
-    ap (λ (x : ℕ). replied x (planLength (wordCount k))) (sym e) ∙ replied-refusal n (planLength (wordCount k)) h
+Ends k l a l′ = Leaves (planWriteReply k (length l)) (planBytes k) (said a) l l′
 
 done-reply : (k : PlanContent) (room : ℕ) → firstOf (planWriteTests k room) ≡ 0 → planWriteReply k room ≡ answer (planLength (wordCount k))
 unfolding planWriteReply
 done-reply k room h = ap (λ (x : ℕ). replied x (planLength (wordCount k))) h
 
 pub ends-refused : (k : PlanContent) (l : List ℕ) (n : ℕ) → n ≡ firstOf (planWriteTests k (length l)) → (n ≡ 0 → ⊥) → Ends k l (Refused n) l
-ends-refused k l n e h =
-    let r : planWriteReply k (length l) ≡ refusal n = refused-reply k (length l) n e h in
-    (sym r, sym (ap (λ (x : Reply ℕ). lent x (planBytes k) l) r))
+unfolding planWriteReply
+ends-refused k l n e h = refused-leaves _ n (planLength (wordCount k)) (planBytes k) l e h
 
 pub ends-written : (k : PlanContent) (l l′ : List ℕ) (n long : ℕ) → n ≡ firstOf (planWriteTests k (length l)) → n ≡ 0
     → (planLength (wordCount k) ≤ length l → l′ ≡ front (planBytes k) l) → long ≡ planLength (wordCount k) → Ends k l (Done long) l′
 ends-written k l l′ n long e z w f =
     let none : firstOf (planWriteTests k (length l)) ≡ 0 = sym e ∙ z in
-    let r : planWriteReply k (length l) ≡ answer (planLength (wordCount k)) = done-reply k (length l) none in (
-      ap answer f ∙ sym r,
-      w (write-room k (length l) none) ∙ sym (ap (λ (x : Reply ℕ). lent x (planBytes k) l) r),
-    )
+    answer-leaves _ _ _ (planBytes k) l l′ (done-reply k (length l) none) (ap answer f) (w (write-room k (length l) none))

@@ -57,7 +57,7 @@ fn write_low_bytes(out: &mut [u8], at: usize, n: usize, x: u64)
     let mut rest = x;
     let mut i: usize = 0;
     while i < n {
-        numbers::write_byte(out, at + i, (rest % 256) as u8);
+        written_numbers::write_byte(out, at + i, (rest % 256) as u8);
         rest = rest / 256;
         i += 1;
     }
@@ -68,10 +68,10 @@ fn write_file(m: u64, words: &[u64], expected: u64, out: &mut [u8])
     ensures { λ _. ⌜ (planLength (length (now (words .entry))) ≤ length (now (out .entry)) → now (out .exit) ≡ front (planBytes (planContent m (now (words .entry)) expected)) (now (out .entry))) ⌝ }
 {
     let q = words.len();
-    numbers::write_count(out, 0, m);
-    numbers::write_count(out, 2, q as u64);
-    numbers::write_words(out, 4, words);
-    numbers::write_count(out, 4 + 8 * q, q as u64);
+    written_numbers::write_count(out, 0, m);
+    written_numbers::write_count(out, 2, q as u64);
+    written_numbers::write_words(out, 4, words);
+    written_numbers::write_count(out, 4 + 8 * q, q as u64);
     write_low_bytes(out, 6 + 8 * q, (q + 7) / 8, expected);
 }
 

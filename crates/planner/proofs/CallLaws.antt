@@ -7,6 +7,7 @@ use native.Mathlib.Omega.{arith}
 use lib.Dec.{ltb}
 use lib.ListN.{length, take, drop, length-append}
 use lib.Seq.{take-append-seam, take-all}
+use Rattle.word.proofs.ReplyLaws.{refusal-leaves}
 use Rattle.word.specs.Parities.{parities}
 use Rattle.word.specs.Reply.{Test, _when_, Reply, answer, refusal, reply, replied, firstOf, numberOf, front, lent}
 use Rattle.word.proofs.TestLaws.{numbered, first-of-later, first-of-sooner, replied-answer, replied-number, replied-not-zero, replied-alike}
@@ -43,7 +44,7 @@ refusing n zero a e z = absurd (z refl)
 refusing n (suc k) a e z = ap (λ (x : ℕ). replied x a) e
 
 ends-refused : (set cs ws cs′ : List ℕ) (k : ℕ) → planReply set (length cs) (length ws) ≡ refusal k → cs′ ≡ columnsAfter set cs → Ends set cs ws (Refused k) cs′ ws
-ends-refused set cs ws cs′ k h e = (sym h, (e, sym (ap (λ (x : Reply PlanParts). lent x (wordsOf set) ws) h)))
+ends-refused set cs ws cs′ k h e = let left = refusal-leaves _ _ k (wordsOf set) ws h refl in (left .0, (e, left .1))
 
 counted : List ℕ → Counts
 counted set = record { rank = rank (columnsOf set); q = length (reducedList (widthOf set) (columnsOf set)) }

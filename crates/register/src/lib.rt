@@ -135,7 +135,7 @@ fn first_refusal(register: Register, spread: &[u64], row: &[u8]) -> u64
 }
 
 impl Register {
-    pub const LARGEST_WIDTH: u64 = 64;
+    pub const LARGEST_WIDTH: u64 = word::LARGEST_WIDTH;
 
     pub const LARGEST_CHAINS: u64 = 256;
 

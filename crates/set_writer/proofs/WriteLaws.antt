@@ -15,7 +15,7 @@ use lib.Seq.{drop-cons, sets, length-sets}
 use Rattle.numbers.proofs.FileLaws.{sets-parts}
 use Rattle.numbers.specs.Joined.{joined}
 use Rattle.numbers.proofs.JoinLaws.{joined-length}
-use Rattle.numbers.proofs.WritingLaws.{Writing, writing-start, writing-past, writing-end}
+use Rattle.written_numbers.proofs.WritingLaws.{Writing, writing-start, writing-past, writing-end}
 use Rattle.set_writer.specs.Writing.{sliceBytes}
 use Rattle.word.proofs.BoolLaws.{or-false, or-false-left, or-false-right}
 use Rattle.rows.specs.Row.{rowBytes}

@@ -38,11 +38,11 @@ fn write_head(out: &mut [u8], m: u64, taps: u64, spread: &[u64], s: u64)
     ensures { λ _. ⌜ now (out .exit) ≡ sets (now (out .entry)) 0 (headBytes m taps (now (spread .entry)) s) ⌝ }
 {
     let n = spread.len();
-    numbers::write_count(out, 0, m);
-    numbers::write_word(out, set_layout::TAPS_AT, taps);
-    numbers::write_count(out, set_layout::CHAINS_AT, n as u64);
-    numbers::write_words(out, set_layout::SPREAD_AT, spread);
-    numbers::write_count(out, set_layout::slices_at(n as u16), s);
+    written_numbers::write_count(out, 0, m);
+    written_numbers::write_word(out, set_layout::TAPS_AT, taps);
+    written_numbers::write_count(out, set_layout::CHAINS_AT, n as u64);
+    written_numbers::write_words(out, set_layout::SPREAD_AT, spread);
+    written_numbers::write_count(out, set_layout::slices_at(n as u16), s);
 }
 
 // The first s value rows and mark rows of n chains, in turn, where a set of n chains has its rows.

@@ -15,7 +15,7 @@ pub fn put(out: &mut [u8], at: usize, text: &[u8]) -> usize
     }
     let mut i: usize = 0;
     while i < text.len() {
-        numbers::write_byte(out, at + i, text[i]);
+        written_numbers::write_byte(out, at + i, text[i]);
         i += 1;
     }
     at + i

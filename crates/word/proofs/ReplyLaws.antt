@@ -5,7 +5,7 @@ use mathlib.Core.Bool.{Bool, true, false, cond}
 use mathlib.Core.List.{List}
 use Prim.Native.Nat.{ℕ, zero, suc}
 use native.Mathlib.Omega.{arith}
-use Rattle.word.specs.Reply.{answer, refusal, replied, front, lent}
+use Rattle.word.specs.Reply.{Reply, answer, refusal, replied, front, lent}
 
 -- a test that applies gives its number
 pub refuses : (b r : Bool) (n k : ℕ) → r ≡ b → r ≡ true → n ≡ cond b n k
@@ -37,14 +37,25 @@ refused-reply k n a e h = sym (replied-refusal n a h) ∙ ap (λ (i : ℕ). repl
 pub answered-reply : {A : Type 0} (k n : ℕ) (a b : A) → n ≡ k → n ≡ 0 → b ≡ a → answer b ≡ replied k a
 answered-reply k n a b e z eb = ap answer eb ∙ sym (replied-answered k a (sym e ∙ z))
 
+-- what a call with this reply answers, r, and leaves in a lent list l, to which an answer writes vs
+abbrev pub Leaves : {A : Type 0} {B : Type 0} → Reply A → List B → Reply A → List B → List B → Type 0
+Leaves reply vs r l l′ = (r ≡ reply) × (l′ ≡ lent reply vs l)
+
 -- a refusal leaves the list as it was
-pub refused-leaves : {A : Type 0} {B : Type 0} (k n : ℕ) (a : A) (vs l : List B) → n ≡ k → (n ≡ 0 → ⊥)
-    → (refusal n ≡ replied k a) × (l ≡ lent (replied k a) vs l)
-refused-leaves k n a vs l e h = let r = refused-reply k n a e h in (r, ap (λ x. lent x vs l) r)
+pub refusal-leaves : {A : Type 0} {B : Type 0} (reply r : Reply A) (n : ℕ) (vs l : List B) → reply ≡ refusal n → r ≡ refusal n → Leaves reply vs r l l
+refusal-leaves reply r n vs l e er = (er ∙ sym e, sym (ap (λ x. lent x vs l) e))
 
 -- an answer writes its front
+pub answer-leaves : {A : Type 0} {B : Type 0} (reply r : Reply A) (a : A) (vs l l′ : List B) → reply ≡ answer a → r ≡ answer a → l′ ≡ front vs l
+    → Leaves reply vs r l l′
+answer-leaves reply r a vs l l′ e er w = (er ∙ sym e, w ∙ sym (ap (λ x. lent x vs l) e))
+
+-- .. where the reply is given by its first number
+pub refused-leaves : {A : Type 0} {B : Type 0} (k n : ℕ) (a : A) (vs l : List B) → n ≡ k → (n ≡ 0 → ⊥)
+    → Leaves (replied k a) vs (refusal n) l l
+refused-leaves k n a vs l e h = refusal-leaves (replied k a) (refusal n) n vs l (sym (refused-reply k n a e h)) refl
+
 pub answered-writes : {A : Type 0} {B : Type 0} (k n : ℕ) (a b : A) (vs l l′ : List B) → n ≡ k → n ≡ 0 → b ≡ a → l′ ≡ front vs l
-    → (answer b ≡ replied k a) × (l′ ≡ lent (replied k a) vs l)
+    → Leaves (replied k a) vs (answer b) l l′
 answered-writes k n a b vs l l′ e z eb w =
-    let r = answered-reply k n a b e z eb in
-    (r, w ∙ ap (λ x. lent x vs l) r)
+    answer-leaves (replied k a) (answer b) b vs l l′ (sym (answered-reply k n a b e z eb)) refl w

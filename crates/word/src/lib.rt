@@ -60,11 +60,14 @@ pub fn highest_bit(w: u64) -> u64
     if zeros < 64 { (63 - zeros) as u64 } else { 0 }
 }
 
+// The largest width of a register: the bits of a word.
+pub const LARGEST_WIDTH: u64 = 64;
+
 // Whether m is no width of a register: not 1 to 64.
 pub fn is_bad_width(m: u64) -> bool
     ensures { λ r. ⌜ r ≡ badWidth m ⌝ }
 {
-    (m < 1) | (64 < m)
+    (m < 1) | (LARGEST_WIDTH < m)
 }
 
 // The word of place c; 0 past the end.

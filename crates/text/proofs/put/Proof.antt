@@ -9,7 +9,7 @@ use Rattle.text.proofs.put.Statement.{statement}
 use Rattle.text.proofs.put.Tie as tie
 use Rattle.text.proofs.put.Reads as reads
 use Rattle.text.proofs.put.Lts as lts
-use Rattle.numbers.proofs.write_byte.Reads as write-byte-reads
+use Rattle.written_numbers.proofs.write_byte.Reads as write-byte-reads
 
 abbrev Inv-loop : tie.InvT-loop
 Inv-loop out₀ at text i₀ out i =

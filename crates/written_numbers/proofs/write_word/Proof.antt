@@ -3,11 +3,11 @@
 use mathlib.Core.Path.{refl, sym}
 use native.Mathlib.Omega.{arith}
 use lib.ListN.{length-set}
 use Rattle.numbers.specs.Bytes.{bytesOf}
 use Rattle.numbers.proofs.ByteLaws.{sets-past-end, sets-eight, sets-word}
 use borrow.Author.Needs.{needs}
-use Rattle.numbers.proofs.write_word.Statement.{statement}
-use Rattle.numbers.proofs.write_word.Tie as tie
+use Rattle.written_numbers.proofs.write_word.Statement.{statement}
+use Rattle.written_numbers.proofs.write_word.Tie as tie
 
 returns : tie.Need-returns
 returns c = sym (sets-past-end (bytesOf 8 (c .before .before .args .x)) _ _ (c .if1 .taken))

@@ -2,8 +2,8 @@
 use mathlib.Core.Path.{sym}
 use lib.Seq.{set-out}
 use borrow.Author.Needs.{needs}
-use Rattle.numbers.proofs.write_byte.Statement.{statement}
-use Rattle.numbers.proofs.write_byte.Tie as tie
+use Rattle.written_numbers.proofs.write_byte.Statement.{statement}
+use Rattle.written_numbers.proofs.write_byte.Tie as tie
 
 returns-2 : tie.Need-returns-2
 returns-2 c = sym (set-out (c .before .args .out .now) (c .before .args .i) (c .before .args .b) (c .if1 .left))

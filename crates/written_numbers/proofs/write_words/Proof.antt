@@ -1,10 +1,10 @@
 -- `write_words` meets its contract: the words from `c` on are left to be written.
 use borrow.Author.Needs.{needs}
-use Rattle.numbers.proofs.WritingLaws.{writing-start, writing-past, WordsLeft, words-turn, words-end}
+use Rattle.written_numbers.proofs.WritingLaws.{writing-start, writing-past, WordsLeft, words-turn, words-end}
 use lib.ListN.{length}
 use Prim.Native.Nat.{_≤_, _-_}
-use Rattle.numbers.proofs.write_words.Statement.{statement}
-use Rattle.numbers.proofs.write_words.Tie as tie
+use Rattle.written_numbers.proofs.write_words.Statement.{statement}
+use Rattle.written_numbers.proofs.write_words.Tie as tie
 
 abbrev Inv-loop : tie.InvT-loop
 Inv-loop out₀ at words i₀ c₀ out i c = (c ≤ length words) × WordsLeft out₀ out words at i c

@@ -2,10 +2,10 @@
 use mathlib.Core.Path.{sym}
 use native.Mathlib.Numerals.{add-one}
 use borrow.Author.Needs.{needs}
 use Rattle.numbers.specs.Bytes.{bytesOf}
 use Rattle.numbers.proofs.ByteLaws.{sets-past-end}
-use Rattle.numbers.proofs.write_count.Statement.{statement}
-use Rattle.numbers.proofs.write_count.Tie as tie
+use Rattle.written_numbers.proofs.write_count.Statement.{statement}
+use Rattle.written_numbers.proofs.write_count.Tie as tie
 
 returns : tie.Need-returns
 returns c = sym (sets-past-end (bytesOf 2 (c .before .before .args .x)) _ _ (c .if1 .taken))
