@@ -14,10 +14,10 @@ use Rattle.signatures.specs.Later.{later}
 use Rattle.signatures.specs.Columns.{columnsBelow}
 use Rattle.marked_words.specs.Back.{back}
 use Rattle.marked_words.proofs.BackLaws.{back-length}
-use Rattle.columns.proofs.FillLaws.{columns-limited}
-use Rattle.columns.proofs.SparseLaws.{Sparse, PowersIn, good-limited, sparse-room, sparse-starts, sparse-steps, sparse-ends}
-use Rattle.columns.proofs.fill_sparse.Statement.{statement}
-use Rattle.columns.proofs.fill_sparse.Tie as tie
+use Rattle.swept_columns.proofs.FillLaws.{columns-limited}
+use Rattle.sparse_columns.proofs.SparseLaws.{Sparse, PowersIn, good-limited, sparse-room, sparse-starts, sparse-steps, sparse-ends}
+use Rattle.sparse_columns.proofs.fill_sparse.Statement.{statement}
+use Rattle.sparse_columns.proofs.fill_sparse.Tie as tie
 
 abbrev Inv-loop : tie.InvT-loop
 Inv-loop list marks columns₀ width chains spread slices table place₀ t₀ columns place t =

@@ -22,7 +22,7 @@ use Rattle.powers.specs.Powers.{fromPowers}
 use Rattle.numbers.proofs.PartLaws.{take-limit}
 use Rattle.marked_words.proofs.BackLaws.{back-length}
 use Rattle.powers.proofs.PowerLaws.{from-powers, powers-part, later-same}
-use Rattle.columns.proofs.FillLaws.{laterWords, later-words-none, later-words-get, later-words-length, later-words-suc, Filled, filled-inside, filled-room, filled-starts, filled-down, filled-ends}
+use Rattle.swept_columns.proofs.FillLaws.{laterWords, later-words-none, later-words-get, later-words-length, later-words-suc, Filled, filled-inside, filled-room, filled-starts, filled-down, filled-ends}
 
 -- ---- words changed where they stand
 

@@ -2,9 +2,9 @@
 use mathlib.Core.Path.{sym, _∙_}
 use lib.Seq.{length-take-le}
 use borrow.Author.Needs.{needs}
-use Rattle.columns.proofs.SparseLaws.{good-limited}
-use Rattle.columns.proofs.has_bad_word.Statement.{statement}
-use Rattle.columns.proofs.has_bad_word.Tie as tie
+use Rattle.sparse_columns.proofs.SparseLaws.{good-limited}
+use Rattle.sparse_columns.proofs.has_bad_word.Statement.{statement}
+use Rattle.sparse_columns.proofs.has_bad_word.Tie as tie
 
 slice-aggregate-is-bad-spread : tie.Need-slice-aggregate-is-bad-spread
 slice-aggregate-is-bad-spread c = sym (length-take-le _ _ (search needs))

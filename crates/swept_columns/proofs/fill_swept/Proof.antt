@@ -10,9 +10,9 @@ use borrow.Author.Needs.{needs}
 use Rattle.rows.specs.Row.{cell}
 use Rattle.rows.specs.Lists.{cellsOf}
 use Rattle.register.specs.Circuit.{circuit}
-use Rattle.columns.proofs.FillLaws.{Filled, filled-room, filled-starts, filled-down, filled-ends, part-through, part-through-length, columns-limited}
-use Rattle.columns.proofs.fill_swept.Statement.{statement}
-use Rattle.columns.proofs.fill_swept.Tie as tie
+use Rattle.swept_columns.proofs.FillLaws.{Filled, filled-room, filled-starts, filled-down, filled-ends, part-through, part-through-length, columns-limited}
+use Rattle.swept_columns.proofs.fill_swept.Statement.{statement}
+use Rattle.swept_columns.proofs.fill_swept.Tie as tie
 
 abbrev Inv-loop : tie.InvT-loop
 Inv-loop list marks columns₀ register chains words₀ place₀ t₀ columns words place t =
