@@ -11,16 +11,16 @@ use lib.ListN.{length, drop, length-drop, drop-of-length-le}
 use lib.Pow.{pow-mono}
 use lib.Seq.{drop-cons}
 use Rattle.word.specs.Word.{beyond, parity}
-use Rattle.numbers.specs.Bytes.{wordAt, wordsAt}
+use Rattle.numbers.specs.Bytes.{wordAt, wholeWordAt, wordsAt}
 use Rattle.word.specs.Parities.{parities}
 use Rattle.word.specs.Reply.{answer, refusal, replied, firstOf, numberOf, _when_}
-use Rattle.numbers.proofs.ByteLaws.{length-words-at}
+use Rattle.numbers.proofs.ByteLaws.{length-words-at, whole-word}
 use Rattle.numbers.proofs.FileLaws.{word-at-place}
 use Rattle.word.proofs.Laws.{parities-lt}
-use Rattle.plan_file.specs.Layout.{fileWidth, fileCount, fileWords, fileExpected}
+use Rattle.plan_file.specs.Layout.{againAt, fileWidth, fileCount, fileWords, fileExpected}
 use Rattle.plan_file.specs.Checking.{PlanFileParts, fileParts, planCheckReply, saidChecked}
 use Rattle.plan_file.specs.declared.PlanCheck.{PlanCheck}
-use Rattle.plan_file.proofs.Laws.{Taken, told-refused, told-sound, refused-plan, sound-plan}
+use Rattle.plan_file.proofs.Laws.{Taken, taken-long, told-refused, told-sound, refused-plan, sound-plan}
 use Rattle.plan_file.proofs.WordPlaces.{plan-words-length}
 use Rattle.judge.specs.Verdict.{Outcome, passes, failsAt, verdict, Finding, judgeTests, judgeReply}
 use Rattle.judge.proofs.Verdicts.{agrees-by-xor, fails-by-xor}
@@ -33,15 +33,17 @@ words plan q = wordsAt plan 4 q
 
 pub record Cancelled (plan : List ℕ) (y q bits i : ℕ) : Type 0 where
   pub few : q ≤ 64
+  pub long : againAt q ≤ length plan
   pub inside : i ≤ q
   pub done : bits ≡ parities (drop i (words plan q)) y
 
-pub cancelled-start : (plan : List ℕ) (y q : ℕ) → q ≤ 64 → Cancelled plan y q 0 q
+pub cancelled-start : (plan : List ℕ) (y q : ℕ) → (q ≤ 64) × (againAt q ≤ length plan) → Cancelled plan y q 0 q
 unfolding parities
 cancelled-start plan y q h =
     let past : length (words plan q) ≤ q = omega (arith, length-words-at plan 4 q) in
     record {
-      few = h;
+      few = h .0;
+      long = h .1;
       inside = le-refl q;
       done = ap (λ (l : List ℕ). parities l y) (sym (drop-of-length-le (words plan q) past));
     }
@@ -60,15 +62,17 @@ cancelled-next plan y q i h =
     ap (λ (l : List ℕ). parities l y) (drop-cons (words plan q) i 0 below)
     ∙ ap (λ (w : ℕ). parity w y + 2 * parities (drop (suc i) (words plan q)) y) (word-at-place plan 4 q i h)
 
-pub cancelled-turn : (plan : List ℕ) (y q bits i w p : ℕ) → Cancelled plan y q bits i → 0 < i → w ≡ wordAt plan (4 + 8 * (i - 1))
+pub cancelled-turn : (plan : List ℕ) (y q bits i w p : ℕ) → Cancelled plan y q bits i → 0 < i → w ≡ wholeWordAt plan (4 + 8 * (i - 1))
     → p ≡ parity w y → Cancelled plan y q (2 * bits + p) (i - 1)
 cancelled-turn plan y q bits i w p r h e f =
     let below : i - 1 < q = omega (arith, r .inside) in
     let back : suc (i - 1) ≡ i = omega arith in
-    let here : p ≡ parity (wordAt plan (4 + 8 * (i - 1))) y = f ∙ ap (λ (v : ℕ). parity v y) e in
+    let there : 4 + 8 * (i - 1) + 8 ≤ length plan = omega (arith, h, r .inside, r .long) in
+    let here : p ≡ parity (wordAt plan (4 + 8 * (i - 1))) y = f ∙ ap (λ (v : ℕ). parity v y) (e ∙ whole-word plan (4 + 8 * (i - 1)) there) in
     let rest : parities (drop (suc (i - 1)) (words plan q)) y ≡ bits = ap (λ (n : ℕ). parities (drop n (words plan q)) y) back ∙ sym (r .done) in
     record {
       few = r .few;
+      long = r .long;
       inside = omega (arith, r .inside);
       done = omega (arith, cancelled-next plan y q (i - 1) below);
     }
@@ -100,11 +104,13 @@ module _ (plan : List ℕ) (y : ℕ) (c : PlanCheck) (h : saidChecked c ≡ plan
     same-width : b ≡ beyond (fileWidth plan) y
     same-width = eb ∙ ap (λ (p : PlanFileParts). beyond (p .m) y) (sound .1)
 
-    -- a sound plan has at most 64 words
-    pub sound-few : q ≤ 64
-    sound-few =
-        let count : q ≡ fileCount plan = ap (λ (p : PlanFileParts). p .q) (sound .1) in
-        omega (arith, sound .0 .width-most, sound .0 .count-most)
+    -- a sound plan has at most 64 words, and they are all there
+    pub sound-words : (q ≤ 64) × (againAt q ≤ length plan)
+    sound-words =
+        let count : q ≡ fileCount plan = ap (λ (p : PlanFileParts). p .q) (sound .1) in (
+          omega (arith, sound .0 .width-most, sound .0 .count-most),
+          rw count (taken-long plan (sound .0)),
+        )
 
     pub judged-beyond : b ≡ true → refusal 23 ≡ judgeReply plan y
     judged-beyond t = sym (rw (sym same-width ∙ t) at sound .2)

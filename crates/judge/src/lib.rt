@@ -1,9 +1,10 @@
 // Judging a signature by a plan file. It sees words and the check of a plan file.
 ghost use mathlib.Core.Path.{_≡_};
 ghost use Prim.Native.Nat.{_≤_};
+ghost use lib.ListN.{length};
 ghost use Rattle.numbers.specs.Bytes.{wordsAt};
 ghost use Rattle.word.specs.Parities.{parities};
-ghost use Rattle.plan_file.specs.Layout.{wordsPlace};
+ghost use Rattle.plan_file.specs.Layout.{wordsPlace, againAt};
 ghost use Rattle.judge.specs.Verdict.{judgeReply, said};
 use plan_file::PlanCheck;
 
@@ -15,9 +16,10 @@ pub enum Judged {
     Refused { number: u64 },
 }
 
-// The cancelled bits of the first q words of a plan, from the last word to the first, each read where it stands.
+// The cancelled bits of the first q words of a plan, at most 64 and all there, from the last word to the first, each read where
+// it stands.
 fn cancelled_bits(plan: &[u8], q: u64, signature: u64) -> u64
-    requires { ⌜ q ≤ 64 ⌝ }
+    requires { ⌜ (q ≤ 64) × (againAt q ≤ length (now plan)) ⌝ }
     ensures { λ r. ⌜ r ≡ parities (wordsAt (now (plan .entry)) wordsPlace q) signature ⌝ }
 {
     let mut bits: u64 = 0;

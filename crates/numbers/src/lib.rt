@@ -2,8 +2,9 @@
 ghost use mathlib.Core.Path.{_≡_};
 ghost use mathlib.Core.List.{[], _∷_};
 ghost use Prim.Native.Nat.{min, _+_, _<_};
-ghost use lib.ListN.{getD, take, drop};
-ghost use Rattle.numbers.specs.Bytes.{number, countAt, wordAt};
+ghost use lib.Dec.{leb};
+ghost use lib.ListN.{length, getD, take, drop};
+ghost use Rattle.numbers.specs.Bytes.{number, countAt, wordAt, wholeWordAt};
 
 // A byte as a word.
 pub fn wide(b: u8) -> u64
@@ -90,24 +91,44 @@ pub fn read_short_word(s: &[u8], i: usize) -> u64
     w
 }
 
-// The same, in one load where 8 bytes are left.
+// Whether all 8 bytes of the word at place i are there.
+fn has_word(s: &[u8], i: usize) -> bool
+    ensures { λ r. ⌜ r ≡ leb (i + 8) (length (now (s .entry))) ⌝ }
+{
+    if s.len() < 8 {
+        return false;
+    }
+    i <= s.len() - 8
+}
+
+// The word of 8 bytes of s at place i, low byte first, in one load; 0 where they aren't all there.
+pub fn whole_word(s: &[u8], i: usize) -> u64
+    ensures { λ r. ⌜ r ≡ wholeWordAt (now (s .entry)) i ⌝ }
+{
+    if s.len() < 8 {
+        return 0;
+    }
+    if s.len() - 8 < i {
+        return 0;
+    }
+    word_of(
+        s[i],
+        s[i + 1],
+        s[i + 2],
+        s[i + 3],
+        s[i + 4],
+        s[i + 5],
+        s[i + 6],
+        s[i + 7],
+    )
+}
+
+// The word of 8 bytes of s at place i, low byte first; a byte past the end counts as 0. In one load where all are there.
 pub fn read_word(s: &[u8], i: usize) -> u64
     ensures { λ r. ⌜ r ≡ wordAt (now (s .entry)) i ⌝ }
 {
-    if s.len() <= i {
-        return 0;
-    }
-    if 8 <= s.len() - i {
-        return word_of(
-            s[i],
-            s[i + 1],
-            s[i + 2],
-            s[i + 3],
-            s[i + 4],
-            s[i + 5],
-            s[i + 6],
-            s[i + 7],
-        );
+    if has_word(s, i) {
+        return whole_word(s, i);
     }
     read_short_word(s, i)
 }

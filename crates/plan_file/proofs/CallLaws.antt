@@ -7,17 +7,17 @@ use native.Mathlib.Omega.{arith}
 use borrow.Author.Tests.{lt-ltb, le-ltb}
 use lib.Dec.{ltb}
 use lib.ListN.{length, take, set}
-use Rattle.numbers.specs.Bytes.{wordAt}
+use Rattle.numbers.specs.Bytes.{wordAt, wholeWordAt}
 use Rattle.word.specs.Reply.{Reply, answer, refusal, replied, firstOf, numberOf, _when_, front, lent}
 use Rattle.word.proofs.FrontLaws.{front-next, front-whole}
 use Rattle.word.proofs.ReplyLaws.{replied-refusal, Leaves, refusal-leaves, answer-leaves}
-use Rattle.plan_file.specs.Layout.{bitsAt, fileWidth, fileCount, fileWords}
+use Rattle.plan_file.specs.Layout.{againAt, bitsAt, fileWidth, fileCount, fileWords}
 use Rattle.plan_file.specs.Checking.{planFileTests, PlanFileParts, fileParts, planCheckReply, saidChecked}
 use Rattle.plan_file.specs.Reading.{planReadTests, planFileReply, said}
 use Rattle.plan_file.specs.declared.PlanCheck.{PlanCheck}
 use Rattle.plan_file.specs.declared.PlanAnswer.{PlanAnswer}
 use Rattle.plan_file.specs.declared.PlanAnswer.the-variants.{Read, Refused}
-use Rattle.plan_file.proofs.Laws.{taken-bits, told-refused, told-sound, refused-plan, sound-plan}
+use Rattle.plan_file.proofs.Laws.{taken-bits, taken-long, told-refused, told-sound, refused-plan, sound-plan}
 use Rattle.plan_file.proofs.WordPlaces.{plan-words-length, word-of-plan}
 
 parts : {m w q k y e : ℕ} → m ≡ w → q ≡ k → y ≡ e
@@ -70,19 +70,22 @@ module _ (plan l : List ℕ) (c : PlanCheck) (h : saidChecked c ≡ planCheckRep
         let less : length l < fileCount plan = omega (arith, sound-count) in
         ends-refused plan l 18 (rw (lt-ltb (length l) (fileCount plan) less) at read-reply)
 
-    pub ends-read : (l′ : List ℕ) → q ≤ length l → (fileCount plan ≤ length l → l′ ≡ front (fileWords plan) l) → Ends plan l (Read m q e) l′
+    pub ends-read : (l′ : List ℕ) → q ≤ length l → (againAt (fileCount plan) ≤ length plan → fileCount plan ≤ length l → l′ ≡ front (fileWords plan) l)
+        → Ends plan l (Read m q e) l′
     ends-read l′ room w =
         let enough : fileCount plan ≤ length l = omega (arith, sound-count) in
-        answer-leaves _ _ _ (fileWords plan) l l′ (rw (le-ltb (length l) (fileCount plan) enough) at read-reply) (ap answer sound-parts) (w enough)
+        let long : againAt (fileCount plan) ≤ length plan = taken-long plan (sound-plan plan [] (fileParts plan) (record { m = m; q = q; expected = e }) (told-sound plan c h m q e s) .0) in
+        answer-leaves _ _ _ (fileWords plan) l l′ (rw (le-ltb (length l) (fileCount plan) enough) at read-reply) (ap answer sound-parts) (w long enough)
 
 -- ---- the words copied to the lent list
 
-pub copy-turn : (plan l ws : List ℕ) (q i w : ℕ) → ws ≡ front (take i (fileWords plan)) l → q ≡ fileCount plan → i < q → i < length l
-    → w ≡ wordAt plan (4 + 8 * i) → set ws i w ≡ front (take (i + 1) (fileWords plan)) l
-copy-turn plan l ws q i w h c a b e =
+pub copy-turn : (plan l ws : List ℕ) (q i w : ℕ) → ws ≡ front (take i (fileWords plan)) l → q ≡ fileCount plan
+    → againAt (fileCount plan) ≤ length plan → i < q → i < length l → w ≡ wholeWordAt plan (4 + 8 * i)
+    → set ws i w ≡ front (take (i + 1) (fileWords plan)) l
+copy-turn plan l ws q i w h c long a b e =
     let inside : i < fileCount plan = omega arith in
     let below : i < length (fileWords plan) = omega (arith, plan-words-length plan) in
-    ap₂ (λ (x : List ℕ) (v : ℕ). set x i v) h (e ∙ sym (word-of-plan plan i inside)) ∙ front-next i (fileWords plan) l below b
+    ap₂ (λ (x : List ℕ) (v : ℕ). set x i v) h (e ∙ word-of-plan plan i long inside) ∙ front-next i (fileWords plan) l below b
     ∙ ap (λ (n : ℕ). front (take n (fileWords plan)) l) (sym (add-one i))
 
 pub copy-end : (plan l ws : List ℕ) (q i : ℕ) → ws ≡ front (take i (fileWords plan)) l → q ≡ fileCount plan → i ≤ q → q ≤ i

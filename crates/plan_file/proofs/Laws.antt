@@ -1,6 +1,7 @@
 -- What the crates above cite of plan files:
 --
 --   Taken, taken      what is known of a plan that meets none of the numbers 19 to 22
+--   taken-long        .. it doesn't end before its last word
 --   taken-reply       .. and the check answers for a plan of which it is known with its parts
 --   told-refused      where the check handed a refusal back, it replied so
 --   told-sound        .. and where it handed parts back, it replied with them
@@ -106,6 +107,10 @@ taken plan h =
       exact = end-length plan (none .ending);
       expected-inside = end-expected plan (none .ending);
     }
+
+-- a taken plan doesn't end before its last word
+pub taken-long : (plan : List ℕ) → Taken plan → againAt (fileCount plan) ≤ length plan
+taken-long plan t = omega (arith, t .exact)
 
 pub taken-bits : (plan : List ℕ) → firstOf (planFileTests plan) ≡ 0 → wordAt plan (bitsAt (fileCount plan)) ≡ fileExpected plan
 taken-bits plan h =

@@ -4,7 +4,7 @@ use mathlib.Core.Bool.{Bool, true, false, not, _||_}
 use mathlib.Core.List.{List}
 use Prim.Native.Nat.{ℕ, _+_, _*_, _/_, _≤_}
 use native.Mathlib.Omega.{arith}
-use borrow.Author.Tests.{le-ltb, eq-eqb, ne-eqb}
+use borrow.Author.Tests.{le-ltb, ltb-false, eq-eqb, ne-eqb}
 use lib.Dec.{eqb, ltb}
 use lib.ListN.{length}
 use Rattle.word.specs.Word.{badWidth, beyond}
@@ -77,6 +77,13 @@ count-good plan h =
     let q = fileCount plan in
     good-count (fileWidth plan) q
     (or-false-right (ltb (length plan) 4) _ (or-false-left (ltb (length plan) 4 || badWordCount (fileWidth plan) q) (ltb (length plan) (againAt q)) h))
+
+-- past 20 the plan doesn't end before its last word
+pub words-there : (plan : List ℕ) → badPlanCount plan ≡ false → againAt (fileCount plan) ≤ length plan
+unfolding badPlanCount
+words-there plan h =
+    let q = fileCount plan in
+    ltb-false (length plan) (againAt q) (or-false-right (ltb (length plan) 4 || badWordCount (fileWidth plan) q) _ h)
 
 -- past 19 and 20 there are at most 64 words
 pub few-words : (plan : List ℕ) → badPlanWidth plan ≡ false → badPlanCount plan ≡ false → fileCount plan ≤ 64

@@ -4,10 +4,10 @@ ghost use mathlib.Core.Path.{_≡_};
 ghost use mathlib.Core.Bool.{not};
 ghost use Prim.Native.Nat.{_+_, _*_, _<_, _≤_};
 ghost use lib.ListN.{length};
-ghost use Rattle.numbers.specs.Bytes.{wordAt};
+ghost use Rattle.numbers.specs.Bytes.{wordAt, wholeWordAt};
 ghost use Rattle.word.specs.Reply.{firstOf, front, lent, numberOf};
 ghost use Rattle.combinations.specs.Reduced.{isReduced};
-ghost use Rattle.plan_file.specs.Layout.{wordsPlace, bitsAt, fileWidth, fileCount, fileWords};
+ghost use Rattle.plan_file.specs.Layout.{wordsPlace, againAt, bitsAt, fileWidth, fileCount, fileWords};
 ghost use Rattle.plan_file.specs.Checking.{badPlanWidth, badPlanCount, badPlanEnd, planFileTests, planCheckReply, saidChecked};
 ghost use Rattle.plan_file.specs.Reading.{planFileReply, said};
 
@@ -37,12 +37,12 @@ fn count(plan: &[u8]) -> u64
     numbers::read_count(plan, 2)
 }
 
-// The 8 bytes at the place of word i; a byte past the end counts as 0. It meets no number.
+// The word at the place of word i; 0 where the plan ends before its last byte. It meets no number.
 pub fn plan_word(plan: &[u8], i: u16) -> u64
-    ensures { λ r. ⌜ r ≡ wordAt (now (plan .entry)) (wordsPlace + 8 * i) ⌝ }
+    ensures { λ r. ⌜ r ≡ wholeWordAt (now (plan .entry)) (wordsPlace + 8 * i) ⌝ }
 {
     let place = i as usize;
-    numbers::read_word(plan, 4 + 8 * place)
+    numbers::whole_word(plan, 4 + 8 * place)
 }
 
 // The 8 bytes from the place of the expected bits on; a byte past the end counts as 0. They are the expected bits as one
@@ -70,9 +70,10 @@ fn is_bad_plan_count(plan: &[u8]) -> bool
     (plan.len() < 4) | reduced_list::is_bad_word_count(m, q) | (plan.len() < 4 + 8 * (q as usize))
 }
 
-// Number 21: whether the plan's words aren't a reduced list for m, by one pass over them where they stand in the plan.
+// Number 21, for a plan that doesn't end before its last word: whether its words aren't a reduced list for m, by one pass over
+// them where they stand.
 fn is_bad_word_list(plan: &[u8]) -> bool
-    ensures { λ r. ⌜ r ≡ not (isReduced (fileWidth (now (plan .entry))) (fileWords (now (plan .entry)))) ⌝ }
+    ensures { λ r. ⌜ (againAt (fileCount (now (plan .entry))) ≤ length (now (plan .entry)) → r ≡ not (isReduced (fileWidth (now (plan .entry))) (fileWords (now (plan .entry))))) ⌝ }
 {
     let m = width(plan);
     let q = count(plan) as u16;
@@ -152,9 +153,9 @@ pub fn number_of(checked: PlanCheck) -> u64
     }
 }
 
-// The plan's words over the front of `words`; as many as there is room for.
+// The words of a plan that doesn't end before its last one, over the front of `words`; as many as there is room for.
 fn copy_words(plan: &[u8], words: &mut [u64])
-    ensures { λ _. ⌜ (fileCount (now (plan .entry)) ≤ length (now (words .entry)) → now (words .exit) ≡ front (fileWords (now (plan .entry))) (now (words .entry))) ⌝ }
+    ensures { λ _. ⌜ (againAt (fileCount (now (plan .entry))) ≤ length (now (plan .entry)) → fileCount (now (plan .entry)) ≤ length (now (words .entry)) → now (words .exit) ≡ front (fileWords (now (plan .entry))) (now (words .entry))) ⌝ }
 {
     let q = count(plan) as usize;
     let mut i: usize = 0;

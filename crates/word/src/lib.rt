@@ -1,12 +1,9 @@
 // Words of 64 bits: masks, parities, the highest bit, widths. Every function is total.
 ghost use mathlib.Core.Path.{_≡_};
-ghost use Prim.Native.Nat.{min, _+_, _<_};
-ghost use lib.ListN.{take, set};
+ghost use Prim.Native.Nat.{min};
+ghost use lib.ListN.{take, getD};
 ghost use Rattle.word.specs.Word.{lowMask, beyond, parity, highestBit, badWidth};
 ghost use Rattle.word.specs.Parities.{parities};
-ghost use Prim.Native.Nat.{_-_};
-ghost use Prim.Native.Nat.{_-_, _<_};
-ghost use lib.ListN.{getD};
 
 // The word with bits 0 to m - 1 set; all 64 bits from m = 64 on.
 pub fn low_mask(m: u64) -> u64
@@ -23,7 +20,7 @@ pub fn low_mask(m: u64) -> u64
 pub fn is_beyond(m: u64, w: u64) -> bool
     ensures { λ r. ⌜ r ≡ beyond m w ⌝ }
 {
-    if m < 64 { w >> m != 0 } else { false }
+    low_mask(m) < w
 }
 
 // The parity of the bits that a and b share: 0 or 1.

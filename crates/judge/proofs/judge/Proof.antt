@@ -2,7 +2,7 @@
 use native.Mathlib.Omega.{arith}
 use lib.Bits.{bitXor}
 use lib.Count.{trailing-le}
-use Rattle.judge.proofs.CallLaws.{judged-unsound, sound-few, judged-beyond, judged-passes, judged-fails}
+use Rattle.judge.proofs.CallLaws.{judged-unsound, sound-words, judged-beyond, judged-passes, judged-fails}
 use borrow.Author.Needs.{needs}
 use Rattle.judge.proofs.judge.Statement.{statement}
 use Rattle.judge.proofs.judge.Tie as tie
@@ -35,7 +35,7 @@ cancelled-bits-requires : tie.Need-cancelled-bits-requires
 cancelled-bits-requires c κs =
     let checked = c .before .before .before .before .before .check-plan .ensures in
     let sound = c .before .before .before .checked .given .1 in
-    sound-few _ _ _ checked _ _ _ sound _ (c .before .is-beyond .ensures)
+    sound-words _ _ _ checked _ _ _ sound _ (c .before .is-beyond .ensures)
 
 returns-3 : tie.Need-returns-3
 returns-3 c =

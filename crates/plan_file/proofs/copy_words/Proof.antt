@@ -5,14 +5,14 @@ use native.Mathlib.Omega.{arith}
 use lib.ListN.{length, take}
 use Rattle.word.specs.Reply.{front}
 use Rattle.word.proofs.FrontLaws.{front-nothing}
-use Rattle.plan_file.specs.Layout.{fileWords}
+use Rattle.plan_file.specs.Layout.{againAt, fileCount, fileWords}
 use Rattle.plan_file.proofs.CallLaws.{copy-turn, copy-end}
 use borrow.Author.Needs.{needs}
 use Rattle.plan_file.proofs.copy_words.Statement.{statement}
 use Rattle.plan_file.proofs.copy_words.Tie as tie
 
 abbrev Inv-loop : tie.InvT-loop
-Inv-loop plan words₀ q i₀ words i = (i ≤ q) × (length words ≡ length words₀) × (words ≡ front (take i (fileWords plan)) words₀)
+Inv-loop plan words₀ q i₀ words i = (i ≤ q) × (length words ≡ length words₀) × (againAt (fileCount plan) ≤ length plan → words ≡ front (take i (fileWords plan)) words₀)
 
 abbrev μ-loop : tie.MeasureT-loop
 μ-loop plan words₀ q i₀ words i = q - i
@@ -21,13 +21,13 @@ count-requires : tie.Need-count-requires Inv-loop μ-loop
 count-requires c κs = search needs
 
 loop-holds : tie.Need-loop-holds Inv-loop μ-loop
-loop-holds c = (search needs, search needs, sym (front-nothing _))
+loop-holds c = (search needs, search needs, λ h. sym (front-nothing _))
 
 same-length : tie.Need-same-length Inv-loop μ-loop
 same-length c = search needs
 
 returns : tie.Need-returns Inv-loop μ-loop
-returns c = λ h. let z : ⊥ = omega (arith, c .before .before .before .count .ensures .0) in absurd z
+returns c = λ l h. let z : ⊥ = omega (arith, c .before .before .before .count .ensures .0) in absurd z
 
 cast-plan-word : tie.Need-cast-plan-word Inv-loop μ-loop
 cast-plan-word c = search needs
@@ -52,14 +52,14 @@ loop-again c =
     let counted = c .before .before .before .before .count .ensures .0 in (
       search needs,
       search needs,
-      copy-turn _ _ _ _ _ _ (c .before .before .before .loop .inv .2) counted (search needs) (search needs) (c .plan-word .ensures),
+      λ h. copy-turn _ _ _ _ _ _ (c .before .before .before .loop .inv .2 h) counted h (search needs) (search needs) (c .plan-word .ensures),
     )
 
 same-length-2 : tie.Need-same-length-2 Inv-loop μ-loop
 same-length-2 c = search needs
 
 returns-2 : tie.Need-returns-2 Inv-loop μ-loop
-returns-2 c = λ h. copy-end _ _ _ _ (c .before .loop .i) (c .before .loop .inv .2) (c .before .before .count .ensures .0) (search needs) (search needs)
+returns-2 c = λ l h. copy-end _ _ _ _ (c .before .loop .i) (c .before .loop .inv .2 l) (c .before .before .count .ensures .0) (search needs) (search needs)
 
 pub copy-words-spec : {M : Type 1} → statement M
 copy-words-spec =

@@ -1,15 +1,19 @@
 -- `plan_refusal` meets its contract: one test for each number, in the order of the list.
 use mathlib.Core.Path.{sym, _∙_}
 use Prim.Native.Nat.{_≤_}
+use lib.ListN.{length}
 use Rattle.word.proofs.ReplyLaws.{refusals}
-use Rattle.plan_file.specs.Layout.{fileCount}
+use Rattle.plan_file.specs.Layout.{againAt, fileCount}
 use Rattle.plan_file.specs.Checking.{planFileTests}
-use Rattle.plan_file.proofs.TestLaws.{few-words}
+use Rattle.plan_file.proofs.TestLaws.{words-there, few-words}
 use borrow.Author.Needs.{needs}
 use Rattle.plan_file.proofs.plan_refusal.Statement.{statement}
 use Rattle.plan_file.proofs.plan_refusal.Tie as tie
 
 -- past 20
+there : (c : tie.After-is-bad-word-list) → againAt (fileCount (c .before .before .before .before .before .before .args .plan .now)) ≤ length (c .before .before .before .before .before .before .args .plan .now)
+there c = words-there _ (sym (c .before .before .is-bad-plan-count .ensures) ∙ c .before .if2 .left)
+
 few : (c : tie.After-is-bad-plan-end) → fileCount (c .before .before .before .before .before .before .before .before .args .plan .now) ≤ 64
 few c =
     let width-test = c .before .before .before .before .before .before .is-bad-plan-width .ensures in
@@ -37,7 +41,9 @@ is-bad-word-list-requires c κs = search needs
 
 returns-3 : tie.Need-returns-3
 unfolding planFileTests
-returns-3 c = search refusals depth 20 fits 20000
+returns-3 c =
+    let listed = c .before .is-bad-word-list .ensures (there (c .before)) in
+    search refusals depth 20 fits 20000
 
 is-bad-plan-end-requires : tie.Need-is-bad-plan-end-requires
 is-bad-plan-end-requires c κs = search needs
@@ -45,12 +51,14 @@ is-bad-plan-end-requires c κs = search needs
 returns-4 : tie.Need-returns-4
 unfolding planFileTests
 returns-4 c =
+    let listed = c .before .before .before .is-bad-word-list .ensures (there (c .before .before .before)) in
     let ended = c .before .is-bad-plan-end .ensures (few (c .before)) in
     search refusals depth 20 fits 20000
 
 returns-5 : tie.Need-returns-5
 unfolding planFileTests
 returns-5 c =
+    let listed = c .before .before .before .is-bad-word-list .ensures (there (c .before .before .before)) in
     let ended = c .before .is-bad-plan-end .ensures (few (c .before)) in
     search refusals depth 20 fits 20000
 
