@@ -1,5 +1,5 @@
 -- The set's chains and spread words: how many, and which stands where. Assumes nothing.
-use mathlib.Core.Path.{_≡_, refl, sym, ap, _∙_}
+use mathlib.Core.Path.{_≡_, refl, sym, ap, ap₂, _∙_}
 use mathlib.Core.Bool.{false}
 use mathlib.Core.List.{List, []}
 use Prim.Native.Nat.{ℕ, _+_, _*_, _≤_, _<_}
@@ -9,10 +9,11 @@ use native.Mathlib.Omega.{arith}
 use borrow.Author.Tests.{ltb-false}
 use lib.Dec.{ltb}
 use lib.ListN.{length, getD, take, set}
+use lib.Seq.{take-all}
 use Rattle.numbers.specs.Bytes.{wordAt, wordsAt}
 use Rattle.word.specs.Reply.{front}
 use Rattle.word.proofs.BoolLaws.{or-false-left, or-false-right}
-use Rattle.word.proofs.FrontLaws.{front-next, front-nothing, front-whole}
+use Rattle.word.proofs.FrontLaws.{front-next, front-nothing}
 use Rattle.numbers.proofs.FileLaws.{word-at-place}
 use Rattle.register.specs.Circuit.{badChains}
 use Rattle.set_layout.specs.Layout.{spreadAt, chainsOf, spreadOf, noWords}
@@ -49,6 +50,23 @@ spread-turn l ws n c w e h b r =
     ∙ front-next c (wordsAt l spreadAt n) noWords inside room
     ∙ ap (λ (k : ℕ). front (take k (wordsAt l spreadAt n)) noWords) (sym (add-one c))
 
-pub spread-end : (l ws : List ℕ) (n c : ℕ) → ws ≡ front (take c (wordsAt l spreadAt n)) noWords → c ≡ n → ws ≡ front (wordsAt l spreadAt n) noWords
-spread-end l ws n c e h =
-    e ∙ ap (λ (k : ℕ). front (take k (wordsAt l spreadAt n)) noWords) (h ∙ sym (length-words-at l spreadAt n)) ∙ front-whole (wordsAt l spreadAt n) noWords
+-- no more than 256 are read, and where there are no more, all
+pub spread-end : (l ws : List ℕ) (n k c : ℕ) → n ≡ k → ws ≡ front (take c (wordsAt l spreadAt n)) noWords → n ≤ c → c ≤ 256
+    → ws ≡ front (take 256 (wordsAt l spreadAt k)) noWords
+spread-end l ws n k c e r h b =
+    let all : length (wordsAt l spreadAt n) ≤ c = omega (arith, length-words-at l spreadAt n) in
+    let few : length (wordsAt l spreadAt n) ≤ 256 = omega (arith, all, b) in
+    r ∙ ap (λ (x : List ℕ). front x noWords) (take-all c (wordsAt l spreadAt n) all ∙ sym (take-all 256 (wordsAt l spreadAt n) few))
+    ∙ ap (λ (x : ℕ). front (take 256 (wordsAt l spreadAt x)) noWords) e
+
+pub spread-full : (l ws : List ℕ) (n k c : ℕ) → n ≡ k → ws ≡ front (take c (wordsAt l spreadAt n)) noWords → 256 ≤ c → c ≤ 256
+    → ws ≡ front (take 256 (wordsAt l spreadAt k)) noWords
+spread-full l ws n k c e r a b =
+    let full : c ≡ 256 = omega arith in
+    r ∙ ap₂ (λ (x y : ℕ). front (take x (wordsAt l spreadAt y)) noWords) full e
+
+-- a set of at most 256 chains has no more spread words than are read
+pub spread-whole : (l ws : List ℕ) → ws ≡ front (take 256 (spreadOf l)) noWords → chainsOf l ≤ 256 → ws ≡ front (spreadOf l) noWords
+spread-whole l ws e h =
+    let few : length (spreadOf l) ≤ 256 = omega (arith, spread-length l, h) in
+    e ∙ ap (λ (x : List ℕ). front x noWords) (take-all 256 (spreadOf l) few)

@@ -3,6 +3,7 @@
 // total.
 ghost use mathlib.Core.Path.{_≡_};
 ghost use Prim.Native.Nat.{_*_, _≤_};
+ghost use lib.ListN.{take};
 ghost use Rattle.word.specs.Reply.{front};
 ghost use Rattle.rows.specs.Row.{rowBytes};
 ghost use Rattle.set_layout.specs.Layout.{slicesAt, headLength, rowsAt, setLength, widthOf, tapsOf, chainsOf, spreadOf, slicesOf, valueAt, markAt, noWords};
@@ -93,9 +94,9 @@ pub fn no_words() -> [u64; 256]
     [0u64; 256]
 }
 
-// The spread words, as the set gives them, up to 256, and zeros after them.
+// The first 256 spread words, as the set gives them, and zeros after them.
 pub fn spread_words(set: &[u8]) -> [u64; 256]
-    ensures { λ r. ⌜ (chainsOf (now (set .entry)) ≤ 256 → r ≡ front (spreadOf (now (set .entry))) noWords) ⌝ }
+    ensures { λ r. ⌜ r ≡ front (take 256 (spreadOf (now (set .entry)))) noWords ⌝ }
 {
     let n = chain_count(set) as usize;
     let mut words = no_words();

@@ -1,5 +1,6 @@
 -- `read_set` meets its contract, in a refusal and where it reads.
 use Rattle.set_file.proofs.ReadLaws.{reads-refused, reads-answer}
+use Rattle.set_layout.proofs.LayoutLaws.{spread-whole}
 use borrow.Author.Needs.{needs}
 use Rattle.set_file.proofs.read_set.Statement.{statement}
 use Rattle.set_file.proofs.read_set.Tie as tie
@@ -12,7 +13,7 @@ returns-2 c =
     let fresh = c .before .before .before in
     reads-answer _ _ _ _ _ _ _ _ (fresh .before .before .before .before .set-refusal .ensures) (search needs) (fresh .before .before .register-width .ensures)
     (fresh .before .tap-word .ensures) (fresh .fresh .ensures) (c .before .before .chain-count .ensures) (c .before .slice-count .ensures)
-    (c .spread-words .ensures)
+    (spread-whole _ _ (c .spread-words .ensures))
 
 pub read-set-spec : {M : Type 1} → statement M
 read-set-spec =

@@ -1,6 +1,6 @@
 -- `spread_words` meets its contract: the words of the chains passed are read.
 use borrow.Author.Needs.{needs}
-use Rattle.set_layout.proofs.LayoutLaws.{no-words-length, spread-start, spread-turn, spread-end}
+use Rattle.set_layout.proofs.LayoutLaws.{no-words-length, spread-start, spread-turn, spread-end, spread-full}
 use Rattle.set_layout.specs.Layout.{spreadAt, noWords}
 use Rattle.word.specs.Reply.{front}
 use lib.ListN.{take, length}
@@ -30,7 +30,7 @@ loop-holds : tie.Need-loop-holds Inv-loop μ-loop
 loop-holds c = (search needs, search needs, ap length (c .no-words .ensures) ∙ no-words-length, spread-start _ (c .no-words .ensures))
 
 returns : tie.Need-returns Inv-loop μ-loop
-returns c = λ h. let z : ⊥ = omega (arith, c .before .before .before .before .chain-count .ensures) in absurd z
+returns c = spread-full _ _ _ _ (c .before .before .loop .c) (c .before .before .before .before .chain-count .ensures) (c .before .before .loop .inv .3) (search needs) (search needs)
 
 mul-read-word : tie.Need-mul-read-word Inv-loop μ-loop
 mul-read-word c = search needs
@@ -57,10 +57,7 @@ loop-again : tie.Need-loop-again Inv-loop μ-loop
 loop-again c = (search needs, search needs, search needs, spread-turn _ _ _ _ _ (c .before .before .before .loop .inv .3) (search needs) (search needs) (c .read-word .ensures))
 
 returns-2 : tie.Need-returns-2 Inv-loop μ-loop
-returns-2 c = λ h.
-    let e : c .before .loop .c ≡ c .before .before .before .chain-count .result = omega arith in
-    spread-end _ _ _ _ (c .before .loop .inv .3) e
-    ∙ ap (λ (n : ℕ). front (wordsAt (c .before .before .before .before .before .args .set .now) spreadAt n) noWords) (c .before .before .before .chain-count .ensures)
+returns-2 c = spread-end _ _ _ _ (c .before .loop .c) (c .before .before .before .chain-count .ensures) (c .before .loop .inv .3) (search needs) (search needs)
 
 pub spread-words-spec : {M : Type 1} → statement M
 spread-words-spec =
