@@ -1,8 +1,7 @@
 // Numbers in lists of bytes: counts of 2 bytes and words of 8, low byte first. It sees words alone. Every function is total.
 ghost use mathlib.Core.Path.{_≡_};
 ghost use mathlib.Core.List.{[], _∷_};
-ghost use Prim.Native.Nat.{min, _+_, _<_};
-ghost use lib.Dec.{leb};
+ghost use Prim.Native.Nat.{min, _+_, _<_, _≤_};
 ghost use lib.ListN.{length, getD, take, drop};
 ghost use Rattle.numbers.specs.Bytes.{number, countAt, wordAt, wholeWordAt};
 
@@ -91,26 +90,11 @@ pub fn read_short_word(s: &[u8], i: usize) -> u64
     w
 }
 
-// Whether all 8 bytes of the word at place i are there.
-fn has_word(s: &[u8], i: usize) -> bool
-    ensures { λ r. ⌜ r ≡ leb (i + 8) (length (now (s .entry))) ⌝ }
+// The word of the 8 bytes of s at place i, low byte first, in one load.
+fn eight_bytes(s: &[u8], i: usize) -> u64
+    requires { ⌜ i + 8 ≤ length (now s) ⌝ }
+    ensures { λ r. ⌜ r ≡ wordAt (now (s .entry)) i ⌝ }
 {
-    if s.len() < 8 {
-        return false;
-    }
-    i <= s.len() - 8
-}
-
-// The word of 8 bytes of s at place i, low byte first, in one load; 0 where they aren't all there.
-pub fn whole_word(s: &[u8], i: usize) -> u64
-    ensures { λ r. ⌜ r ≡ wholeWordAt (now (s .entry)) i ⌝ }
-{
-    if s.len() < 8 {
-        return 0;
-    }
-    if s.len() - 8 < i {
-        return 0;
-    }
     word_of(
         s[i],
         s[i + 1],
@@ -123,12 +107,28 @@ pub fn whole_word(s: &[u8], i: usize) -> u64
     )
 }
 
-// The word of 8 bytes of s at place i, low byte first; a byte past the end counts as 0. In one load where all are there.
+// The word of 8 bytes of s at place i, low byte first; 0 where they aren't all there.
+pub fn whole_word(s: &[u8], i: usize) -> u64
+    ensures { λ r. ⌜ r ≡ wholeWordAt (now (s .entry)) i ⌝ }
+{
+    if s.len() < 8 {
+        return 0;
+    }
+    if s.len() - 8 < i {
+        return 0;
+    }
+    eight_bytes(s, i)
+}
+
+// The word of 8 bytes of s at place i, low byte first; a byte past the end counts as 0.
 pub fn read_word(s: &[u8], i: usize) -> u64
     ensures { λ r. ⌜ r ≡ wordAt (now (s .entry)) i ⌝ }
 {
-    if has_word(s, i) {
-        return whole_word(s, i);
+    if s.len() <= i {
+        return 0;
+    }
+    if 8 <= s.len() - i {
+        return eight_bytes(s, i);
     }
     read_short_word(s, i)
 }

@@ -1,8 +1,7 @@
--- `whole_word` meets its contract: eight bytes within the list make the word.
+-- `whole_word` meets its contract, by the room that is left for 8 bytes.
 use mathlib.Core.Path.{sym, _∙_}
-use native.Mathlib.Omega.{arith}
 use borrow.Author.Needs.{needs}
-use Rattle.numbers.proofs.ByteLaws.{word-of-bytes, whole-word, whole-absent}
+use Rattle.numbers.proofs.ByteLaws.{whole-word, whole-absent}
 use Rattle.numbers.proofs.whole_word.Statement.{statement}
 use Rattle.numbers.proofs.whole_word.Tie as tie
 
@@ -13,29 +12,7 @@ returns-2 : tie.Need-returns-2
 returns-2 c = whole-absent _ _ (search needs)
 
 returns-3 : tie.Need-returns-3
-returns-3 c = c .word-of .ensures ∙ sym (whole-word _ _ (search needs) ∙ word-of-bytes _ _)
+returns-3 c = c .eight-bytes .ensures ∙ sym (whole-word _ _ (search needs))
 
 pub whole-word-spec : {M : Type 1} → statement M
-whole-word-spec =
-    tie.close
-    (tie.spec
-    returns
-    (λ c. search needs)
-    returns-2
-    (λ c. search needs)
-    (λ c. search needs)
-    (λ c. search needs)
-    (λ c. search needs)
-    (λ c. search needs)
-    (λ c. search needs)
-    (λ c. search needs)
-    (λ c. search needs)
-    (λ c. search needs)
-    (λ c. search needs)
-    (λ c. search needs)
-    (λ c. search needs)
-    (λ c. search needs)
-    (λ c. search needs)
-    (λ c. search needs)
-    (λ c κs. search needs)
-    returns-3)
+whole-word-spec = tie.close (tie.spec returns (λ c. search needs) returns-2 (λ c κs. search needs) returns-3)
