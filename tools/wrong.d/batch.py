@@ -859,6 +859,9 @@ class Batch:
         self.use(whole, big=True)
         self.use_damaged(whole, data + b"\0", [0, 2, 3])
         self.use_damaged(whole, data[:-1], [1, 4])
+        # around the printer's 4,096 column places
+        for n, s in ((16, 256), (17, 241)):
+            self.use(Set(64, 1, [low(64)] * n, self.cells(n, s, "all")), big=True)
         dense = self.any_set(64, 256, 512, "all")
         self.call("canceller_plan", a=dense.data(), u=self.junk_words(dense.unknowns()), v=self.junk_words(64))
         self.call("canceller_list_columns", a=dense.data(), u=self.junk_words(dense.unknowns() - 1))
