@@ -4,9 +4,11 @@
 # make soak SECONDS=60   random calls by the library and the second implementation
 # make bench  the benchmark's tables, and the picture docs/growth.svg
 # make faults  each fault of reference/faults/ put into the second implementation, and what the tests say of it (not in the gate)
+# make wrong  each must-fail edit as a program without proof, run beside the library: an edit that behaves the same is no wrong
+#             program (not in the gate; make wrong EDITS="judge planner/refuses_at_m_unknowns": a crate's edits and one edit)
 # make bench-instructions   instructions of each call, by valgrind's callgrind
 # make fmt    lay every source out as the gate asks
-.PHONY: run test lib soak faults bench bench-instructions fmt tools rust-tools
+.PHONY: run test lib soak faults wrong bench bench-instructions fmt tools rust-tools
 
 SECONDS ?= 60
 
@@ -28,6 +30,10 @@ soak: lib rust-tools
 
 faults: lib rust-tools
 	scripts/faults.sh
+
+wrong: tools
+	@command -v python3 >/dev/null || { echo "python3 is not on the path: tools/wrong needs it"; exit 1; }
+	tools/wrong $(EDITS)
 
 bench: lib rust-tools
 	scripts/bench.sh

@@ -1,0 +1,952 @@
+"""The inputs of tools/wrong: batches of calls, the same ones for the same number.
+
+    calls_of(number)    the calls of one batch, a list of Call. Batch 0 also has the inputs that are made one by one: each refusal
+                        by an input that gives it and nothing earlier, and inputs that are right by one.
+
+A call's NAME, numbers and lists are those of its line in driver.rt.txt. To add a function, write a method of Batch that makes its
+calls, and call it in `calls_of`; a function that takes what another call takes gets a line in BELOW. What a call answers is not
+said here: the unedited library says it.
+"""
+import random
+
+ALL = (1 << 64) - 1
+WIDTHS = [1, 2, 3, 4, 5, 6, 7, 8, 9, 12, 15, 16, 17, 31, 32, 33, 62, 63, 64]
+CHAINS = [1, 2, 3, 4, 5, 7, 8, 9, 12, 15, 16, 17]
+MANY_CHAINS = [31, 33, 63, 64, 65, 66, 127, 128, 129, 191, 192, 193, 200, 255, 256]
+SLICES = [0, 1, 1, 2, 2, 3, 4, 5, 8]
+MANY_SLICES = [13, 16, 33, 64, 100]
+NUMBERS = [0, 1, 2, 3, 7, 8, 9, 15, 16, 62, 63, 64, 65, 66, 127, 128, 129, 255, 256, 257, 511, 512, 513, 65535, 65536,
+           (1 << 32) - 1, 1 << 32, (1 << 63) - 1, 1 << 63, ALL - 1, ALL]
+
+# For each call of the boundary, those below it that take the same: some of its inputs go to each of them as well.
+BELOW = {
+    "canceller_read_set": ["set_file::read_set", "set_file::set_refusal", "set_layout::parts", "set_layout::spread_words"],
+    "canceller_value_row": ["slice_rows::value_place"],
+    "canceller_mark_row": ["slice_rows::mark_place"],
+    "canceller_write_set": ["set_writer::write_set", "set_content::write_refusal"],
+    "canceller_clock": ["register::clock"],
+    "canceller_sign": ["signing::sign_record"],
+    "canceller_list_columns": ["columns::list_columns"],
+    "canceller_eliminate": ["elimination::eliminate"],
+    "canceller_plan": ["planner::plan"],
+    "canceller_write_plan": ["plan_writer::write_plan"],
+    "canceller_read_plan": ["plan_file::read_plan", "plan_file::check_plan"],
+    "canceller_judge": ["judge::judge"],
+}
+FILLERS = ["columns::fill_columns", "sparse_columns::fill_few", "swept_columns::fill_swept"]
+
+
+class Call:
+    """One call: its name in driver.rt.txt, its numbers and its lists."""
+
+    def __init__(self, name, n=(), a=b"", b=b"", c=b"", d=b"", u=(), v=()):
+        self.name, self.n = name, tuple(n)
+        self.a, self.b, self.c, self.d = bytes(a), bytes(b), bytes(c), bytes(d)
+        self.u, self.v = list(u), list(v)
+
+
+def low(m):
+    return (1 << min(m, 64)) - 1
+
+
+def row_bytes(n):
+    return (n + 7) // 8
+
+
+def two_bytes(x):
+    return (x % 65536).to_bytes(2, "little")
+
+
+def eight_bytes(x):
+    return (x & ALL).to_bytes(8, "little")
+
+
+class Set:
+    """A set: its register, its spread words, and for each slice a number for its value row and one for its mark row."""
+
+    def __init__(self, m, taps, spread, slices):
+        self.m, self.taps, self.spread, self.slices = m, taps, list(spread), list(slices)
+        self.n, self.s, self.b = len(spread), len(slices), row_bytes(len(spread))
+
+    def data(self):
+        return (two_bytes(self.m) + eight_bytes(self.taps) + two_bytes(self.n) + b"".join(map(eight_bytes, self.spread))
+                + two_bytes(self.s) + b"".join(self.row(v) + self.row(x) for v, x in self.slices))
+
+    def row(self, cells):
+        return cells.to_bytes(self.b, "little")
+
+    def values(self):
+        return b"".join(self.row(v) for v, _ in self.slices)
+
+    def marks(self):
+        return b"".join(self.row(x) for _, x in self.slices)
+
+    def unknowns(self):
+        return sum(bin(x).count("1") for _, x in self.slices)
+
+    def left(self):
+        """How many words a plan of this set has: m less the rank of its columns."""
+        top, words, found, basis = 1 << (self.m - 1), list(self.spread), 0, {}
+        for _, marks in reversed(self.slices):
+            for c in range(self.n):
+                if marks >> c & 1:
+                    w = words[c]
+                    while w and w.bit_length() in basis:
+                        w ^= basis[w.bit_length()]
+                    if w:
+                        basis[w.bit_length()] = w
+                        found += 1
+            words = [(w << 1 & low(self.m)) ^ (self.taps if w & top else 0) for w in words]
+        return self.m - found
+
+
+def sample():
+    """The sample of document 01."""
+    return Set(3, 3, [1, 4], [(1, 2), (1, 0)])
+
+
+def plan_data(m, words, expected, count=None, again=None):
+    q = len(words)
+    return (two_bytes(m) + two_bytes(q if count is None else count) + b"".join(map(eight_bytes, words))
+            + two_bytes(q if again is None else again) + expected.to_bytes(max(row_bytes(q), 0), "little"))
+
+
+class Batch:
+    def __init__(self, number):
+        self.random = random.Random(1000003 * number + 17)
+        self.calls = []
+
+    # ---- small choices
+
+    def call(self, name, n=(), **lists):
+        self.calls.append(Call(name, n, **lists))
+        for below in BELOW.get(name, []):
+            if self.random.random() < 0.4:
+                self.calls.append(Call(below, n, **lists))
+
+    def pick(self, *lists):
+        return self.random.choice([x for one in lists for x in one])
+
+    def bits(self, count):
+        return self.random.getrandbits(count) if count else 0
+
+    def junk(self, count):
+        return bytes(self.random.getrandbits(8) for _ in range(max(count, 0)))
+
+    def junk_words(self, count):
+        return [self.bits(64) for _ in range(max(count, 0))]
+
+    def near(self, count):
+        """Lengths around one that just suffices."""
+        return max(0, count + self.pick([0, 0, 0, -1, -1, 1, 2, 9]))
+
+    def word(self, m):
+        """A word that isn't 0 and has no bit at or above m."""
+        kind = self.random.randrange(6)
+        if kind == 0:
+            return 1 << self.random.randrange(m)
+        if kind == 1:
+            return low(m) >> self.random.randrange(m)
+        if kind == 2:
+            return 1 << (m - 1) | self.bits(m)
+        return self.bits(m) or 1
+
+    def taps(self, m):
+        kind = self.random.randrange(5)
+        if kind == 0:
+            return 1
+        if kind == 1:
+            return low(m)
+        if kind == 2:
+            return 1 | 1 << (m - 1)
+        return self.bits(m) | 1
+
+    def spread(self, m, n):
+        kind = self.random.randrange(9)
+        if kind == 0:
+            return [1 << (c % m) for c in range(n)]
+        if kind == 1:
+            return [self.word(m)] * n
+        if kind == 2:
+            few = [self.word(m) for _ in range(2)]
+            return [self.pick(few) for _ in range(n)]
+        if kind == 3 and m > 1:
+            even = [w ^ 1 if bin(w).count("1") % 2 else w for w in (self.word(m) for _ in range(n))]
+            return [w or 3 for w in even]
+        if kind == 4:
+            return [c + 1 if c + 1 <= low(m) else 1 for c in range(n)]
+        if kind == 5:
+            return [low(m)] * n
+        return [self.word(m) for _ in range(n)]
+
+    def low_rank(self, m, n, s):
+        """Many unknown cells, few independent columns: the register only turns, and the spread words repeat themselves."""
+        periods = [p for p in (1, 2, 4, 8, 16, 32, 3, 9, 21, 31) if m % p == 0 and p < m] or [m]
+        period = self.pick(periods)
+        spread = []
+        for _ in range(n):
+            piece = self.bits(period) or 1
+            spread.append(sum(piece << k for k in range(0, m, period)))
+        if self.random.random() < 0.5:
+            spread[self.random.randrange(n)] = self.word(m)
+        slices = []
+        for _ in range(s):
+            marks = self.bits(n)
+            if spread.count(spread[0]) == n or self.random.random() < 0.5:
+                marks |= self.bits(n)
+            slices.append((self.bits(n) & ~marks, marks))
+        return Set(m, 1, spread, slices)
+
+    def cells(self, n, s, kind):
+        slices = []
+        for _ in range(s):
+            if kind == "none":
+                marks = 0
+            elif kind == "all":
+                marks = low_row(n)
+            elif kind == "half":
+                marks = self.bits(n)
+            elif kind == "dense":
+                marks = self.bits(n) | self.bits(n) | self.bits(n)
+            elif kind == "last":
+                marks = 1 << (n - 1)
+            elif kind == "first":
+                marks = 1
+            else:
+                marks = self.bits(n) & self.bits(n) & self.bits(n) & self.bits(n)
+            slices.append([self.bits(n) & ~marks, marks])
+        if kind == "one" and s:
+            t, c = self.random.randrange(s), self.random.randrange(n)
+            slices = [[v, 0] for v, _ in slices]
+            slices[t] = [slices[t][0] & ~(1 << c), 1 << c]
+        return [tuple(x) for x in slices]
+
+    def any_set(self, m=None, n=None, s=None, kind=None):
+        m = m or self.pick(WIDTHS)
+        n = n or (self.pick(CHAINS) if self.random.random() < 0.75 else self.pick(MANY_CHAINS))
+        if s is None:
+            s = self.pick(SLICES) if n > 17 or self.random.random() < 0.85 else self.pick(MANY_SLICES)
+        kind = kind or self.pick(["none", "one", "one", "few", "few", "few", "half", "half", "dense", "all", "last", "first"])
+        return Set(m, self.taps(m), self.spread(m, n), self.cells(n, s, kind))
+
+    def word_list(self, m, q=None):
+        """A reduced list for m of q words: each with a highest bit of its own, clear in the others."""
+        q = q or self.random.randint(1, m)
+        tops = sorted(self.random.sample(range(m), q))
+        free = low(m)
+        for t in tops:
+            free &= ~(1 << t)
+        return [1 << t | (self.bits(m) & free & low(t)) for t in tops]
+
+    # ---- the calls of the boundary
+
+    def rows_of(self, data, s, slices=None):
+        for t in slices if slices is not None else {0, s - 1, s, s + 1, self.pick(NUMBERS), 65536 + self.random.randrange(4)}:
+            if t < 0:
+                continue
+            self.call("canceller_value_row", [t], a=data)
+            self.call("canceller_mark_row", [t], a=data)
+            self.call("slice_rows::value_row", [t], a=data, d=self.junk(40))
+            self.call("slice_rows::mark_row", [t], a=data, d=self.junk(40))
+
+    def record_of(self, one, kind):
+        rows = [self.bits(one.n) for _ in range(one.s)]
+        if kind == "filled":
+            rows = [v | (self.bits(one.n) & x) for v, x in one.slices]
+        record = b"".join(one.row(r) for r in rows)
+        if kind == "short":
+            return record[:-1]
+        if kind == "long":
+            return record + self.junk(1)
+        if kind == "long by a 0":
+            return record + b"\0"
+        if kind == "a row long":
+            return record + bytes(one.b)
+        if kind == "none":
+            return b""
+        if kind == "spare" and one.n % 8 and one.s:
+            t = self.pick([0, one.s - 1, self.random.randrange(one.s)])
+            bit = self.pick([one.n % 8, 7, self.random.randint(one.n % 8, 7)])
+            record = bytearray(record)
+            record[one.b * t + one.b - 1] |= 1 << bit
+            return bytes(record)
+        return record
+
+    def sign(self, one, data):
+        for kind in ("any", "filled", self.pick(["short", "long", "long by a 0", "a row long", "none"]), "spare"):
+            self.call("canceller_sign", a=data, b=self.record_of(one, kind))
+
+    def plan_of(self, one, data, judged=True):
+        unknowns, left = one.unknowns(), one.left()
+        for room in {unknowns, max(0, unknowns - 1), self.near(unknowns)}:
+            self.call("canceller_list_columns", a=data, u=self.junk_words(room))
+        for room, places in ((unknowns, left), (unknowns, max(0, left - 1)), (max(0, unknowns - 1), left), (unknowns + 3, 64),
+                             (self.near(unknowns), self.near(left))):
+            self.call("canceller_plan", a=data, u=self.junk_words(room), v=self.junk_words(places))
+        for room, places in ((unknowns + 1, left + 1), (self.near(unknowns), self.near(left))):
+            self.call("plan_text::print_plan", a=data, u=self.junk_words(room), v=self.junk_words(places), d=self.junk(4096))
+        if not judged:
+            return
+        size = 6 + 8 * left + row_bytes(left)
+        kinds = ["any", "filled", "filled", "short", "long", "spare"]
+        for file in (size, size - 1, size + 9, self.near(size)):
+            first, second = self.record_of(one, self.pick(kinds)), self.record_of(one, self.pick(kinds))
+            room = {"u": self.junk_words(unknowns), "v": self.junk_words(left), "d": self.junk(file)}
+            self.call("guarantee::judge_record", a=data, b=first, **room)
+            self.call("guarantee::judge_records", a=data, b=first, c=second, **room)
+        self.call("guarantee::judge_record", a=data, b=self.record_of(one, "filled"), u=self.junk_words(max(0, unknowns - 1)),
+                  v=self.junk_words(left), d=self.junk(size))
+        self.call("guarantee::judge_records", a=data, b=self.record_of(one, "any"), c=self.record_of(one, "filled"),
+                  u=self.junk_words(self.near(unknowns)), v=self.junk_words(self.near(left)), d=self.junk(600))
+
+    # A taken set is m, the tap word, n, s and a state; rows are their place, their stride and their bytes.
+
+    def fill(self, taken, spread, data, rows, room, names=None):
+        for name in names or FILLERS:
+            self.call(name, taken + rows, v=spread, a=data, u=self.junk_words(room))
+
+    def parts_of(self, one, data):
+        """The calls below the boundary that go by a set's numbers."""
+        n, s, b, spread, unknowns = one.n, one.s, one.b, (one.spread + [0] * 256)[:256], one.unknowns()
+        taken, values = [one.m, one.taps, n, s, self.pick([0, self.bits(64)])], [14 + 8 * n, 2 * b, b]
+        marks = [14 + 8 * n + b, 2 * b, b]
+        for room in {unknowns, max(0, unknowns - 1), unknowns // 2, unknowns + 5, 0}:
+            self.fill(taken, spread, data, marks, room, None if room < 100 else [self.pick(FILLERS)])
+        if self.random.random() < 0.2:
+            self.fill(taken, spread, data, marks, 600, [self.pick(FILLERS)])
+        self.call("signing::sign_rows", taken + self.pick([values, marks]), a=data, v=spread)
+        self.call("signing::zero_signature", taken, a=data, v=spread)
+        self.call("marked_words::count_marks", marks + [s], a=data)
+        bad = list(spread)
+        for c in (n - 1, self.random.randrange(n)):
+            bad[c] = self.pick([0, self.bits(64), bad[c] | 1 << min(one.m, 63), ALL])
+        m, taps = self.pick([one.m, one.m, one.m, 0, 65, self.pick(NUMBERS)]), self.pick([one.taps, one.taps, self.bits(64), 0])
+        room = self.pick([unknowns, unknowns, max(0, unknowns - 1), unknowns + 5])
+        self.fill(taken, bad, data, marks, room, [self.pick(FILLERS)])
+        self.fill([m, taps] + taken[2:], self.pick([bad, spread]), data, marks, room, [self.pick(FILLERS)])
+        self.call("signing::zero_signature", [m, taps] + taken[2:], a=data, v=bad)
+
+    def lists_of_rows(self, count):
+        """The same calls with rows that stand anywhere in a list of bytes, and with counts above the limits."""
+        for _ in range(count):
+            m, n = self.pick(WIDTHS, [0, 65, ALL]), self.pick(CHAINS, MANY_CHAINS, [0, 257, 300, 65535])
+            s = self.pick([0, 1, 2, 3, 8, 40, 100, 511, 512, 513, 600, 1000])
+            b, data = row_bytes(min(n, 256)), self.junk(self.pick([0, 1, 7, 40, 200, 700]))
+            rows = self.pick([[0, b, b], [self.random.randrange(9), 2 * b, b], [0, 1, 1], [3, 0, b], [0, 1, 32], [1, b, b - 1 if b else 0],
+                              [len(data), b, b], [self.pick(NUMBERS), self.pick(NUMBERS), self.pick(NUMBERS)]])
+            spread = self.pick([self.spread(min(max(m, 1), 64), 256), [self.bits(64) for _ in range(256)]])
+            taken = [m, self.pick([self.taps(min(max(m, 1), 64)), self.bits(64)]), n, s, self.pick([0, self.bits(64)])]
+            self.fill(taken, spread, data, rows, self.pick([0, 1, 5, 64, 300]), None if s < 100 else [self.pick(FILLERS)])
+            self.call("signing::sign_rows", taken + rows, a=data, v=spread)
+            self.call("marked_words::count_marks", rows + [s], a=data)
+            self.call("rows::row_of", rows + [self.pick([0, 1, 2, self.pick(NUMBERS)])], a=data, d=self.junk(40))
+
+    def use(self, one, big=False):
+        data = one.data()
+        self.call("canceller_read_set", a=data, v=self.junk_words(256))
+        self.rows_of(data, one.s, {0, one.s - 1, one.s} if big else None)
+        self.sign(one, data)
+        self.plan_of(one, data, judged=not big)
+        self.parts_of(one, data)
+
+    # ---- damaged sets
+
+    def damaged(self, one):
+        """Sets with one fault, and some with two: the data of each."""
+        data, m, n, s, b = one.data(), one.m, one.n, one.s, one.b
+        rows = 14 + 8 * n
+
+        def with_bytes(at, new, of=None):
+            of = data if of is None else of
+            return of[:at] + new + of[at + len(new):]
+
+        out = [data[:k] for k in (0, 1, 2, 3, 9, 10, 11, 12, 13, 19, 20, rows - 3, rows - 2, rows - 1, rows, rows + 1,
+                                  len(data) - 1, len(data) - 2, len(data) - b, len(data) - 2 * b) if 0 <= k < len(data)]
+        out += [data + self.junk(k) for k in (1, 2, b, 2 * b)] + [data + b"\0", data + bytes(2 * b)]
+        for width in (0, 1, 2, m - 1, m + 1, 63, 64, 65, 66, 128, 256 + m, 256 * m, 65535):
+            out.append(with_bytes(0, two_bytes(width)))
+        for taps in (0, 2, one.taps ^ 1, one.taps | 1 << min(m, 63), one.taps | 1 << 63, ALL, ALL - 1, 1 << min(m, 63)):
+            out.append(with_bytes(2, eight_bytes(taps)))
+        for count in (0, 1, n - 1, n + 1, 255, 256, 257, 258, 512, 65535, 256 + n, 256 * (n % 256)):
+            if 0 <= count:
+                out.append(with_bytes(10, two_bytes(count)))
+        for c in {0, n - 1, self.random.randrange(n)}:
+            for w in (0, 1 << min(m, 63), one.spread[c] | 1 << min(m, 63), one.spread[c] | 1 << 63, ALL):
+                out.append(with_bytes(12 + 8 * c, eight_bytes(w)))
+        for count in (0, s - 1, s + 1, 511, 512, 513, 514, 1024, 65535, 256 * (s % 256), 256 + s):
+            if 0 <= count:
+                out.append(with_bytes(12 + 8 * n, two_bytes(count)))
+        for _ in range(3):
+            if not s:
+                break
+            t = self.pick([0, s - 1, self.random.randrange(s)])
+            for which in (0, 1):
+                last = rows + 2 * b * t + b * which + b - 1
+                if n % 8:
+                    for bit in {n % 8, 7}:
+                        out.append(with_bytes(last, bytes([data[last] | 1 << bit])))
+                c = self.random.randrange(n)
+                for place in {c, n - 1, 0}:
+                    value, mark = rows + 2 * b * t + place // 8, rows + 2 * b * t + b + place // 8
+                    bit = 1 << place % 8
+                    both = with_bytes(value, bytes([data[value] | bit]))
+                    out.append(with_bytes(mark, bytes([both[mark] | bit]), both))
+        if s and n > 8:
+            t, bit = self.random.randrange(s), 1 << self.random.randrange(n % 8 or 8)
+            both = bytearray(data)
+            for k in (0, b - 1):
+                both[rows + 2 * b * t + k] |= bit
+                both[rows + 2 * b * t + b + k] |= bit
+            out.append(bytes(both))
+        for _ in range(4):
+            at = self.random.randrange(len(data))
+            out.append(with_bytes(at, self.junk(1)))
+            out.append(with_bytes(at, bytes([data[at] ^ 1 << self.random.randrange(8)])))
+        for _ in range(4):
+            at = self.random.randrange(len(data))
+            out.append(with_bytes(at, self.junk(1), self.pick(out) or data))
+        return out
+
+    def use_damaged(self, one, data, which=None):
+        """The set reader, and one or two of the calls that take a set."""
+        self.call("canceller_read_set", a=data, v=self.junk_words(256))
+        unknowns, left = one.unknowns(), one.left()
+        for kind in which or self.random.sample(range(8), 2):
+            room = {"u": self.junk_words(unknowns), "v": self.junk_words(left)}
+            if kind == 0:
+                self.call("canceller_value_row", [self.random.randrange(one.s + 1)], a=data)
+            elif kind == 1:
+                self.call("canceller_mark_row", [self.random.randrange(one.s + 1)], a=data)
+            elif kind == 2:
+                self.call("canceller_sign", a=data, b=self.record_of(one, self.pick(["any", "short", "spare"])))
+            elif kind == 3:
+                self.call("canceller_list_columns", a=data, u=room["u"])
+            elif kind == 4:
+                self.call("canceller_plan", a=data, **room)
+            elif kind == 5:
+                self.call("plan_text::print_plan", a=data, d=self.junk(4096), **room)
+            elif kind == 6:
+                first, second = self.record_of(one, "any"), self.record_of(one, "filled")
+                if self.random.random() < 0.5:
+                    self.call("guarantee::judge_record", a=data, b=first, d=self.junk(540), **room)
+                else:
+                    self.call("guarantee::judge_records", a=data, b=first, c=second, d=self.junk(540), **room)
+            else:
+                self.call("slice_rows::" + self.pick(["value_row", "mark_row"]), [self.random.randrange(one.s + 1)], a=data, d=self.junk(40))
+        n, s = self.pick([one.n, self.pick(CHAINS), self.pick(NUMBERS)]), self.pick([one.s, self.pick(SLICES), self.pick(MANY_SLICES)])
+        marks, spread = [14 + 8 * one.n + one.b, 2 * one.b, one.b], (one.spread + [0] * 256)[:256]
+        kind = self.random.randrange(6)
+        if kind == 0:
+            self.call("marked_words::count_marks", marks + [s], a=data)
+        elif kind == 1:
+            self.call("signing::zero_signature", [one.m, one.taps, n, s], a=data, v=spread)
+        elif kind == 2:
+            self.fill([one.m, one.taps, one.n, s, 0], spread, data, marks, self.pick([unknowns, unknowns + 8, 20, 520]),
+                      [self.pick(FILLERS)])
+
+    # ---- the set writer and the clock
+
+    def write_set(self, one):
+        m, taps, spread, s, n, b = one.m, one.taps, one.spread, one.s, one.n, one.b
+        values, marks, size = one.values(), one.marks(), len(one.data())
+
+        def call(room=None, m=m, taps=taps, s=s, spread=spread, values=values, marks=marks):
+            room = max(0, self.near(size) if room is None else room)
+            self.call("canceller_write_set", [m, taps, s, room], v=spread, a=values, b=marks, d=self.junk(room))
+
+        for room in (size, size - 1, size - 2, size + 1, size + 7, 0):
+            call(room)
+        for width in (0, 65, 64, m - 1, 63, 66, 256, 65536 + m, ALL):
+            call(m=width)
+        for bad in (0, taps ^ 1, taps | 1 << min(m, 63), taps | 1 << 63, ALL):
+            call(taps=bad)
+        call(spread=[])
+        call(spread=spread + [1])
+        for at in {0, n - 1, self.random.randrange(n)}:
+            for w in (0, 1 << min(m, 63), spread[at] | 1 << 63):
+                call(spread=spread[:at] + [w] + spread[at + 1:])
+        for count in (s + 1, max(0, s - 1), 512, 513, 65536 + s, 65535, ALL, (1 << 32) + s):
+            call(s=count)
+        call(values=values[:-1])
+        call(marks=marks[:-1])
+        call(values=values + self.junk(1))
+        call(marks=marks + b"\0")
+        call(values=values + bytes(b), marks=marks + bytes(b))
+        for _ in range(2):
+            if not s:
+                break
+            t, c = self.pick([0, s - 1, self.random.randrange(s)]), self.random.randrange(n)
+            if n % 8:
+                for bit in {n % 8, 7}:
+                    spare = bytearray(values)
+                    spare[b * t + b - 1] |= 1 << bit
+                    call(values=bytes(spare))
+                    spare = bytearray(marks)
+                    spare[b * t + b - 1] |= 1 << bit
+                    call(marks=bytes(spare))
+            value, mark = bytearray(values), bytearray(marks)
+            value[b * t + c // 8] |= 1 << c % 8
+            mark[b * t + c // 8] |= 1 << c % 8
+            call(values=bytes(value), marks=bytes(mark))
+            other = self.random.randrange(s) * b + c // 8
+            value[other] |= 1 << c % 8
+            mark[other] |= 1 << c % 8
+            call(values=bytes(value), marks=bytes(mark))
+
+    def clocks(self, m, n):
+        taps, spread, state, b = self.taps(m), self.spread(m, n), self.bits(m), row_bytes(n)
+        row = self.bits(n).to_bytes(b, "little")
+
+        def call(m=m, taps=taps, state=state, spread=spread, row=row):
+            self.call("canceller_clock", [m, taps, state], v=spread, a=row)
+
+        call()
+        call(state=low(m))
+        call(state=1 << (m - 1))
+        call(row=bytes(b))
+        for width in {0, 65, self.pick(NUMBERS)}:
+            call(m=width)
+        for bad in (0, taps ^ 1, taps | 1 << min(m, 63), taps | 1 << 63):
+            call(taps=bad)
+        call(spread=[], row=b"")
+        at = self.random.randrange(n)
+        for w in (0, 1 << min(m, 63), spread[at] | 1 << 63):
+            call(spread=spread[:at] + [w] + spread[at + 1:])
+        call(row=row[:-1])
+        call(row=row + b"\0")
+        call(row=row + self.junk(1))
+        if n % 8:
+            for bit in {n % 8, 7}:
+                call(row=row[:-1] + bytes([row[-1] | 1 << bit]))
+        for bad in (state | 1 << min(m, 63), state | 1 << 63, 1 << min(m, 63), ALL):
+            call(state=bad)
+        call(spread=self.spread(m, 257), row=bytes(33))
+        for _ in range(3):
+            register = [self.pick([m, m, 0, self.pick(NUMBERS)]), self.pick([taps, self.bits(64)]),
+                        self.pick([state, self.bits(64), ALL])]
+            self.call("register::advance", register + [self.pick([0, self.bits(m), self.bits(64)])])
+            self.call("register::holding", register + [self.bits(64)])
+            self.call("register::clock_by_table", register, u=self.junk_words(1024), a=self.pick([row, self.junk(32), self.junk(33)]))
+            self.call("powers::powers", register, v=self.junk_words(576))
+            self.call("powers::advance_words", register, v=self.junk_words(self.pick([0, 1, 3, 20])))
+
+    # ---- the elimination
+
+    def eliminate(self, m, columns, places=None):
+        for room in (64, places if places is not None else self.random.randint(0, m)):
+            self.call("canceller_eliminate", [m], u=columns, v=self.junk_words(room))
+
+    def rank_of(self, columns):
+        basis = {}
+        for w in columns:
+            while w and w.bit_length() in basis:
+                w ^= basis[w.bit_length()]
+            if w:
+                basis[w.bit_length()] = w
+        return len(basis)
+
+    def eliminations(self, count):
+        for _ in range(count):
+            m = self.pick(WIDTHS)
+            columns = [self.bits(m) for _ in range(self.pick([0, 1, 2, 3, 5, m - 1, m, m + 1, 2 * m]))]
+            if self.random.random() < 0.4 and columns:
+                few = columns[:max(1, self.random.randint(1, m) - 1)]
+                columns += [self.pick(few) ^ self.pick(few) for _ in range(self.random.randrange(20))]
+            if self.random.random() < 0.2:
+                columns += [0] * self.random.randrange(4)
+            left = m - self.rank_of(columns)
+            self.eliminate(m, columns, left)
+            self.eliminate(m, columns, max(0, left - 1))
+            if columns:
+                at = self.random.randrange(len(columns))
+                for w in (columns[at] | 1 << min(m, 63), columns[at] | 1 << 63):
+                    self.eliminate(m, columns[:at] + [w] + columns[at + 1:], left)
+            for width in (0, 65, self.pick(NUMBERS)):
+                self.call("canceller_eliminate", [width], u=columns, v=self.junk_words(64))
+
+    def long_eliminations(self, count, left=None):
+        """Long runs of columns that leave the words as they are, with a few others among them that are odd with one word only, the
+        first, the last or any, or with several. `left` is how many words there are when the run begins."""
+        for _ in range(count):
+            m = self.pick([64, 64, 64, 63, 60, 48, 33, 32, 17, 9, 8, 5])
+            rank = m - left if left else self.random.randint(0, max(0, m - 2))
+            if not 0 <= rank < m:
+                continue
+            bits = self.random.sample(range(m), m)
+            if self.random.random() < 0.3:
+                whole = self.random.sample(range((m + 7) // 8), (m + 7) // 8)
+                bits.sort(key=lambda b: whole.index(b // 8))
+            inside, outside = [1 << b for b in bits[:rank]], sorted(bits[rank:])
+            kind = self.random.randrange(3)
+            if kind == 0:
+                inside = [w ^ (self.bits(m) & sum(inside)) for w in inside]
+            elif kind == 1 and rank:
+                inside = [self.bits(m) for _ in range(rank)]
+            length = self.pick([64, 128, 256, 300, 320, 511, 512, 513, 600, 900, 1500])
+            if left or (m < 40 and self.random.random() < 0.5):
+                length = 64 * (256 // max(1, m - rank) + self.pick([0, 1, 2, 3]))
+
+            def even(most=None):
+                w = 0
+                for one in inside if most is None else self.random.sample(inside, min(len(inside), self.random.randint(0, most))):
+                    if most is not None or self.random.random() < 0.5:
+                        w ^= one
+                return w
+
+            some = [even() for _ in range(40)]
+            columns = list(inside) + [self.pick(some) ^ self.pick(some) for _ in range(length)]
+            for _ in range(self.pick([0, 1, 1, 2, 3])):
+                at = self.pick([self.random.randrange(rank, len(columns)), min(len(columns) - 1, rank + self.random.randrange(70))])
+                kind = self.random.randrange(5)
+                odd = (1 << outside[0] if kind == 0 else 1 << outside[-1] if kind == 1 else self.bits(m) if kind == 2
+                       else 1 << self.pick(outside))
+                columns[at] = odd ^ self.pick([0, 0, even(1), even(2), even(4), even()])
+            q = m - self.rank_of(columns)
+            self.call("canceller_eliminate", [m], u=columns, v=self.junk_words(self.pick([64, q, q, max(0, q - 1)])))
+
+    def steps(self, count):
+        for _ in range(count):
+            m = self.pick(WIDTHS)
+            self.call("column_step::add_column", [self.pick([self.bits(m), self.bits(64), 0, ALL])],
+                      v=self.pick([self.word_list(m), self.junk_words(self.random.randrange(70))]))
+            last, w = self.bits(m), self.bits(m)
+            for to in (w, last, 0, last ^ 1, w | 1 << min(m, 63)):
+                seen = self.pick([0, self.bits(m), self.bits(m) & ~to])
+                self.call("reduced_list::is_next", [m, last, seen, to])
+                self.call("reduced_list::with_highest", [seen, to])
+            self.call("reduced_list::is_next", [self.pick(NUMBERS), 0, 0, self.bits(64)])
+        for m in (1, 5, 64):
+            self.call("reduced_list::is_next", [m, 0, 0, 0])
+            self.call("reduced_list::is_next", [m, 1, 0, 1])
+
+    # ---- plans
+
+    def bad_lists(self, m, words):
+        """Lists that are nearly reduced."""
+        out = [words[::-1], words + [words[-1]], [0] + words[1:], words[:-1] + [words[-1] | 1 << min(m, 63)], words + [0]]
+        if len(words) > 1:
+            i, k = sorted(self.random.sample(range(len(words)), 2))
+            clash = list(words)
+            clash[k] ^= words[i]
+            out.append(clash)
+            top = list(words)
+            top[k] |= 1 << (words[i].bit_length() - 1)
+            out.append(top)
+            same = list(words)
+            same[k] = same[i]
+            out.append(same)
+            swapped = list(words)
+            swapped[i], swapped[k] = swapped[k], swapped[i]
+            out.append(swapped)
+            under = list(words)
+            under[i] ^= words[k]
+            out.append(under)
+        if len(words) > 2:
+            out.append(words[:2] + [words[0] ^ words[1]] + words[2:])
+        return out
+
+    def plans(self, count):
+        for _ in range(count):
+            m = self.pick(WIDTHS)
+            words = self.word_list(m, self.pick([1, m, None, None]))
+            q = len(words)
+            expected = self.bits(q)
+            size = 6 + 8 * q + row_bytes(q)
+            for room in (size, size - 1, size - 2, size + 1, size + 8, self.random.randrange(size)):
+                self.call("canceller_write_plan", [m, expected], v=words, d=self.junk(room))
+            for bad in (1 << min(q, 63), expected | 1 << min(q, 63), expected | 1 << min(m, 63), expected | 1 << 63, ALL):
+                self.call("canceller_write_plan", [m, bad], v=words, d=self.junk(self.near(size)))
+            for width in (0, 65, words[-1].bit_length() - 1, q - 1, 64, self.pick(NUMBERS)):
+                self.call("canceller_write_plan", [width, expected], v=words, d=self.junk(size))
+            self.call("canceller_write_plan", [m, 0], v=[], d=self.junk(40))
+            self.call("canceller_write_plan", [m, 0], v=[self.word(m) for _ in range(m + 1)], d=self.junk(700))
+            for bad in self.bad_lists(m, words):
+                self.call("canceller_write_plan", [m, expected], v=bad, d=self.junk(size + 20))
+                self.call("reduced_list::is_reduced", [m], v=bad)
+                self.read_plan(plan_data(m, bad, expected), q)
+            self.call("reduced_list::is_reduced", [m], v=words)
+            self.call("plan_writer::plan_length", v=words)
+            for width in (0, 65, words[-1].bit_length() - 1, q - 1, q, 64, 256 * m, 256 + m):
+                self.read_plan(plan_data(max(0, width), words, expected), q)
+            for first in (0, q - 1, q + 1, m, m + 1, 65, 256 + q, 256 * q, 65535):
+                self.read_plan(plan_data(m, words, expected, count=first), q)
+                self.read_plan(plan_data(m, words, expected, count=first, again=first), q)
+            for again in (0, q - 1, q + 1, m, 256 + q, 256 * q):
+                self.read_plan(plan_data(m, words, expected, again=again), q)
+            many = [self.word(m) for _ in range(m + 1)]
+            self.read_plan(plan_data(m, many, 0), q)
+            self.read_plan(plan_data(m, [], 0), q)
+            plan = plan_data(m, words, expected)
+            for cut in (0, 1, 2, 3, 4, 5, 11, 12, size - 1, size - 2, size - row_bytes(q), size - row_bytes(q) - 1,
+                        size - row_bytes(q) - 2, size - row_bytes(q) - 3):
+                self.read_plan(plan[:max(0, cut)], q)
+            for more in (b"\0", self.junk(1), bytes(8)):
+                self.read_plan(plan + more, q)
+            if q % 8:
+                for bit in {q % 8, 7}:
+                    self.read_plan(plan[:-1] + bytes([plan[-1] | 1 << bit]), q)
+                    for again in (0, q + 1):
+                        twice = plan_data(m, words, expected, again=again)
+                        self.read_plan(twice[:-1] + bytes([twice[-1] | 1 << bit]), q)
+            for _ in range(3):
+                at, to = self.random.randrange(size), self.random.randrange(size)
+                once = plan[:at] + self.junk(1) + plan[at + 1:]
+                self.read_plan(once, q)
+                self.read_plan(once[:to] + self.junk(1) + once[to + 1:], q)
+            for places in (q, q - 1, q + 1, 64, 0):
+                self.call("canceller_read_plan", a=plan, v=self.junk_words(places))
+            parities = self.parities(words)
+            for _ in range(4):
+                self.call("canceller_judge", [self.bits(m)], a=plan)
+            for bad in (1 << min(m, 63), ALL, 1 << 63 | self.bits(m)):
+                self.call("canceller_judge", [bad], a=plan)
+            for _ in range(2):
+                y = self.bits(m)
+                right = parities(y)
+                self.call("canceller_judge", [y], a=plan_data(m, words, right))
+                for i in {0, q - 1, self.random.randrange(q)}:
+                    self.call("canceller_judge", [y], a=plan_data(m, words, right ^ 1 << i))
+
+    @staticmethod
+    def parities(words):
+        return lambda y: sum((bin(w & y).count("1") % 2) << i for i, w in enumerate(words))
+
+    def read_plan(self, plan, q):
+        self.call("canceller_read_plan", a=plan, v=self.junk_words(self.near(q)))
+        kind = self.random.randrange(5)
+        if kind == 0:
+            self.call("canceller_judge", [self.pick([0, 1, self.bits(64)])], a=plan)
+        elif kind == 1:
+            self.call("plan_file::plan_word", [self.pick([0, 1, q, self.pick(NUMBERS)])], a=plan)
+
+    # ---- the lowest crates
+
+    def rows(self, count):
+        for _ in range(count):
+            n = self.pick(CHAINS, MANY_CHAINS, [0])
+            row = self.junk(self.near(row_bytes(n)))
+            self.call("rows::row", [self.pick([n, n, self.pick(NUMBERS)]), self.pick([0, 7, 8, n, self.pick(NUMBERS)])], a=row)
+            for m in (self.pick(WIDTHS), self.pick(NUMBERS)):
+                w = self.bits(self.pick([min(m, 64), 64]))
+                self.call("register::limits", [m, self.bits(min(m, 64)), self.pick(NUMBERS), self.pick(NUMBERS)])
+                self.call("register::fresh", [m, w])
+                self.call("chains::words", [m, self.pick([0, w, 1 << min(m, 63)]), self.pick([0, 1, 2, ALL])])
+                spread = self.spread(max(1, min(m, 64)), max(1, n))
+                if self.random.random() < 0.4:
+                    spread[self.random.randrange(len(spread))] = self.pick([0, ALL, 1 << min(m, 63)])
+                self.call("chains::spread", [m], v=spread, a=row)
+            many = b"".join(self.bits(n).to_bytes(row_bytes(n), "little") for _ in range(5))
+            self.call("rows::has_spare_row", [n, self.pick([5, 4, 6, 0, ALL])], a=many)
+            if n % 8 and many:
+                at = row_bytes(n) * self.pick([1, 2, 5]) - 1
+                spare = bytearray(many)
+                spare[at] |= 1 << self.pick([n % 8, 7])
+                self.call("rows::has_spare_row", [n, self.pick([5, 4, 1])], a=spare)
+            self.call("rows::has_spare_row", [self.pick(NUMBERS), self.pick(NUMBERS)], a=self.junk(20))
+            values = self.junk(self.pick([0, 1, 2, 9, 33]))
+            apart = bytes(self.random.getrandbits(8) & ~x for x in values)
+            self.call("rows::share_a_bit", a=values, b=apart + self.junk(self.pick([0, 0, 3])))
+            if values:
+                at, bit = self.pick([0, len(values) - 1, self.random.randrange(len(values))]), 1 << self.random.randrange(8)
+                both = [x[:at] + bytes([x[at] | bit]) + x[at + 1:] for x in (values, apart)]
+                self.call("rows::share_a_bit", a=both[0], b=both[1])
+                self.call("rows::share_a_bit", a=both[0][:at], b=both[1])
+
+    def chain_words(self, count):
+        """The tables of the chains, and the words of a row's marked cells."""
+        for _ in range(count):
+            n = self.pick(CHAINS, MANY_CHAINS, [0, 257, 300])
+            words, row = self.junk_words(n), self.junk(self.pick([row_bytes(n), row_bytes(n), 0, max(0, row_bytes(n) - 1), row_bytes(n) + 9]))
+            if self.random.random() < 0.5:
+                row = bytes(x & self.random.getrandbits(8) & self.random.getrandbits(8) for x in row)
+            marked = bin(int.from_bytes(row, "little") & low_row(n)).count("1")
+            for room in {marked, max(0, marked - 1), marked + 3, marked // 2, 0}:
+                self.call("marked_words::list_row", v=words, a=row, u=self.junk_words(room))
+            self.call("chains::half_bytes", v=words, u=self.junk_words(1024))
+            self.call("chains::looked_up", u=self.junk_words(1024), a=self.pick([row, self.junk(32), self.junk(40)]))
+            self.call("chains::all_words", v=self.junk_words(256))
+            self.call("powers::power_words", u=self.junk_words(self.pick([0, 1, 3, 63, 64, 65, 70])), v=self.junk_words(self.pick([0, 1, 4])))
+
+    def skips(self, count):
+        """Lists in which most columns are even with all of the words."""
+        for _ in range(count):
+            words = [self.bits(64) & self.pick([ALL, self.bits(64)]) for _ in range(self.pick([0, 1, 2, 5, 30, 63, 64, 65, 70]))]
+            if self.random.random() < 0.5:
+                few = self.junk_words(5)
+                words = [self.pick(few) ^ self.pick(few) for _ in words]
+            even = even_with(words[:64])
+            columns = [self.pick(even) ^ self.pick(even) for _ in range(self.pick([0, 1, 5, 20]))] if even else []
+            if columns and self.random.random() < 0.7:
+                columns[self.random.randrange(len(columns))] ^= 1 << self.random.randrange(64)
+            self.call("parity_table::skip_even", [self.pick([0, 0, 1, len(columns), self.pick(NUMBERS)])], v=words, u=columns)
+
+    def texts(self, count):
+        for _ in range(count):
+            room = self.pick([0, 1, 5, 19, 20, 21, 30, 64])
+            at = self.pick([0, 1, room - 1, room, room + 1, self.random.randrange(room + 1), ALL])
+            at = max(0, at)
+            self.call("text::put", [at], d=self.junk(room), a=self.junk(self.pick([0, 1, 2, 5, 12])))
+            x = self.pick([self.bits(64), self.bits(16), self.pick(NUMBERS), 10 ** self.random.randrange(20),
+                           10 ** self.random.randrange(20) - 1])
+            self.call("text::put_decimal", [at, x], d=self.junk(room))
+
+    def words(self, count):
+        for at in (ALL, ALL - 1, ALL - 7, ALL - 8, 1 << 63):
+            data, w = self.junk(9), self.bits(64)
+            self.call("numbers::reads", [at], a=data)
+            self.call("numbers::part", [at, ALL], a=data, d=self.junk(24))
+            self.call("numbers::part", [1, at], a=data, d=self.junk(24))
+            self.call("numbers::moved", [at, 8, ALL])
+            self.call("numbers::moved", [8, at, ALL])
+            self.call("written_numbers::write_byte", [at, w], d=data)
+            self.call("written_numbers::write_count", [at, w], d=data)
+            self.call("written_numbers::write_word", [at, w], d=data)
+            self.call("written_numbers::write_words", [at], v=self.junk_words(3), d=data)
+            self.call("text::put", [at], d=data, a=self.junk(5))
+            self.call("text::put_decimal", [at, w], d=data)
+        for _ in range(count):
+            m, w = self.pick([self.random.randrange(67), self.pick(NUMBERS)]), self.pick([self.bits(64), self.pick(NUMBERS)])
+            self.call("word::widths", [m, self.pick([w, 1 << min(m, 63), low(m), low(m) + 1 & ALL, 0])])
+            self.call("word::shared_parity", [w, self.bits(64)])
+            self.call("word::word_at", [self.pick([0, 1, 4, 5, 6, self.pick(NUMBERS)])], v=self.junk_words(5))
+            self.call("word::word_parities", [w], v=self.junk_words(self.pick([0, 1, 5, 63, 64, 65, 80])))
+            data = self.junk(self.pick([0, 1, 2, 3, 7, 8, 9, 10, 16, 17]))
+            at = self.pick([0, 1, len(data), max(0, len(data) - 1), max(0, len(data) - 2), max(0, len(data) - 8),
+                            max(0, len(data) - 7), self.pick(NUMBERS)])
+            self.call("numbers::reads", [at], a=data)
+            self.call("numbers::moved", [self.pick(NUMBERS), self.pick(NUMBERS), self.pick(NUMBERS)])
+            self.call("numbers::moved", [self.random.randrange(9), self.random.randrange(9), self.random.randrange(12)])
+            self.call("numbers::part", [at, self.pick([0, 1, 3, len(data), self.pick(NUMBERS)])], a=data, d=self.junk(24))
+            self.call("written_numbers::write_byte", [at, self.bits(8)], d=data)
+            self.call("written_numbers::write_count", [at, w], d=data)
+            self.call("written_numbers::write_word", [at, w], d=data)
+            self.call("written_numbers::write_words", [at], v=self.junk_words(self.pick([0, 1, 2, 3])), d=data)
+
+    def answers(self):
+        """Answers and refusals as they cross to C, and the number of each."""
+        names = ["crossing::" + x for x in ("set_of", "stretch_of", "set_written_of", "plan_written_of", "clocked_of", "signed_of",
+                                            "listed_of", "eliminated_of", "planned_of", "read_of", "judged_of")]
+        names += [x + "::number_of" for x in ("planner", "elimination", "set_file", "plan_file")]
+        for name in names:
+            for number in (0, 0, 0, 1, 17, 24, self.random.randrange(1, 25), ALL):
+                data = [self.pick([self.bits(64), self.pick(NUMBERS)]) for _ in range(5)]
+                if name == "crossing::judged_of":
+                    data[0] = self.random.randrange(2)
+                self.call(name, [number] + data, v=self.junk_words(256))
+
+    def layouts(self, count):
+        self.call("set_layout::constants", v=self.junk_words(256))
+        for _ in range(count):
+            n, s = self.pick(NUMBERS, CHAINS, MANY_CHAINS), self.pick(NUMBERS, SLICES, MANY_SLICES)
+            self.call("set_layout::lengths", [n, s])
+            self.call("set_layout::rows", [n])
+            self.call("reduced_list::is_bad_word_count", [self.pick(NUMBERS, WIDTHS), self.pick(NUMBERS, WIDTHS)])
+            m = self.pick(WIDTHS)
+            self.call("reduced_list::is_bad_word_count", [m, m + self.pick([0, 1, -1])])
+
+    # ---- batches
+
+    def largest(self):
+        """Sets at the limits of n and s."""
+        for n, s, kind in ((256, 2, "half"), (255, 3, "all"), (256, 3, "all"), (1, 512, "few"), (1, 511, "half"), (2, 512, "dense"),
+                           (9, 512, "one"), (65, 9, "all"), (129, 5, "dense"), (193, 4, "all"), (64, 9, "all"), (3, 200, "all")):
+            for m in self.random.sample([5, 17, 63, 64], 2):
+                self.use(self.any_set(m, n, s, kind), big=n * s > 600)
+        for n, s in ((1, 512), (2, 511), (256, 2), (255, 3)):
+            self.write_set(self.any_set(n=n, s=s, kind="half"))
+        whole = self.any_set(64, 256, 512, "one")
+        data = whole.data()
+        self.use(whole, big=True)
+        self.use_damaged(whole, data + b"\0", [0, 2, 3])
+        self.use_damaged(whole, data[:-1], [1, 4])
+        # around the printer's 4,096 column places
+        for n, s in ((16, 256), (17, 241)):
+            self.use(Set(64, 1, [low(64)] * n, self.cells(n, s, "all")), big=True)
+        dense = self.any_set(64, 256, 512, "all")
+        self.call("canceller_plan", a=dense.data(), u=self.junk_words(dense.unknowns()), v=self.junk_words(64))
+        self.call("canceller_list_columns", a=dense.data(), u=self.junk_words(dense.unknowns() - 1))
+        # one more than the limits, with the right length
+        for m, n, s in ((5, 257, 1), (64, 257, 0), (3, 1, 513), (8, 9, 513), (64, 2, 514), (7, 258, 2)):
+            over = Set(m, 1, self.spread(m, n), self.cells(n, s, "one"))
+            self.use_damaged(over, over.data(), [0, 1, 2, 3, 4, 5, 6])
+            self.call("canceller_write_set", [m, 1, s, len(over.data())], v=over.spread, a=over.values(), b=over.marks(),
+                      d=self.junk(len(over.data())))
+            if n > 256:
+                self.call("canceller_clock", [m, 1, 1], v=over.spread, a=bytes(over.b))
+
+    def many_columns(self, count):
+        """More than 512 columns, of full rank and of less."""
+        for _ in range(count):
+            m = self.pick([64, 64, 63, 60, 36, 32, 18, 16, 9, 8])
+            n = self.pick([8, 9, 16, 33, 65])
+            s = self.pick([530 // n + 1, 700 // n + 1, 1100 // n + 2])
+            self.use(self.low_rank(m, n, min(s, 512)), big=True)
+
+    def sets(self, count):
+        for _ in range(count):
+            self.use(self.any_set())
+
+    def damages(self, count):
+        for _ in range(count):
+            one = self.any_set(s=self.pick([0, 1, 2, 2, 3]), n=self.pick([1, 2, 3, 5, 7, 8, 9, 12, 16, 17, 65]))
+            for data in self.damaged(one):
+                self.use_damaged(one, data)
+
+
+def low_row(n):
+    return (1 << n) - 1
+
+
+def even_with(words):
+    """Words that share an even number of bits with each of these, and whose XORs are all such words."""
+    tops = {}
+    for w in words:
+        for top, other in tops.items():
+            if w >> top & 1:
+                w ^= other
+        if w:
+            new = w.bit_length() - 1
+            tops = {top: other ^ w if other >> new & 1 else other for top, other in tops.items()}
+            tops[new] = w
+    free = [b for b in range(64) if b not in tops]
+    return [1 << b | sum(1 << top for top, w in tops.items() if w >> b & 1) for b in free]
+
+
+def calls_of(number):
+    """The calls of a batch."""
+    batch = Batch(number)
+    if number == 0:
+        batch.use(sample())
+        for n in (1, 7, 8, 9, 63, 64, 65):
+            for s in (0, 1, 2):
+                batch.use(batch.any_set(n=n, s=s, kind="half" if n < 63 else "few"))
+        for m in (1, 2, 63, 64):
+            for kind in ("none", "one", "few", "all"):
+                batch.use(batch.any_set(m=m, n=3, s=3, kind=kind))
+        batch.largest()
+    batch.sets(70)
+    batch.damages(10)
+    for _ in range(12):
+        batch.write_set(batch.any_set(s=batch.pick([0, 1, 2, 3])))
+    for n in (1, 2, 3, 9):
+        batch.write_set(batch.any_set(n=n, s=batch.pick([4, 5, 10, 13])))
+    for n in (1, 7, 8, 9, 64, 65, 255, 256):
+        batch.clocks(batch.pick(WIDTHS), n)
+    for m in (1, 2, 3, 63, 64):
+        batch.clocks(m, batch.pick(CHAINS))
+    batch.eliminations(40)
+    batch.long_eliminations(60)
+    for left in (2, 2, 2, 2, 2, 2, 3, 3, 4, 5, 6, 8):
+        batch.long_eliminations(4, left)
+    batch.many_columns(12)
+    batch.steps(30)
+    batch.plans(25)
+    batch.lists_of_rows(40)
+    batch.rows(40)
+    batch.chain_words(30)
+    batch.skips(60)
+    batch.texts(60)
+    batch.words(80)
+    batch.layouts(40)
+    batch.answers()
+    return batch.calls
