@@ -46,8 +46,11 @@ impl Judged {
         };
         out.extend_from_slice(verdict);
         if let Some(index) = index {
-            // a Vec takes every byte
-            let _ = write!(out, "{index}");
+            // words and numbers have at most two digits
+            if index > 9 {
+                out.push(b'0' + (index / 10 % 10) as u8);
+            }
+            out.push(b'0' + (index % 10) as u8);
         }
     }
 }
@@ -59,6 +62,7 @@ type Span = (usize, usize);
 struct RowEnd {
     content: usize,
     next: usize,
+    quoted: bool,
     open: Option<usize>,
 }
 
@@ -66,17 +70,18 @@ struct RowEnd {
 /// doesn't end in them, and more may come.
 fn scan(bytes: &[u8], ended: bool, mut field: impl FnMut(usize, usize, usize)) -> Option<RowEnd> {
     let (mut number, mut at) = (0, 0);
-    let mut open = None;
+    let (mut quoted, mut open) = (false, None);
     loop {
         let start = at;
         if bytes.get(at) == Some(&b'"') {
             at = behind_quotes(bytes, at + 1);
+            quoted = true;
             open = (at > bytes.len()).then_some(start);
             at = at.min(bytes.len());
         }
-        while at < bytes.len() && bytes[at] != b',' && bytes[at] != b'\n' {
-            at += 1;
-        }
+        // most letters and figures are above the comma: one test for each of them
+        let ends = |b: &u8| *b <= b',' && (*b == b',' || *b == b'\n');
+        at += bytes[at..].iter().take_while(|b| !ends(b)).count();
         if at == bytes.len() && !ended {
             return None;
         }
@@ -90,6 +95,7 @@ fn scan(bytes: &[u8], ended: bool, mut field: impl FnMut(usize, usize, usize)) -
         return Some(RowEnd {
             content: at - usize::from(returned),
             next: (at + 1).min(bytes.len()),
+            quoted,
             open,
         });
     }
@@ -190,10 +196,11 @@ impl<'a> Rows<'a> {
     }
 
     fn pass(&mut self, row: &RowEnd) {
-        let passed = &self.ahead()[..row.next];
-        // only a quoted field holds the end of a line
-        let lines = passed[..row.content].iter().filter(|b| **b == b'\n');
-        self.line += 1 + lines.count() as u64;
+        self.line += 1;
+        if row.quoted {
+            let lines = self.ahead()[..row.content].iter();
+            self.line += lines.filter(|b| **b == b'\n').count() as u64;
+        }
         self.start += row.next;
     }
 

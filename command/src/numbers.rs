@@ -12,16 +12,23 @@ pub fn word(text: &[u8]) -> Option<u64> {
 }
 
 fn decimal(digits: &[u8]) -> Option<u64> {
-    if digits.is_empty() {
-        return None;
+    // this many digits always fit
+    const FIT: usize = 19;
+    let (front, rest) = digits.split_at(digits.len().min(FIT));
+    let mut sum = 0;
+    for digit in front {
+        sum = 10 * sum + u64::from(figure(*digit)?);
     }
-    digits.iter().try_fold(0u64, |sum, &digit| {
-        let value = digit.wrapping_sub(b'0');
-        if value > 9 {
-            return None;
-        }
-        sum.checked_mul(10)?.checked_add(u64::from(value))
-    })
+    for digit in rest {
+        let figure = u64::from(figure(*digit)?);
+        sum = u64::checked_mul(sum, 10)?.checked_add(figure)?;
+    }
+    (!digits.is_empty()).then_some(sum)
+}
+
+fn figure(digit: u8) -> Option<u8> {
+    let value = digit.wrapping_sub(b'0');
+    (value < 10).then_some(value)
 }
 
 fn hexadecimal(digits: &[u8]) -> Option<u64> {

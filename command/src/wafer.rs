@@ -77,7 +77,8 @@ impl Wafer {
             46.0,
             &format!("{places} dies; x to the right, y down"),
         );
-        for x in ticks(left, right, die, 40.0) {
+        let label = left.to_string().len().max(right.to_string().len());
+        for x in ticks(left, right, die, (label + 1) as f64 * LETTER) {
             let at = x0 + ((x - left) as f64 + 0.5) * die;
             svg.anchored(at, y0 - 8.0, "middle", &x.to_string());
         }
@@ -186,9 +187,10 @@ fn id(judged: Judged) -> String {
     }
 }
 
-/// A colour for a word: light enough for black figures, and far from those of its neighbours.
+/// A colour for a word: light enough for black figures, far from those of its neighbours, and from blue over red to yellow, since
+/// green is what passes.
 fn colour(word: u64) -> String {
-    let hue = (word * 137) % 360;
+    let hue = 180 + (180 + 97 * word) % 245;
     let channel = |offset: u64| {
         let k = ((offset * 30 + hue) % 360) as f64 / 30.0;
         let value = 0.62 - 0.34 * (k - 3.0).min(9.0 - k).clamp(-1.0, 1.0);

@@ -43,10 +43,11 @@ struct Picture {
     plan: Option<Plan>,
 }
 
-/// The kinds of cells: what they are called, and how they are filled.
+/// The kinds of cells: what they are called, and how they are filled. Unknown cells are the darkest, so that few of them are seen
+/// among many others, without colour too.
 const KINDS: [(Cell, &str, &str, &str); 3] = [
     (Cell::Zero, "zero", "0", "#ffffff"),
-    (Cell::One, "one", "1", "#1f3b57"),
+    (Cell::One, "one", "1", "#b4c3d4"),
     (Cell::Unknown, "unknown", "X, unknown", "url(#crossed)"),
 ];
 
@@ -111,8 +112,8 @@ impl Picture {
         let mut svg = Svg::new(width, height, &format!("Response: {}", self.name));
         svg.put(format_args!(
             "<defs><pattern id=\"crossed\" width=\"1\" height=\"1\" patternUnits=\"userSpaceOnUse\">\
-             <rect width=\"1\" height=\"1\" fill=\"#ffb347\"/>\
-             <path d=\"M.15 .15L.85 .85M.85 .15L.15 .85\" stroke=\"#000000\" stroke-width=\".12\"/></pattern></defs>"
+             <rect width=\"1\" height=\"1\" fill=\"#a4161a\"/>\
+             <path d=\"M.15 .15L.85 .85M.85 .15L.15 .85\" stroke=\"#ffffff\" stroke-width=\".12\"/></pattern></defs>"
         ));
         svg.text(MARGIN, 28.0, &headings[0]);
         svg.text(MARGIN, 28.0 + LINE, &headings[1]);
