@@ -47,12 +47,15 @@ struct Picture {
 /// among many others, without colour too.
 const KINDS: [(Cell, &str, &str, &str); 3] = [
     (Cell::Zero, "zero", "0", "#ffffff"),
-    (Cell::One, "one", "1", "#b4c3d4"),
+    (Cell::One, "one", "1", "#c6d2de"),
     (Cell::Unknown, "unknown", "X, unknown", "url(#crossed)"),
 ];
 
 const MARGIN: f64 = 24.0;
 const LINE: f64 = 18.0;
+/// Cells smaller than this have no lines between them, and bars beside them that say where unknown ones are.
+const ROOM: f64 = 6.0;
+const BAR: f64 = 80.0;
 const LEFT: f64 = 64.0;
 const TOP: f64 = 88.0;
 
@@ -99,12 +102,17 @@ impl Picture {
         let across = wide * self.slices.len() as f64;
         let down = high * self.set.spread.len() as f64;
         let headings = self.headings();
-        let under = TOP + down + 28.0;
+        let bars = if wide.min(high) < ROOM {
+            BAR + 24.0
+        } else {
+            0.0
+        };
+        let under = TOP + down + 28.0 + bars;
         let words_top = under + 4.0 * LINE + 44.0;
         let height = words_top + self.words().len() as f64 * LINE + MARGIN;
         let letters = |text: &String| text.chars().count() as f64 * LETTER;
         let longest = headings.iter().map(letters).fold(0.0, f64::max);
-        let width = (LEFT + across)
+        let width = (LEFT + across + bars)
             .max(self.words_width())
             .max(MARGIN + longest)
             + MARGIN;
@@ -120,6 +128,9 @@ impl Picture {
         self.draw_axes(&mut svg, wide, high);
         self.draw_cells(&mut svg, wide, high);
         self.draw_lines(&mut svg, wide, high);
+        if wide.min(high) < ROOM {
+            self.draw_bars(&mut svg, wide, high);
+        }
         self.draw_legend(&mut svg, under);
         svg.text(MARGIN, under + 4.0 * LINE, &headings[2]);
         self.draw_words(&mut svg, words_top);
@@ -198,12 +209,11 @@ impl Picture {
         let (s, n) = (self.slices.len(), self.set.spread.len());
         let (across, down) = (number(wide * s as f64), number(high * n as f64));
         let mut path = String::new();
-        let room = 6.0;
-        for slice in (1..s).filter(|_| wide >= room) {
+        for slice in (1..s).filter(|_| wide >= ROOM) {
             let x = number(LEFT + slice as f64 * wide);
             write!(path, "M{x} {TOP}v{down}").expect("a string grows");
         }
-        for chain in (1..n).filter(|_| high >= room) {
+        for chain in (1..n).filter(|_| high >= ROOM) {
             let y = number(TOP + chain as f64 * high);
             write!(path, "M{LEFT} {y}h{across}").expect("a string grows");
         }
@@ -213,6 +223,58 @@ impl Picture {
         svg.put(format_args!(
             "<rect x=\"{LEFT}\" y=\"{TOP}\" width=\"{across}\" height=\"{down}\" fill=\"none\" stroke=\"#000000\"/>"
         ));
+    }
+
+    /// How many unknown cells each slice has, and each chain.
+    fn unknowns(&self) -> (Vec<usize>, Vec<usize>) {
+        let (mut by_slice, mut by_chain) =
+            (vec![0; self.slices.len()], vec![0; self.set.spread.len()]);
+        for (slice, cells) in self.slices.iter().enumerate() {
+            for (chain, _) in cells
+                .iter()
+                .enumerate()
+                .filter(|(_, cell)| **cell == Cell::Unknown)
+            {
+                by_slice[slice] += 1;
+                by_chain[chain] += 1;
+            }
+        }
+        (by_slice, by_chain)
+    }
+
+    /// A bar under each slice and behind each chain that has unknown cells, as long as they are many.
+    fn draw_bars(&self, svg: &mut Svg, wide: f64, high: f64) {
+        let (by_slice, by_chain) = self.unknowns();
+        let (right, bottom) = (
+            LEFT + wide * by_slice.len() as f64 + 8.0,
+            TOP + high * by_chain.len() as f64 + 8.0,
+        );
+        let most = |counts: &[usize]| counts.iter().copied().max().unwrap_or(0).max(1);
+        let long = |count: usize, most: usize| number((BAR * count as f64 / most as f64).max(2.0));
+        let some = |counts: &[usize]| -> Vec<(usize, usize)> {
+            let all = counts.iter().copied().enumerate();
+            all.filter(|(_, count)| *count > 0).collect()
+        };
+        let mut path = String::new();
+        for (slice, count) in some(&by_slice) {
+            let (x, y) = (number(LEFT + slice as f64 * wide), number(bottom));
+            let (w, h) = (number(wide), long(count, most(&by_slice)));
+            write!(path, "M{x} {y}h{w}v{h}h-{w}z").expect("a string grows");
+        }
+        for (chain, count) in some(&by_chain) {
+            let (x, y) = (number(right), number(TOP + chain as f64 * high));
+            let (w, h) = (long(count, most(&by_chain)), number(high));
+            write!(path, "M{x} {y}h{w}v{h}h-{w}z").expect("a string grows");
+        }
+        svg.put(format_args!(
+            "<path id=\"bars\" fill=\"#a4161a\" d=\"{path}\"/>"
+        ));
+        let up_to = |counts: &[usize]| format!("up to {}", most(counts));
+        svg.anchored(LEFT - 8.0, bottom + 12.0, "end", "X");
+        let under = format!("X in each slice: {}", up_to(&by_slice));
+        svg.text(LEFT, bottom + BAR + 14.0, &under);
+        svg.text(right, TOP - 22.0, "X in each");
+        svg.text(right, TOP - 6.0, &format!("chain: {}", up_to(&by_chain)));
     }
 
     fn draw_legend(&self, svg: &mut Svg, top: f64) {
