@@ -90,7 +90,7 @@ impl<'a> Text<'a> {
                 .filter(|line| !line.text.iter().all(is_blank))
                 .collect(),
             read: 0,
-            last: all.count() + 1,
+            last: all.count() + usize::from(!bytes.is_empty()),
         }
     }
 

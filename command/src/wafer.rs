@@ -36,10 +36,10 @@ impl Wafer {
         Ok(())
     }
 
-    /// A line about rows for a place that had one.
+    /// A line about rows for a place that has one already.
     pub fn retests(&self) -> Option<String> {
         let many = numbers::grouped(self.retested);
-        let line = format!("{many} rows for a place that had one: the last one counts");
+        let line = format!("retests: {many}; of the rows for one place the last one counts");
         (self.retested > 0).then_some(line)
     }
 
@@ -139,8 +139,8 @@ impl Wafer {
         }
         if self.retested > 0 {
             let many = numbers::grouped(self.retested);
-            lines.push((None, format!("{many} retested: the last row")));
-            lines.push((None, "for a place counts".to_string()));
+            lines.push((None, format!("retests: {many}; of the rows")));
+            lines.push((None, "for one place the last counts".to_string()));
         }
         lines
     }
