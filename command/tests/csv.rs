@@ -20,7 +20,7 @@ fn with_plan(name: &str) -> Folder {
 #[test]
 fn the_dies_of_the_sample() {
     let folder = with_plan("dies");
-    folder.put("dies.csv", stored("dies.csv"));
+    folder.put("dies.csv", sample("dies.csv"));
     let words = [
         "judge",
         "sample.plan",
@@ -37,10 +37,7 @@ fn the_dies_of_the_sample() {
     assert_eq!(folder.text("map.svg"), stored("dies.map.svg"));
     assert_eq!((ran.status, ran.out.len()), (3, 0));
     // from standard input to standard output, without the map
-    let ran = folder.run_with(
-        &["judge", "sample.plan", "--csv", "-"],
-        stored("dies.csv").as_bytes(),
-    );
+    let ran = folder.run_with(&["judge", "sample.plan", "--csv", "-"], &sample("dies.csv"));
     assert_eq!(ran.text(), stored("dies.judged.csv"));
 }
 

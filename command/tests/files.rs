@@ -12,7 +12,7 @@ fn with_sample(name: &str) -> Folder {
     folder.put("sample.txt", sample("sample.txt"));
     folder.put("sample.set", sample("sample.set"));
     folder.done(&["plan", "sample.set", "-o", "sample.plan"]);
-    folder.put("dies.csv", stored("dies.csv"));
+    folder.put("dies.csv", sample("dies.csv"));
     folder
 }
 
