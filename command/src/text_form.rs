@@ -106,11 +106,9 @@ impl<'a> Text<'a> {
         Ok(&self.lines[self.read - 1])
     }
 
-    /// An error at this byte of a line. Columns count characters.
+    /// An error at this byte of a line. What stands before it is in order, and so is ASCII: bytes are characters.
     fn wrong<T>(&self, line: &Line, at: usize, expected: &str, found: &str) -> Outcome<T> {
-        let starts = |b: &&u8| **b & 0xC0 != 0x80;
-        let column = line.text[..at].iter().filter(starts).count() + 1;
-        let (file, number) = (self.file, line.number);
+        let (file, number, column) = (self.file, line.number, at + 1);
         unusable(format!(
             "{file}:{number}:{column}: expected {expected}, found {found}"
         ))

@@ -301,6 +301,9 @@ fn places_that_a_map_has_no_room_for() {
     );
     let map = xml::parse(&folder.text("m.svg"));
     assert_eq!(map.by_id("dies").children.len(), 1);
+    // .. and are status 3 by themselves
+    let ran = folder.run_with(&words, b"x,y,signature\n0,0,3\n,0,3\n");
+    assert_eq!(ran.status, 3, "{}", ran.err);
     // no rows at all
     let ran = folder.run_with(&words, b"x,y,signature\n");
     assert_eq!(ran.status, 0);
