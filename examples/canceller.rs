@@ -151,9 +151,10 @@ pub mod raw {
     }
 }
 
-/// Bytes of the longest set and of the longest plan, and the most unknown cells and words that there can be.
+/// Bytes of the longest set, plan and record, and the most unknown cells and words that there can be.
 pub const SET_MAX: usize = 34_830;
 pub const PLAN_MAX: usize = 526;
+pub const RECORD_MAX: usize = 16_384;
 pub const UNKNOWNS_MAX: usize = 131_072;
 pub const WORDS_MAX: usize = 64;
 

@@ -34,6 +34,8 @@
 extern "C" {
 #endif
 
+#define CANCELLER_VERSION "1.0.0"
+
 #define CANCELLER_WIDTH_MAX 64
 #define CANCELLER_CHAINS_MAX 256
 #define CANCELLER_SLICES_MAX 512

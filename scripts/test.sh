@@ -1,6 +1,6 @@
 #!/usr/bin/env bash
 # The whole gate: layout, every crate proved from nothing, every must-fail edit refused, the programs run, the static library
-# built, and the Rust and C tests. Its last line counts all of them: 'N passed, 0 failed'.
+# and the command built, and the Rust and C tests. Its last line counts all of them: 'N passed, 0 failed'.
 set -euo pipefail
 cd "$(dirname "$0")/.."
 
@@ -27,13 +27,22 @@ unproved=$(echo "$line" | cut -d' ' -f3)
 
 rt staticlib canceller >"$out/staticlib" 2>&1 || { cat "$out/staticlib"; fail "the static library was not built" "$proved"; }
 
-status=0
-cargo test --offline --no-fail-fast --workspace --manifest-path reference/Cargo.toml 2>&1 | tee "$out/cargo" || status=$?
-tested=$(sed -n 's/^test result: .* \([0-9]*\) passed; .*/\1/p' "$out/cargo" | paste -sd+ | sed 's/^$/0/')
-broken=$(sed -n 's/^test result: .* \([0-9]*\) failed; .*/\1/p' "$out/cargo" | paste -sd+ | sed 's/^$/0/')
-tested=$((tested))
-broken=$((broken))
-if [ $status -ne 0 ] || [ $broken -ne 0 ] || [ $tested -eq 0 ]; then
-    fail "the Rust tests failed" $((proved + tested)) $((broken > 0 ? broken : 1))
-fi
-echo "$((proved + tested)) passed, 0 failed"
+passed=$proved
+# runs the Rust tests of a manifest, and counts what passed; a failure, or no test at all, ends the gate
+run_tests() { # manifest
+    local status=0 tested broken
+    cargo test --offline --no-fail-fast --workspace --manifest-path "$1" 2>&1 | tee "$out/cargo" || status=$?
+    tested=$(sed -n 's/^test result: .* \([0-9]*\) passed; .*/\1/p' "$out/cargo" | paste -sd+ | sed 's/^$/0/')
+    broken=$(sed -n 's/^test result: .* \([0-9]*\) failed; .*/\1/p' "$out/cargo" | paste -sd+ | sed 's/^$/0/')
+    tested=$((tested))
+    broken=$((broken))
+    passed=$((passed + tested))
+    if [ $status -ne 0 ] || [ $broken -ne 0 ] || [ $tested -eq 0 ]; then
+        fail "the Rust tests of $1 failed" $passed $((broken > 0 ? broken : 1))
+    fi
+}
+
+scripts/command.sh >"$out/command" 2>&1 || { cat "$out/command"; fail "the command was not built" "$proved"; }
+run_tests reference/Cargo.toml
+run_tests command/Cargo.toml
+echo "$passed passed, 0 failed"

@@ -54,6 +54,7 @@ fn without_make(command: &str) -> &str {
     match command {
         "make run" => "./target/bin/plan_printer < samples/sample.set",
         "make lib" => "test -r target/staticlib/libcanceller.a",
+        "make command" => "test -x target/canceller",
         other => other,
     }
 }
@@ -72,8 +73,9 @@ fn the_commands_print_what_is_shown() {
         let printed = String::from_utf8(ran.stdout).unwrap();
         assert_eq!(&printed, prints, "{command}");
     }
-    let programs = all.iter().filter(|s| s.command.starts_with("./"));
-    assert!(programs.count() >= 8, "the examples are run");
+    let starting = |with: &str| all.iter().filter(|s| s.command.starts_with(with)).count();
+    assert!(starting("./") >= 8, "the examples are run");
+    assert!(starting("target/canceller ") >= 5, "the command is run");
 }
 
 #[test]
@@ -85,6 +87,12 @@ fn the_programs_shown_are_those_of_the_examples() {
         assert!(code.lines().count() > 1);
         assert!(text(file).contains(code), "{file} does not have:\n{code}");
     }
+}
+
+#[test]
+fn the_text_form_shown_is_the_samples() {
+    let shown = format!("```\n{}```\n", text("samples/sample.txt"));
+    assert!(text("README.md").contains(&shown), "{shown}");
 }
 
 /// The bytes in `..` in the last column of the table under this heading.

@@ -1,0 +1,356 @@
+//! The response of a set as a picture, with its words under it.
+
+use super::{Input, Use};
+use crate::arguments::Given;
+use crate::canceller::{self, Plan, Refusal, Reply, Set, SET_MAX};
+use crate::ending::{Outcome, Status};
+use crate::svg::{number, ticks, Svg, LETTER};
+use crate::text_form::{cells_of, Cell};
+use crate::{bits, files, numbers};
+use std::fmt::Write;
+
+pub const USE: Use = Use {
+    name: "draw",
+    forms: &["draw FILE.set [-o FILE.svg]"],
+    does: "draw the response and its words as SVG",
+    more: "\
+Slices go across and chains down. A cell that is 0 is empty, one that is 1 is filled, and an unknown one is crossed. Under the
+response stand the rank, q and each word as a row of register bits, M1 (bit 0) first. A set for which no words exist (refusal
+17) is drawn too, and the picture says so.
+
+Example: canceller draw sample.set -o sample.svg",
+    options: &["-o"],
+    operands: 1..=1,
+    run,
+};
+
+fn run(given: &Given) -> Outcome {
+    let set = Input::read(&given.operands[0], SET_MAX)?;
+    let picture = set.ask(|file| Picture::of(file, &set.name))?.drawn();
+    files::write(given.option("-o"), picture.as_bytes())?;
+    Ok(Status::Done)
+}
+
+/// No words: every signature is explained.
+const NO_WORDS: u64 = 17;
+
+/// Everything that is drawn.
+struct Picture {
+    name: String,
+    set: Set,
+    slices: Vec<Vec<Cell>>,
+    /// None where there are no words.
+    plan: Option<Plan>,
+}
+
+/// The kinds of cells: what they are called, and how they are filled. Unknown cells are the darkest, so that few of them are seen
+/// among many others, without colour too.
+const KINDS: [(Cell, &str, &str, &str); 3] = [
+    (Cell::Zero, "zero", "0", "#ffffff"),
+    (Cell::One, "one", "1", "#c6d2de"),
+    (Cell::Unknown, "unknown", "X, unknown", "url(#crossed)"),
+];
+
+const MARGIN: f64 = 24.0;
+const LINE: f64 = 18.0;
+/// Cells smaller than this have no lines between them, and bars beside them that say where unknown ones are.
+const ROOM: f64 = 6.0;
+const BAR: f64 = 80.0;
+const LEFT: f64 = 64.0;
+const TOP: f64 = 88.0;
+
+impl Picture {
+    fn of(file: &[u8], name: &str) -> Reply<Picture> {
+        let set = canceller::read_set(file)?;
+        let plan = match canceller::plan(file) {
+            Ok(plan) => Some(plan),
+            Err(Refusal(NO_WORDS)) => None,
+            Err(refusal) => return Err(refusal),
+        };
+        Ok(Picture {
+            name: name.to_string(),
+            slices: cells_of(file, &set)?,
+            set,
+            plan,
+        })
+    }
+
+    /// How wide and how high a cell is.
+    fn cell(&self) -> (f64, f64) {
+        let side = |room: f64, many: usize| (room / many.max(1) as f64).clamp(2.5, 28.0);
+        (
+            side(1280.0, self.slices.len()),
+            side(800.0, self.set.spread.len()),
+        )
+    }
+
+    fn words(&self) -> &[u64] {
+        self.plan.as_ref().map_or(&[], |plan| &plan.words)
+    }
+
+    /// The side of a register bit's box.
+    fn bit_box(&self) -> f64 {
+        if self.set.m <= 24 {
+            28.0
+        } else {
+            14.0
+        }
+    }
+
+    fn drawn(&self) -> String {
+        let (wide, high) = self.cell();
+        let across = wide * self.slices.len() as f64;
+        let down = high * self.set.spread.len() as f64;
+        let headings = self.headings();
+        let bars = if wide.min(high) < ROOM {
+            BAR + 24.0
+        } else {
+            0.0
+        };
+        let under = TOP + down + 28.0 + bars;
+        let words_top = under + 4.0 * LINE + 44.0;
+        let height = words_top + self.words().len() as f64 * LINE + MARGIN;
+        let letters = |text: &String| text.chars().count() as f64 * LETTER;
+        let longest = headings.iter().map(letters).fold(0.0, f64::max);
+        let width = (LEFT + across + bars)
+            .max(self.words_width())
+            .max(MARGIN + longest)
+            + MARGIN;
+
+        let mut svg = Svg::new(width, height, &format!("Response: {}", self.name));
+        svg.put(format_args!(
+            "<defs><pattern id=\"crossed\" width=\"1\" height=\"1\" patternUnits=\"userSpaceOnUse\">\
+             <rect width=\"1\" height=\"1\" fill=\"#a4161a\"/>\
+             <path d=\"M.15 .15L.85 .85M.85 .15L.15 .85\" stroke=\"#ffffff\" stroke-width=\".12\"/></pattern></defs>"
+        ));
+        svg.text(MARGIN, 28.0, &headings[0]);
+        svg.text(MARGIN, 28.0 + LINE, &headings[1]);
+        self.draw_axes(&mut svg, wide, high);
+        self.draw_cells(&mut svg, wide, high);
+        self.draw_lines(&mut svg, wide, high);
+        if wide.min(high) < ROOM {
+            self.draw_bars(&mut svg, wide, high);
+        }
+        self.draw_legend(&mut svg, under);
+        svg.text(MARGIN, under + 4.0 * LINE, &headings[2]);
+        self.draw_words(&mut svg, words_top);
+        svg.done()
+    }
+
+    /// The two lines over the response, and the one over the words.
+    fn headings(&self) -> [String; 3] {
+        let (set, s) = (&self.set, self.slices.len());
+        let many = |n: usize, what: &str| format!("{n} {what}{}", if n == 1 { "" } else { "s" });
+        let unknown = self.count(Cell::Unknown);
+        // what no word is left for has full rank: q is m less the rank
+        let q = self.words().len();
+        let rank = set.m - q as u64;
+        let none = match self.plan {
+            Some(_) => String::new(),
+            None => format!("; no words: every signature is explained ({NO_WORDS})"),
+        };
+        [
+            self.name.clone(),
+            format!(
+                "m {}, taps {}, {}, {}",
+                set.m,
+                set.taps,
+                many(set.spread.len(), "chain"),
+                many(s, "slice")
+            ),
+            format!(
+                "{}, rank {rank}, q {q}{none}",
+                many(unknown, "unknown cell")
+            ),
+        ]
+    }
+
+    fn count(&self, kind: Cell) -> usize {
+        let cells = self.slices.iter().flatten();
+        cells.filter(|cell| **cell == kind).count()
+    }
+
+    fn draw_axes(&self, svg: &mut Svg, wide: f64, high: f64) {
+        svg.text(LEFT, TOP - 22.0, "slice");
+        for slice in ticks(0, self.slices.len() as i64 - 1, wide, 26.0) {
+            let x = LEFT + (slice as f64 + 0.5) * wide;
+            svg.anchored(x, TOP - 6.0, "middle", &slice.to_string());
+        }
+        svg.anchored(LEFT - 8.0, TOP - 6.0, "end", "chain");
+        for chain in ticks(0, self.set.spread.len() as i64 - 1, high, 16.0) {
+            let y = TOP + (chain as f64 + 0.5) * high + 4.0;
+            svg.anchored(LEFT - 8.0, y, "end", &chain.to_string());
+        }
+    }
+
+    /// A path for each kind, with a square for each cell whose corner is its slice and its chain.
+    fn draw_cells(&self, svg: &mut Svg, wide: f64, high: f64) {
+        let (wide, high) = (number(wide), number(high));
+        svg.put(format_args!(
+            "<g id=\"cells\" transform=\"translate({LEFT} {TOP}) scale({wide} {high})\">"
+        ));
+        for (kind, name, _, fill) in KINDS {
+            let mut path = String::new();
+            for (slice, cells) in self.slices.iter().enumerate() {
+                for (chain, _) in cells.iter().enumerate().filter(|(_, cell)| **cell == kind) {
+                    write!(path, "M{slice} {chain}h1v1h-1z").expect("a string grows");
+                }
+            }
+            let count = self.count(kind);
+            svg.put(format_args!(
+                "<path id=\"{name}\" data-count=\"{count}\" fill=\"{fill}\" d=\"{path}\"/>"
+            ));
+        }
+        svg.put(format_args!("</g>"));
+    }
+
+    /// Lines between the cells, where there is room for them, and a frame.
+    fn draw_lines(&self, svg: &mut Svg, wide: f64, high: f64) {
+        let (s, n) = (self.slices.len(), self.set.spread.len());
+        let (across, down) = (number(wide * s as f64), number(high * n as f64));
+        let mut path = String::new();
+        for slice in (1..s).filter(|_| wide >= ROOM) {
+            let x = number(LEFT + slice as f64 * wide);
+            write!(path, "M{x} {TOP}v{down}").expect("a string grows");
+        }
+        for chain in (1..n).filter(|_| high >= ROOM) {
+            let y = number(TOP + chain as f64 * high);
+            write!(path, "M{LEFT} {y}h{across}").expect("a string grows");
+        }
+        svg.put(format_args!(
+            "<path d=\"{path}\" stroke=\"#888888\" stroke-width=\"0.5\" fill=\"none\"/>"
+        ));
+        svg.put(format_args!(
+            "<rect x=\"{LEFT}\" y=\"{TOP}\" width=\"{across}\" height=\"{down}\" fill=\"none\" stroke=\"#000000\"/>"
+        ));
+    }
+
+    /// How many unknown cells each slice has, and each chain.
+    fn unknowns(&self) -> (Vec<usize>, Vec<usize>) {
+        let (mut by_slice, mut by_chain) =
+            (vec![0; self.slices.len()], vec![0; self.set.spread.len()]);
+        for (slice, cells) in self.slices.iter().enumerate() {
+            for (chain, _) in cells
+                .iter()
+                .enumerate()
+                .filter(|(_, cell)| **cell == Cell::Unknown)
+            {
+                by_slice[slice] += 1;
+                by_chain[chain] += 1;
+            }
+        }
+        (by_slice, by_chain)
+    }
+
+    /// A bar under each slice and behind each chain that has unknown cells, as long as they are many.
+    fn draw_bars(&self, svg: &mut Svg, wide: f64, high: f64) {
+        let (by_slice, by_chain) = self.unknowns();
+        let (right, bottom) = (
+            LEFT + wide * by_slice.len() as f64 + 8.0,
+            TOP + high * by_chain.len() as f64 + 8.0,
+        );
+        let most = |counts: &[usize]| counts.iter().copied().max().unwrap_or(0).max(1);
+        let long = |count: usize, most: usize| number((BAR * count as f64 / most as f64).max(2.0));
+        let some = |counts: &[usize]| -> Vec<(usize, usize)> {
+            let all = counts.iter().copied().enumerate();
+            all.filter(|(_, count)| *count > 0).collect()
+        };
+        let mut path = String::new();
+        for (slice, count) in some(&by_slice) {
+            let (x, y) = (number(LEFT + slice as f64 * wide), number(bottom));
+            let (w, h) = (number(wide), long(count, most(&by_slice)));
+            write!(path, "M{x} {y}h{w}v{h}h-{w}z").expect("a string grows");
+        }
+        for (chain, count) in some(&by_chain) {
+            let (x, y) = (number(right), number(TOP + chain as f64 * high));
+            let (w, h) = (long(count, most(&by_chain)), number(high));
+            write!(path, "M{x} {y}h{w}v{h}h-{w}z").expect("a string grows");
+        }
+        svg.put(format_args!(
+            "<path id=\"bars\" fill=\"#a4161a\" d=\"{path}\"/>"
+        ));
+        let up_to = |counts: &[usize]| format!("up to {}", most(counts));
+        svg.anchored(LEFT - 8.0, bottom + 12.0, "end", "X");
+        let under = format!("X in each slice: {}", up_to(&by_slice));
+        svg.text(LEFT, bottom + BAR + 14.0, &under);
+        svg.text(right, TOP - 22.0, "X in each");
+        svg.text(right, TOP - 6.0, &format!("chain: {}", up_to(&by_chain)));
+    }
+
+    fn draw_legend(&self, svg: &mut Svg, top: f64) {
+        for (i, (kind, _, what, fill)) in KINDS.into_iter().enumerate() {
+            let y = top + i as f64 * LINE;
+            svg.put(format_args!(
+                "<g transform=\"translate({MARGIN} {}) scale(14)\"><rect width=\"1\" height=\"1\" fill=\"{fill}\" \
+                 stroke=\"#000000\" stroke-width=\".06\"/></g>",
+                number(y - 11.0)
+            ));
+            let count = numbers::grouped(self.count(kind) as u64);
+            let cells = if count == "1" { "cell" } else { "cells" };
+            svg.text(MARGIN + 22.0, y, &format!("{what}: {count} {cells}"));
+        }
+    }
+
+    /// Where the boxes of a word's bits start, and where the text behind them does.
+    fn word_places(&self) -> (f64, f64) {
+        let boxes = MARGIN + 9.0 * LETTER;
+        (boxes, boxes + self.bit_box() * self.set.m as f64 + 12.0)
+    }
+
+    /// What stands behind the boxes of each word.
+    fn word_texts(&self) -> Vec<String> {
+        let Some(plan) = &self.plan else {
+            return Vec::new();
+        };
+        let longest = plan.words.iter().max().map_or(0, |w| w.to_string().len());
+        let line = |(i, word): (usize, &u64)| {
+            let expected = u8::from(bits::is_set(plan.expected, i as u64));
+            let gap = " ".repeat(longest - word.to_string().len());
+            format!("= {word}{gap}  expected {expected}  {}", bits::xor(*word))
+        };
+        // blanks in a row are one in SVG: a no-break space is not
+        let lines = plan.words.iter().enumerate().map(line);
+        lines.map(|line| line.replace(' ', "\u{a0}")).collect()
+    }
+
+    fn words_width(&self) -> f64 {
+        let texts = self.word_texts();
+        let longest = texts.iter().map(|text| text.chars().count()).max();
+        longest.map_or(0.0, |letters| {
+            self.word_places().1 + letters as f64 * LETTER
+        })
+    }
+
+    fn draw_words(&self, svg: &mut Svg, top: f64) {
+        let (boxes, behind) = self.word_places();
+        let (m, side) = (self.set.m, self.bit_box());
+        let (wide, high) = (number(side), number(LINE - 4.0));
+        if self.words().is_empty() {
+            return;
+        }
+        svg.put(format_args!(
+            "<defs><rect id=\"in\" width=\"{wide}\" height=\"{high}\" fill=\"#1f3b57\" stroke=\"#000000\" stroke-width=\"0.5\"/>\
+             <rect id=\"out\" width=\"{wide}\" height=\"{high}\" fill=\"#ffffff\" stroke=\"#000000\" stroke-width=\"0.5\"/></defs>"
+        ));
+        for bit in (0..m).filter(|bit| side > 20.0 || bit % 4 == 0) {
+            let x = boxes + (bit as f64 + 0.5) * side;
+            svg.anchored(x, top - 16.0, "middle", &format!("M{}", bit + 1));
+        }
+        for (i, (word, text)) in self.words().iter().zip(self.word_texts()).enumerate() {
+            let y = top + i as f64 * LINE;
+            svg.text(MARGIN, y, &format!("word {i}"));
+            svg.put(format_args!("<g class=\"word\" data-word=\"{word}\">"));
+            for bit in 0..m {
+                let kind = if bits::is_set(*word, bit) {
+                    "in"
+                } else {
+                    "out"
+                };
+                let (x, y) = (number(boxes + bit as f64 * side), number(y - 11.0));
+                svg.put(format_args!("<use href=\"#{kind}\" x=\"{x}\" y=\"{y}\"/>"));
+            }
+            svg.put(format_args!("</g>"));
+            svg.text(behind, y, &text);
+        }
+    }
+}

@@ -1,0 +1,37 @@
+//! The signature of a record.
+
+use super::{Input, Use};
+use crate::arguments::Given;
+use crate::canceller::{self, RECORD_MAX, SET_MAX};
+use crate::ending::{of, unusable, Outcome, Status};
+use crate::files;
+
+pub const USE: Use = Use {
+    name: "sign",
+    forms: &["sign FILE.set FILE.record"],
+    does: "print the signature of a record",
+    more: "\
+The signature is printed in decimal. It uses every cell as recorded, the unknown ones too.
+
+Example: canceller sign sample.set sample.record",
+    options: &[],
+    operands: 2..=2,
+    run,
+};
+
+fn run(given: &Given) -> Outcome {
+    if given.operands.iter().all(|path| files::is_standard(path)) {
+        return unusable("sign: standard input can't be both the set and the record");
+    }
+    let set = Input::read(&given.operands[0], SET_MAX)?;
+    let record = Input::read(&given.operands[1], RECORD_MAX)?;
+    let signed = canceller::sign(&set.bytes, &record.bytes);
+    // the numbers up to 11 are about the set
+    let about = match signed {
+        Err(canceller::Refusal(12..)) => &record.name,
+        _ => &set.name,
+    };
+    let signature = of(about, signed)?;
+    files::write(None, format!("{signature}\n").as_bytes())?;
+    Ok(Status::Done)
+}

@@ -1,0 +1,122 @@
+//! What the tests of the command share: running it, and folders for its files.
+#![allow(dead_code)]
+
+use std::fs::File;
+use std::io::Write;
+use std::path::{Path, PathBuf};
+use std::process::{Child, Command, Stdio};
+
+/// What a run ended with.
+#[derive(Debug)]
+pub struct Ran {
+    pub status: i32,
+    pub out: Vec<u8>,
+    pub err: String,
+}
+
+impl Ran {
+    pub fn text(&self) -> &str {
+        std::str::from_utf8(&self.out).expect("text on standard output")
+    }
+}
+
+/// A folder of its own for the files of one test.
+pub struct Folder(pub PathBuf);
+
+impl Folder {
+    pub fn new(name: &str) -> Folder {
+        let path = Path::new(env!("CARGO_TARGET_TMPDIR")).join(name);
+        if path.exists() {
+            std::fs::remove_dir_all(&path).unwrap();
+        }
+        std::fs::create_dir_all(&path).unwrap();
+        Folder(path)
+    }
+
+    pub fn put(&self, name: &str, bytes: impl AsRef<[u8]>) -> String {
+        std::fs::write(self.0.join(name), bytes).unwrap();
+        name.to_string()
+    }
+
+    pub fn get(&self, name: &str) -> Vec<u8> {
+        std::fs::read(self.0.join(name)).unwrap_or_else(|e| panic!("{name}: {e}"))
+    }
+
+    pub fn text(&self, name: &str) -> String {
+        String::from_utf8(self.get(name)).unwrap()
+    }
+
+    pub fn names(&self) -> Vec<String> {
+        let all = std::fs::read_dir(&self.0).unwrap();
+        let mut names: Vec<String> = all
+            .map(|e| e.unwrap().file_name().into_string().unwrap())
+            .collect();
+        names.sort();
+        names
+    }
+
+    pub fn command(&self, words: &[&str]) -> Command {
+        let mut command = Command::new(env!("CARGO_BIN_EXE_canceller"));
+        command.args(words).current_dir(&self.0);
+        command
+    }
+
+    /// Runs the command here, with nothing on standard input.
+    pub fn run(&self, words: &[&str]) -> Ran {
+        self.run_with(words, b"")
+    }
+
+    /// .. with these bytes on standard input.
+    pub fn run_with(&self, words: &[&str], input: &[u8]) -> Ran {
+        let mut child = self
+            .command(words)
+            .stdin(Stdio::piped())
+            .stdout(Stdio::piped())
+            .stderr(Stdio::piped())
+            .spawn()
+            .expect("the command starts");
+        let mut stdin = child.stdin.take().unwrap();
+        std::thread::scope(|scope| {
+            // the command stops reading where an input is longer than anything that it takes
+            scope.spawn(move || stdin.write_all(input).ok());
+            ended(child)
+        })
+    }
+
+    /// Runs the command with its standard output to a file.
+    pub fn run_to(&self, words: &[&str], output: File) -> Ran {
+        let child = self
+            .command(words)
+            .stdin(Stdio::null())
+            .stdout(output)
+            .stderr(Stdio::piped())
+            .spawn()
+            .expect("the command starts");
+        ended(child)
+    }
+
+    /// Runs it, which must end with 0 and say nothing on standard error; what it prints.
+    pub fn done(&self, words: &[&str]) -> String {
+        let ran = self.run(words);
+        assert_eq!((ran.status, ran.err.as_str()), (0, ""), "{words:?}");
+        ran.text().to_string()
+    }
+}
+
+pub fn ended(child: Child) -> Ran {
+    let output = child.wait_with_output().expect("the command ends");
+    Ran {
+        status: output.status.code().expect("no signal ends the command"),
+        out: output.stdout,
+        err: String::from_utf8(output.stderr).expect("text on standard error"),
+    }
+}
+
+/// A file of samples/, and of what the tests have stored.
+pub fn sample(name: &str) -> Vec<u8> {
+    reference::repository::sample(name)
+}
+
+pub fn stored(name: &str) -> String {
+    reference::repository::text(&format!("command/tests/stored/{name}"))
+}

@@ -1,0 +1,312 @@
+//! The pictures: parsed as XML, and what they show held against the set or the rows.
+
+mod common;
+#[path = "common/xml.rs"]
+mod xml;
+
+use common::{sample, Folder};
+use reference::random::{content, file_of, small_content, Random};
+use reference::second::elimination::rank;
+use reference::second::plan::{judge, Plan};
+use reference::second::planning::plan;
+use reference::second::set::read_set;
+use std::collections::BTreeMap;
+use xml::Element;
+
+/// The cells that a path shows: the corner of each square.
+fn squares(path: &Element) -> Vec<(usize, usize)> {
+    let corner = |part: &str| {
+        let corner = part
+            .strip_suffix("h1v1h-1z")
+            .expect("a square of the side 1");
+        let (slice, chain) = corner.split_once(' ').unwrap();
+        (slice.parse().unwrap(), chain.parse().unwrap())
+    };
+    path.attribute("d").split('M').skip(1).map(corner).collect()
+}
+
+/// The words that a picture shows: in decimal, and as rows of boxes.
+fn words_shown(picture: &Element) -> Vec<(u64, String)> {
+    let all = picture.all().into_iter();
+    let rows = all.filter(|e| e.attributes.get("class").is_some_and(|c| c == "word"));
+    let boxes = |e: &Element| -> String {
+        let letter = |u: &Element| match u.attribute("href") {
+            "#in" => '1',
+            "#out" => '0',
+            other => panic!("{other} in a word"),
+        };
+        e.children.iter().map(letter).collect()
+    };
+    rows.map(|e| (e.attribute("data-word").parse().unwrap(), boxes(e)))
+        .collect()
+}
+
+fn grouped(n: usize) -> String {
+    if n < 1000 {
+        n.to_string()
+    } else {
+        format!("{},{:03}", n / 1000, n % 1000)
+    }
+}
+
+/// Holds the picture of a set against the set, by the second implementation.
+fn holds(folder: &Folder, file: &[u8], name: &str) -> String {
+    folder.put("a & b <c>.set", file);
+    let svg = folder.done(&["draw", "a & b <c>.set"]);
+    let picture = xml::parse(&svg);
+    let set = read_set(file).unwrap();
+    let mut seen = vec![vec!['?'; set.n()]; set.s()];
+    let mut counts = Vec::new();
+    for (id, letter) in [("zero", '0'), ("one", '1'), ("unknown", 'X')] {
+        let path = picture.by_id(id);
+        let cells = squares(path);
+        assert_eq!(
+            path.attribute("data-count"),
+            cells.len().to_string(),
+            "{name}"
+        );
+        counts.push(cells.len());
+        for (slice, chain) in cells {
+            assert_eq!(
+                std::mem::replace(&mut seen[slice][chain], letter),
+                '?',
+                "{name}"
+            );
+        }
+    }
+    let letter = |(mark, value): (&bool, &bool)| match (mark, value) {
+        (true, _) => 'X',
+        (_, true) => '1',
+        _ => '0',
+    };
+    for (t, (marks, values)) in set.marks.iter().zip(&set.values).enumerate() {
+        let cells: Vec<char> = marks.iter().zip(values).map(letter).collect();
+        assert_eq!(seen[t], cells, "{name}: slice {t}");
+    }
+    let texts = picture.texts();
+    let plural = |n: usize| if n == 1 { "cell" } else { "cells" };
+    for (what, count) in ["0", "1", "X, unknown"].into_iter().zip(&counts) {
+        let legend = format!("{what}: {} {}", grouped(*count), plural(*count));
+        assert!(texts.contains(&legend), "{name}: {legend} in {texts:?}");
+    }
+    let columns = set.columns();
+    let (m, rank) = (set.circuit.m, rank(&columns));
+    let head = format!(
+        "{} unknown {}, rank {rank}, q {}",
+        columns.len(),
+        plural(columns.len()),
+        m as u64 - rank
+    );
+    let planned: Option<Plan> = plan(file, 131_072, 64).reply.ok();
+    let Some(planned) = planned else {
+        assert!(
+            texts.contains(&format!(
+                "{head}; no words: every signature is explained (17)"
+            )),
+            "{texts:?}"
+        );
+        assert!(words_shown(&picture).is_empty());
+        return svg;
+    };
+    assert!(texts.contains(&head), "{name}: {head} in {texts:?}");
+    let row = |w: &u64| {
+        (0..m)
+            .map(|b| if w >> b & 1 == 1 { '1' } else { '0' })
+            .collect()
+    };
+    let words: Vec<(u64, String)> = planned.words.iter().map(|w| (*w, row(w))).collect();
+    assert_eq!(words_shown(&picture), words, "{name}");
+    for (i, word) in planned.words.iter().enumerate() {
+        let bits = (0..64).filter(|b| word >> b & 1 == 1);
+        let xor: Vec<String> = bits.map(|b| format!("M{}", b + 1)).collect();
+        let expected = planned.expected >> i & 1;
+        let line = format!("= {word} expected {expected} {}", xor.join("⊕"));
+        let shown = texts
+            .iter()
+            .any(|t| t.split_whitespace().collect::<Vec<_>>().join(" ") == line);
+        assert!(shown, "{name}: {line}");
+    }
+    svg
+}
+
+#[test]
+fn responses_of_random_sets() {
+    let folder = Folder::new("pictures");
+    for seed in 0..60 {
+        let mut r = Random::new(seed);
+        let file = file_of(&small_content(&mut r, 64, 40, 30));
+        holds(&folder, &file, &format!("seed {seed}"));
+    }
+}
+
+#[test]
+fn responses_at_the_edges() {
+    let folder = Folder::new("picture_edges");
+    for name in [
+        "sample",
+        "slices-0",
+        "width-1",
+        "width-64",
+        "chains-256",
+        "no-words",
+        "figure-2",
+        "unknowns-4097",
+    ] {
+        holds(&folder, &sample(&format!("{name}.set")), name);
+    }
+}
+
+#[test]
+fn the_largest_response() {
+    let folder = Folder::new("largest_picture");
+    let mut r = Random::new(1);
+    for (of, name) in [(3000, "few unknown cells"), (40, "many")] {
+        let file = file_of(&content(&mut r, 64, 256, 512, 1, of));
+        let svg = holds(&folder, &file, name);
+        assert!(svg.len() < 4_000_000, "{} bytes", svg.len());
+    }
+}
+
+/// What a map shows: the kind of each die by its place.
+fn dies_shown(map: &Element, left: i32, top: i32) -> BTreeMap<(i32, i32), String> {
+    let mut dies = BTreeMap::new();
+    for die in &map.by_id("dies").children {
+        let place = |name: &str| die.attribute(name).parse::<i32>().unwrap();
+        let kind = die.attribute("href").trim_start_matches('#').to_string();
+        let before = dies.insert((place("x") + left, place("y") + top), kind);
+        assert_eq!(before, None, "a die twice");
+    }
+    dies
+}
+
+#[test]
+fn wafer_maps_of_random_dies() {
+    let folder = Folder::new("maps");
+    folder.put("sample.set", sample("sample.set"));
+    folder.done(&["plan", "sample.set", "-o", "sample.plan"]);
+    let plan = folder.get("sample.plan");
+    for seed in 0..20 {
+        let mut r = Random::new(seed);
+        let wide = 1 + r.below(40);
+        let mut rows = "y,signature,x\n".to_string();
+        let mut dies = BTreeMap::new();
+        let mut retests = 0;
+        for _ in 0..1 + r.below(500) {
+            let (x, y) = (r.below(wide) as i32 - 7, 5 - r.below(wide) as i32);
+            let signature = r.pick(&["0", "3", "0x3", "1", "7", "6", "8", "12", "no", ""]);
+            rows += &format!("{y},{signature},{x}\n");
+            let number = match signature.strip_prefix("0x") {
+                Some(digits) => u64::from_str_radix(digits, 16).ok(),
+                None => signature.parse::<u64>().ok(),
+            };
+            let kind = match number.map(|s| judge(&plan, s)) {
+                None => "unreadable".to_string(),
+                Some(Err(number)) => format!("refused{number}"),
+                Some(Ok(judged)) => match judged.fails_at {
+                    None => "pass".to_string(),
+                    Some(word) => format!("w{word}"),
+                },
+            };
+            if dies.insert((x, y), kind).is_some() {
+                retests += 1;
+            }
+        }
+        folder.put("a.csv", &rows);
+        let words = [
+            "judge",
+            "sample.plan",
+            "--csv",
+            "a.csv",
+            "-o",
+            "/dev/null",
+            "--map",
+            "m.svg",
+        ];
+        let ran = folder.run(&words);
+        let map = xml::parse(&folder.text("m.svg"));
+        let left = dies.keys().map(|d| d.0).min().unwrap();
+        let top = dies.keys().map(|d| d.1).min().unwrap();
+        assert_eq!(
+            dies_shown(&map, left, top),
+            dies,
+            "seed {seed}: {}",
+            ran.err
+        );
+        // the legend's counts, in the order of the kinds
+        let texts = map.texts();
+        let names = [
+            ("pass", "passes"),
+            ("w0", "fails at word 0"),
+            ("w1", "fails at word 1"),
+            ("refused23", "refused 23"),
+            ("unreadable", "unreadable"),
+        ];
+        for (kind, name) in names {
+            let count = dies.values().filter(|k| *k == kind).count();
+            let line = format!("{name}: {count}");
+            let there = texts.contains(&line);
+            assert!(
+                there || count == 0 && kind != "pass",
+                "seed {seed}: {line} in {texts:?}"
+            );
+        }
+        assert!(texts.contains(&format!("{} dies; x to the right, y down", dies.len())));
+        let said = format!(
+            "canceller: a.csv: retests: {retests}; of the rows for one place the last one counts"
+        );
+        assert_eq!(
+            ran.err.lines().any(|l| l == said),
+            retests > 0,
+            "{}",
+            ran.err
+        );
+    }
+}
+
+#[test]
+fn places_that_a_map_has_no_room_for() {
+    let folder = Folder::new("no_room");
+    folder.put("sample.set", sample("sample.set"));
+    folder.done(&["plan", "sample.set", "-o", "sample.plan"]);
+    let words = [
+        "judge",
+        "sample.plan",
+        "--csv",
+        "-",
+        "-o",
+        "out.csv",
+        "--map",
+        "m.svg",
+    ];
+    let ran = folder.run_with(&words, b"x,y,signature\n0,0,3\n10000,0,3\n");
+    assert_eq!(
+        ran.err,
+        "canceller: the places reach from x 0 to 10000 and from y 0 to 0: a map has room for 10,000 each way\n"
+    );
+    assert_eq!(
+        (ran.status, folder.names()),
+        (3, vec!["sample.plan".into(), "sample.set".into()])
+    );
+    // rows without a place are judged, and counted
+    let ran = folder.run_with(
+        &words,
+        b"x,y,signature\n0,0,3\n1.5,0,1\n0,2147483648,3\n0\n",
+    );
+    assert_eq!(ran.status, 3);
+    let line = "without a place on the map: 3; the first: standard input:3:1: expected a whole number, found '1.5'";
+    assert!(ran.err.contains(line), "{}", ran.err);
+    assert_eq!(
+        folder.text("out.csv"),
+        "x,y,signature,verdict,index\n0,0,3,pass,\n1.5,0,1,fail,0\n0,2147483648,3,pass,\n0,unreadable,\n"
+    );
+    let map = xml::parse(&folder.text("m.svg"));
+    assert_eq!(map.by_id("dies").children.len(), 1);
+    // .. and are status 3 by themselves
+    let ran = folder.run_with(&words, b"x,y,signature\n0,0,3\n,0,3\n");
+    assert_eq!(ran.status, 3, "{}", ran.err);
+    // no rows at all
+    let ran = folder.run_with(&words, b"x,y,signature\n");
+    assert_eq!(ran.status, 0);
+    let map = xml::parse(&folder.text("m.svg"));
+    assert_eq!(map.by_id("dies").children.len(), 0);
+}

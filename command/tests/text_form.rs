@@ -1,0 +1,279 @@
+//! The text form: round trips on random sets, the forms that people write, and where it says that a text is broken.
+
+mod common;
+
+use common::{sample, Folder};
+use reference::random::{file_of, small_content, Random};
+use reference::second::set::{read_set, Set};
+
+/// A text of a set, written by this test: with blanks, comments and words in every form.
+fn text_of(set: &Set, r: &mut Random) -> String {
+    let number = |bits: &[bool]| reference::second::word_of(bits);
+    let mut word = |bits: &[bool]| {
+        let value = number(bits);
+        match r.below(3) {
+            0 => format!("{value}"),
+            1 => format!("0x{value:X}"),
+            _ => {
+                let set = (0..64).filter(|i| value >> i & 1 == 1);
+                let bits: Vec<String> = set.map(|i| i.to_string()).collect();
+                format!("bits {}", bits.join("  "))
+            }
+        }
+    };
+    let circuit = &set.circuit;
+    let mut text = format!("# a set\n\nwidth  {}\r\n", circuit.m);
+    text += &format!("\ttaps {} # the taps\n", word(&circuit.taps));
+    text += &format!("chains {}\n", set.n());
+    for (chain, bits) in circuit.spread.iter().enumerate() {
+        text += &format!("spread {chain} {}\n", word(bits));
+    }
+    text += &format!("slices {}\n", set.s());
+    for (values, marks) in set.values.iter().zip(&set.marks) {
+        for (value, mark) in values.iter().zip(marks) {
+            text += match (mark, value) {
+                (true, _) => r.pick(&["X", "x", " X", "X\t"]),
+                (_, true) => r.pick(&["1", "1 "]),
+                _ => r.pick(&["0", " 0"]),
+            };
+        }
+        text += r.pick(&["\n", "\r\n", " # cells\n"]);
+    }
+    text
+}
+
+#[test]
+fn random_sets_there_and_back() {
+    let folder = Folder::new("round_trips");
+    for seed in 0..150 {
+        let mut r = Random::new(seed);
+        let file = file_of(&small_content(&mut r, 64, 40, 20));
+        folder.put("a.set", &file);
+        let shown = folder.done(&["show", "a.set"]);
+        folder.put("a.txt", &shown);
+        folder.done(&["pack", "a.txt", "-o", "b.set"]);
+        assert_eq!(folder.get("b.set"), file, "seed {seed}:\n{shown}");
+        // and a text that a person could have written
+        let text = text_of(&read_set(&file).unwrap(), &mut r);
+        let packed = folder.run_with(&["pack", "-"], text.as_bytes());
+        assert_eq!(packed.out, file, "seed {seed}: {}\n{text}", packed.err);
+    }
+}
+
+#[test]
+fn every_sample_that_is_a_set_there_and_back() {
+    let folder = Folder::new("samples_there_and_back");
+    let mut count = 0;
+    for entry in std::fs::read_dir(reference::repository::repository().join("samples")).unwrap() {
+        let path = entry.unwrap().path();
+        let name = path.file_name().unwrap().to_str().unwrap();
+        if !name.ends_with(".set") || read_set(&sample(name)).is_err() {
+            continue;
+        }
+        folder.put(name, sample(name));
+        folder.done(&["show", name, "-o", "a.txt"]);
+        folder.done(&["pack", "a.txt", "-o", "b.set"]);
+        assert_eq!(folder.get("b.set"), sample(name), "{name}");
+        count += 1;
+    }
+    assert!(count >= 9, "{count} samples are sets");
+}
+
+const SAMPLE: &str = "width 3\ntaps 3\nchains 2\nspread 0 1\nspread 1 4\nslices 2\n1X\n10\n";
+
+/// The sample's text with its line replaced.
+fn with_line(line: usize, text: &str) -> String {
+    let mut lines: Vec<&str> = SAMPLE.lines().collect();
+    lines[line - 1] = text;
+    lines.join("\n") + "\n"
+}
+
+#[test]
+fn broken_texts_and_the_place_in_the_message() {
+    let folder = Folder::new("broken_texts");
+    const NUMBER: &str = "a number from 0 to 2^64 - 1, decimal or 0x..";
+    let word = format!("{NUMBER}, or 'bits ..'");
+    let cases: Vec<(String, String)> = vec![
+        (
+            with_line(1, "wide 3"),
+            "1:1: expected 'width ..', found 'wide'".into(),
+        ),
+        (
+            with_line(1, "width"),
+            format!("1:6: expected {NUMBER}, found the end of the line"),
+        ),
+        (
+            with_line(1, "  width  three"),
+            format!("1:10: expected {NUMBER}, found 'three'"),
+        ),
+        (
+            with_line(1, "width -3"),
+            format!("1:7: expected {NUMBER}, found '-3'"),
+        ),
+        (
+            with_line(1, "width 3 4"),
+            "1:9: expected the end of the line, found '4'".into(),
+        ),
+        (
+            with_line(1, "width 18446744073709551616"),
+            format!("1:7: expected {NUMBER}, found '18446744073709551616'"),
+        ),
+        (
+            with_line(2, "taps 0x10000000000000000"),
+            format!("2:6: expected {word}, found '0x10000000000000000'"),
+        ),
+        (
+            with_line(2, "taps 0x"),
+            format!("2:6: expected {word}, found '0x'"),
+        ),
+        (
+            with_line(2, "taps bits"),
+            "2:10: expected a bit from 0 to 63, found the end of the line".into(),
+        ),
+        (
+            with_line(2, "taps bits 0 64"),
+            "2:13: expected a bit from 0 to 63, found '64'".into(),
+        ),
+        (
+            with_line(2, "taps bits 0 1 0"),
+            "2:15: expected each bit once, found '0'".into(),
+        ),
+        (
+            with_line(3, "# no chains"),
+            "4:1: expected 'chains ..', found 'spread'".into(),
+        ),
+        (
+            with_line(3, "taps 3"),
+            "3:1: expected 'chains ..', found 'taps'".into(),
+        ),
+        (
+            with_line(4, "spread 1 1"),
+            "4:8: expected chain 0, found '1'".into(),
+        ),
+        (
+            with_line(5, "spread 1 4 2"),
+            "5:12: expected the end of the line, found '2'".into(),
+        ),
+        (
+            with_line(5, "spread 1 \u{e9}"),
+            format!("5:10: expected {word}, found '\u{e9}'"),
+        ),
+        (
+            with_line(3, "chains 3"),
+            "6:1: expected 'spread ..', found 'slices'".into(),
+        ),
+        (
+            with_line(7, "1X0"),
+            "7:3: expected the end of the line behind 2 cells, found '0'".into(),
+        ),
+        (
+            with_line(7, "1"),
+            "7:2: expected 2 cells, one for each chain, found 1".into(),
+        ),
+        (
+            with_line(7, "1 # X"),
+            "7:2: expected 2 cells, one for each chain, found 1".into(),
+        ),
+        (
+            with_line(7, "1 2"),
+            "7:3: expected a cell: 0, 1 or X, found '2'".into(),
+        ),
+        (
+            with_line(8, ""),
+            "9:1: expected the cells of slice 1, found the end of the file".into(),
+        ),
+        (
+            with_line(6, "slices 1"),
+            "8:1: expected the end of the file behind 1 slices, found '10'".into(),
+        ),
+        (
+            with_line(6, "slices 3"),
+            "9:1: expected the cells of slice 2, found the end of the file".into(),
+        ),
+        (
+            "".into(),
+            "1:1: expected 'width ..', found the end of the file".into(),
+        ),
+    ];
+    for (text, message) in cases {
+        folder.put("a.txt", &text);
+        let ran = folder.run(&["pack", "a.txt", "-o", "a.set"]);
+        assert_eq!(ran.err, format!("canceller: a.txt:{message}\n"), "{text}");
+        assert_eq!((ran.status, ran.out.len()), (3, 0), "{text}");
+        assert_eq!(folder.names(), ["a.txt"], "nothing is written");
+    }
+}
+
+#[test]
+fn bytes_that_are_no_text() {
+    let folder = Folder::new("no_text");
+    for bytes in [
+        &b"\xff\xfe\x00"[..],
+        b"width \x00\xff\n",
+        &sample("largest.set"),
+    ] {
+        folder.put("a.txt", bytes);
+        let ran = folder.run(&["pack", "a.txt"]);
+        assert_eq!((ran.status, ran.out.len()), (3, 0), "{}", ran.err);
+        assert!(ran.err.starts_with("canceller: a.txt:1:"), "{}", ran.err);
+    }
+    // a byte order mark is no part of the text
+    let marked = format!("\u{feff}{SAMPLE}");
+    let ran = folder.run_with(&["pack", "-"], marked.as_bytes());
+    assert_eq!(ran.out, sample("sample.set"), "{}", ran.err);
+}
+
+#[test]
+fn a_text_longer_than_any() {
+    let folder = Folder::new("long_text");
+    let ran = folder.run(&["pack", "/dev/zero"]);
+    assert_eq!(ran.status, 3);
+    assert_eq!(
+        ran.err,
+        "canceller: /dev/zero: longer than any text of a set: 16,777,216 bytes\n"
+    );
+    // many chains are promised and none is there
+    folder.put("a.txt", with_line(3, "chains 18446744073709551615"));
+    let ran = folder.run(&["pack", "a.txt"]);
+    assert_eq!(
+        ran.err,
+        "canceller: a.txt:6:1: expected 'spread ..', found 'slices'\n"
+    );
+}
+
+#[test]
+fn what_the_set_writer_refuses() {
+    let folder = Folder::new("writer_refuses");
+    let chains = |n: usize| -> String {
+        let spread: String = (0..n).map(|c| format!("spread {c} 1\n")).collect();
+        format!("width 3\ntaps 3\nchains {n}\n{spread}slices 0\n")
+    };
+    let slices = |s: usize| {
+        format!("width 3\ntaps 3\nchains 1\nspread 0 1\nslices {s}\n") + &"0\n".repeat(s)
+    };
+    let cases = [
+        (with_line(1, "width 0"), 2),
+        (with_line(1, "width 65"), 2),
+        (with_line(1, "width 18446744073709551615"), 2),
+        (with_line(2, "taps 2"), 3),
+        (with_line(2, "taps 9"), 3),
+        (chains(0), 4),
+        (chains(257), 4),
+        (with_line(4, "spread 0 0"), 6),
+        (with_line(4, "spread 0 8"), 6),
+        (slices(513), 7),
+    ];
+    for (text, number) in cases {
+        folder.put("a.txt", &text);
+        let ran = folder.run(&["pack", "a.txt", "-o", "a.set"]);
+        let expected = format!("canceller: a.txt: refused {number}: ");
+        assert!(ran.err.starts_with(&expected), "{}\n{text}", ran.err);
+        assert_eq!((ran.status, folder.names().len()), (2, 1), "{text}");
+    }
+    // and what is right by one
+    for text in [chains(256), slices(512), slices(0)] {
+        folder.put("a.txt", &text);
+        folder.done(&["pack", "a.txt", "-o", "a.set"]);
+        assert!(read_set(&folder.get("a.set")).is_ok());
+    }
+}

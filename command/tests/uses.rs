@@ -1,0 +1,430 @@
+//! Every use on the sample against what is stored, the plans of all samples, every refusal number, and what is wrong usage.
+
+mod common;
+
+use common::{sample, stored, Folder};
+use reference::repository::{repository, text};
+use reference::second::plan::{judge, write_plan};
+use reference::second::planning::{plan, printed};
+
+/// A folder with the sample: its text, its set, its plan and its records.
+fn with_sample(name: &str) -> Folder {
+    let folder = Folder::new(name);
+    folder.put("sample.txt", sample("sample.txt"));
+    for unknown in ["0", "1"] {
+        let record = format!("sample-unknown-{unknown}.record");
+        folder.put(&record, sample(&record));
+    }
+    folder.done(&["pack", "sample.txt", "-o", "sample.set"]);
+    folder.done(&["plan", "sample.set", "-o", "sample.plan"]);
+    folder
+}
+
+#[test]
+fn every_use_on_the_sample() {
+    let folder = with_sample("every_use");
+    assert_eq!(folder.get("sample.set"), sample("sample.set"));
+    let second = plan(&sample("sample.set"), 1, 64).reply.unwrap();
+    assert_eq!(folder.get("sample.plan"), write_plan(&second, 526).unwrap());
+    let prints: [(&[&str], &str); 12] = [
+        (&["show", "sample.set"], "show.txt"),
+        (&["plan", "sample.set"], "plan.txt"),
+        (&["words", "sample.plan"], "words.txt"),
+        (&["columns", "sample.set"], "columns.txt"),
+        (&["draw", "sample.set"], "draw.svg"),
+        (&["explain", "17"], "explain-17.txt"),
+        (&["--help"], "help.txt"),
+        (&["help"], "help.txt"),
+        (&["-h"], "help.txt"),
+        (&["help", "judge"], "help-judge.txt"),
+        (&["judge", "--help"], "help-judge.txt"),
+        (&["help", "pack"], "help-pack.txt"),
+    ];
+    for (words, name) in prints {
+        assert_eq!(folder.done(words), stored(name), "{words:?}");
+    }
+    for (record, signature) in [
+        ("sample-unknown-0.record", "3\n"),
+        ("sample-unknown-1.record", "0\n"),
+    ] {
+        assert_eq!(folder.done(&["sign", "sample.set", record]), signature);
+    }
+    let judged = folder.run(&["judge", "sample.plan", "3", "0x0", "1", "7"]);
+    assert_eq!(judged.text(), stored("judge.txt"));
+    assert_eq!((judged.status, judged.err.as_str()), (1, ""));
+    assert_eq!(folder.run(&["judge", "sample.plan", "3", "0"]).status, 0);
+}
+
+#[test]
+fn standard_input_and_output() {
+    let folder = with_sample("standard");
+    let set = folder.run_with(&["pack", "-", "-o", "-"], &sample("sample.txt"));
+    assert_eq!(set.out, sample("sample.set"));
+    let plan = folder.run_with(&["plan", "-", "-o", "-"], &set.out);
+    assert_eq!(plan.out, folder.get("sample.plan"));
+    let words = folder.run_with(&["words", "-"], &plan.out);
+    assert_eq!(words.text(), stored("words.txt"));
+    let judged = folder.run_with(&["judge", "-", "7"], &plan.out);
+    assert_eq!(
+        (judged.status, judged.text()),
+        (1, "7: fails at word 1, cancelled bits 01\n")
+    );
+    let record = sample("sample-unknown-1.record");
+    let signed = folder.run_with(&["sign", "sample.set", "-"], &record);
+    assert_eq!(signed.text(), "0\n");
+    assert_eq!(folder.run(&["sign", "-", "-"]).status, 3);
+}
+
+/// The command has room for every column, where the plan printer has 4,096 places.
+#[test]
+fn the_plans_of_all_samples() {
+    let folder = Folder::new("all_plans");
+    let mut count = 0;
+    for entry in std::fs::read_dir(repository().join("samples")).unwrap() {
+        let file = entry.unwrap().file_name().into_string().unwrap();
+        let Some(name) = file.strip_suffix(".plan.txt") else {
+            continue;
+        };
+        let set = sample(&format!("{name}.set"));
+        folder.put("a.set", &set);
+        let ran = folder.run(&["plan", "a.set", "-o", "a.plan"]);
+        let expected = match name {
+            "unknowns-4097" => "set 3 256 17 4097\nword 0 3 0\nword 1 5 0\nend 2\n".to_string(),
+            _ => text(&format!("samples/{file}")),
+        };
+        assert_eq!(ran.text(), expected, "{name}");
+        match plan(&set, 131_072, 64).reply {
+            Ok(second) => {
+                assert_eq!((ran.status, ran.err.as_str()), (0, ""), "{name}");
+                assert_eq!(folder.get("a.plan"), write_plan(&second, 526).unwrap());
+                std::fs::remove_file(folder.0.join("a.plan")).unwrap();
+            }
+            Err(number) => {
+                assert_eq!(ran.status, 2, "{name}");
+                let message = format!("canceller: a.set: refused {number}: ");
+                assert!(ran.err.starts_with(&message), "{}", ran.err);
+                assert_eq!(folder.names(), ["a.set"], "{name}: no plan is written");
+            }
+        }
+        count += 1;
+    }
+    assert_eq!(count, 24, "stored samples");
+}
+
+/// The numbers 1 to 10, 12, 13, 17 and 19 to 23, each by a use that meets it. The command lends room enough that 14, 18 and 24 can't
+/// come up, asks for no slice that isn't there (11), and hands no columns over (15, 16).
+#[test]
+fn every_refusal_number() {
+    let folder = with_sample("refusals");
+    let bad_sets = [
+        ("empty", 1),
+        ("bytes-9", 1),
+        ("width-0", 2),
+        ("width-65", 2),
+        ("taps-9", 3),
+        ("chains-257", 4),
+        ("spread-short", 5),
+        ("spread-0", 6),
+        ("slices-513", 7),
+        ("rows-short", 8),
+        ("too-long", 8),
+        ("too-long-width-0", 2),
+        ("spare-bit", 9),
+        ("valued-unknown", 10),
+    ];
+    let mut met = Vec::new();
+    let mut refused = |words: &[&str], about: &str, number: u64| {
+        let ran = folder.run(words);
+        let why = row_of_readme(number).0;
+        let message = format!(
+            "canceller: {about}: refused {number}: {why}\ncanceller: for what to do: canceller explain {number}\n"
+        );
+        assert_eq!((ran.status, ran.err), (2, message), "{words:?}");
+        let line = format!("refused {number}\n");
+        let printed = match words[0] {
+            "plan" => line,
+            "judge" if number == 23 => format!("{}: {line}", words[2]),
+            _ => String::new(),
+        };
+        assert_eq!(String::from_utf8(ran.out).unwrap(), printed, "{words:?}");
+        met.push(number);
+    };
+    for (name, number) in bad_sets {
+        folder.put("bad.set", sample(&format!("{name}.set")));
+        refused(&["plan", "bad.set"], "bad.set", number);
+        refused(
+            &["sign", "bad.set", "sample-unknown-0.record"],
+            "bad.set",
+            number,
+        );
+        refused(&["show", "bad.set"], "bad.set", number);
+        refused(&["columns", "bad.set"], "bad.set", number);
+        refused(&["draw", "bad.set"], "bad.set", number);
+    }
+    for (record, number) in [(&[1u8][..], 12), (&[1, 1, 1], 12), (&[4, 0], 13)] {
+        folder.put("bad.record", record);
+        refused(&["sign", "sample.set", "bad.record"], "bad.record", number);
+    }
+    refused(&["sign", "sample.set", "/dev/zero"], "/dev/zero", 12);
+    folder.put("bad.set", sample("no-words.set"));
+    refused(&["plan", "bad.set"], "bad.set", 17);
+    let good = folder.get("sample.plan");
+    let changed = |at: usize, byte: u8| {
+        let mut plan = good.clone();
+        plan[at] = byte;
+        plan
+    };
+    let bad_plans = [
+        (vec![3], 19),
+        (changed(0, 65), 19),
+        (changed(2, 4), 20),
+        (good[..19].to_vec(), 20),
+        (changed(4, 4), 21),
+        (changed(20, 3), 22),
+        (changed(22, 4), 22),
+        ([&good[..], &[0]].concat(), 22),
+    ];
+    for (plan, number) in bad_plans {
+        assert_eq!(judge(&plan, 0), Err(number));
+        folder.put("bad.plan", plan);
+        refused(&["judge", "bad.plan", "0"], "bad.plan", number);
+        refused(
+            &["judge", "bad.plan", "--csv", "none.csv"],
+            "bad.plan",
+            number,
+        );
+        refused(&["words", "bad.plan"], "bad.plan", number);
+    }
+    refused(&["judge", "sample.plan", "8"], "signature 8", 23);
+    met.sort_unstable();
+    met.dedup();
+    let all: Vec<u64> = (1..=10).chain([12, 13, 17]).chain(19..=23).collect();
+    assert_eq!(met, all);
+}
+
+/// Why, and what to do, in README.md's table of the numbers.
+fn row_of_readme(number: u64) -> (String, String) {
+    let readme = text("README.md");
+    let (_, table) = readme.split_once("## Refusal numbers").unwrap();
+    let start = format!("| {number} | ");
+    let row = table.lines().find_map(|line| line.strip_prefix(&start));
+    let row = row.unwrap_or_else(|| panic!("no row {number}"));
+    let (why, advice) = row.trim_end_matches(" |").split_once(" | ").unwrap();
+    (why.to_string(), advice.to_string())
+}
+
+#[test]
+fn explain_says_what_the_readme_and_the_header_list() {
+    let folder = Folder::new("explain");
+    for number in 1..=24 {
+        let (why, advice) = row_of_readme(number);
+        let told = folder.done(&["explain", &number.to_string()]);
+        assert_eq!(
+            told,
+            format!("refused {number}: {why}\nwhat to do: {advice}\n")
+        );
+    }
+    for bad in ["0", "25", "x", "18446744073709551615"] {
+        let ran = folder.run(&["explain", bad]);
+        let message =
+            format!("canceller: explain: expected a number from 1 to 24, found '{bad}'\n");
+        assert_eq!((ran.status, ran.err), (3, message));
+    }
+    // the header lists the same numbers
+    let header = text("include/canceller.h");
+    let (_, list) = header.split_once("The numbers, in the order").unwrap();
+    let (list, _) = list.split_once("*/").unwrap();
+    let words: Vec<&str> = list.split_whitespace().collect();
+    for number in 1..=24 {
+        let starts = words.iter().filter(|w| **w == number.to_string());
+        assert!(starts.count() >= 1, "{number} in the header");
+    }
+    assert!(!words.contains(&"25"));
+}
+
+#[test]
+fn the_version_is_the_headers_and_the_kits() {
+    let folder = Folder::new("version");
+    let kit = std::process::Command::new("rt").arg("version").output();
+    let kit = String::from_utf8(kit.expect("rt is on the path").stdout).unwrap();
+    let header = text("include/canceller.h");
+    let (_, rest) = header.split_once("#define CANCELLER_VERSION \"").unwrap();
+    let (version, _) = rest.split_once('"').unwrap();
+    let expected = format!("canceller {version} ({})\n", kit.trim());
+    for word in ["--version", "-V", "version"] {
+        assert_eq!(folder.done(&[word]), expected);
+    }
+    let manual = text("command/canceller.1");
+    assert!(
+        manual.contains(&format!("\"canceller {version}\"")),
+        "the manual's version"
+    );
+}
+
+/// Every form and option of the help stands in the manual page.
+#[test]
+fn the_manual_page_has_every_use() {
+    let folder = Folder::new("manual");
+    let manual = text("command/canceller.1")
+        .replace("\\fB", "")
+        .replace("\\fI", "");
+    let manual = manual.replace("\\fR", "").replace('\\', "");
+    let manual = manual.split_whitespace().collect::<Vec<&str>>().join(" ");
+    let mut count = 0;
+    for name in [
+        "pack", "show", "plan", "words", "sign", "judge", "draw", "columns", "explain", "help",
+        "version",
+    ] {
+        let help = folder.done(&["help", name]);
+        for form in help.lines().filter_map(|line| line.strip_prefix("usage: ")) {
+            assert!(manual.contains(form), "{form} in the manual page");
+            count += 1;
+        }
+    }
+    assert_eq!(count, 13, "forms");
+}
+
+#[test]
+fn the_help_fits_a_screen() {
+    let folder = Folder::new("screen");
+    let help = folder.done(&["--help"]);
+    assert!(help.lines().count() <= 24, "{help}");
+    for line in help.lines() {
+        assert!(line.chars().count() <= 100, "{line}");
+    }
+}
+
+#[test]
+fn wrong_usage() {
+    let folder = with_sample("usage");
+    let cases: [(&[&str], &str); 16] = [
+        (&["jugde"], "no use 'jugde': did you mean 'canceller judge'?"),
+        (&["colums", "x"], "no use 'colums': did you mean 'canceller columns'?"),
+        (&["frobnicate"], "no use 'frobnicate': 'canceller --help' lists the uses"),
+        (&["help", "plna"], "no use 'plna': did you mean 'canceller plan'?"),
+        (&["plan"], "plan: something is missing"),
+        (&["plan", "a", "b"], "plan: 'b' is one too many"),
+        (&["plan", "a", "-o"], "plan: -o needs a value"),
+        (&["plan", "a", "-o", "b", "-o", "c"], "plan: -o is given twice"),
+        (&["plan", "a", "--csv", "b"], "plan: no option --csv"),
+        (&["judge", "sample.plan"], "judge: no signature is given"),
+        (&["judge", "sample.plan", "1", "--csv", "a"], "judge: signatures and --csv don't go together"),
+        (&["judge", "sample.plan", "1", "--map", "a"], "judge: --map goes with --csv"),
+        (&["judge", "-", "--csv", "-"], "judge: standard input can't be both the plan and the rows"),
+        (&["judge", "sample.plan", "--csv", "a", "--map", "-"], "judge: standard output can't be both the rows and the map: -o FILE"),
+        (&["judge", "sample.plan", "-5"], "judge: no option -5"),
+        (&["judge", "sample.plan", "3", "3.5"], "judge: expected a signature, a number from 0 to 2^64 - 1, decimal or 0x.., found '3.5'"),
+    ];
+    for (words, message) in cases {
+        let ran = folder.run(words);
+        let first = ran.err.lines().next().unwrap_or_default();
+        assert_eq!(first, format!("canceller: {message}"), "{words:?}");
+        assert_eq!((ran.status, ran.out.len()), (3, 0), "{words:?}");
+    }
+    let ran = folder.run(&[]);
+    assert_eq!((ran.status, ran.out.len()), (3, 0));
+    assert!(ran.err.contains(stored("help.txt").trim()), "{}", ran.err);
+    // an option with its value in one word, and names that look like options
+    folder.done(&["show", "sample.set", "-o=a.txt"]);
+    folder.done(&["pack", "-o", "--odd.set", "--", "a.txt"]);
+    assert_eq!(folder.get("--odd.set"), sample("sample.set"));
+    assert_eq!(
+        folder.done(&["plan", "--", "--odd.set"]),
+        printed(&sample("sample.set"))
+    );
+}
+
+#[test]
+fn columns_by_the_second_implementation() {
+    let folder = Folder::new("columns");
+    for seed in 0..40 {
+        let mut r = reference::random::Random::new(seed);
+        let set = reference::random::file_of(&reference::random::small_content(&mut r, 64, 30, 20));
+        let read = reference::second::set::read_set(&set).unwrap();
+        folder.put("a.set", &set);
+        let mut expected = String::new();
+        for ((slice, chain), column) in read.unknowns().into_iter().zip(read.columns()) {
+            let bits = (0..64).filter(|i| column >> i & 1 == 1);
+            let names: Vec<String> = bits.map(|i| format!("M{}", i + 1)).collect();
+            let names = names.join(" ");
+            expected += &format!("slice {slice} chain {chain} column {column} bits {names}\n");
+        }
+        assert_eq!(folder.done(&["columns", "a.set"]), expected, "seed {seed}");
+    }
+}
+
+#[test]
+fn words_and_verdicts_by_the_second_implementation() {
+    let folder = Folder::new("verdicts");
+    let mut plans = 0;
+    for seed in 0..60 {
+        let mut r = reference::random::Random::new(seed);
+        let set = reference::random::file_of(&reference::random::small_content(&mut r, 64, 12, 6));
+        folder.put("a.set", &set);
+        if folder.run(&["plan", "a.set", "-o", "a.plan"]).status != 0 {
+            continue;
+        }
+        plans += 1;
+        let file = folder.get("a.plan");
+        let plan = reference::second::plan::read_plan(&file).unwrap();
+        let table = folder.done(&["words", "a.plan"]);
+        let rows: Vec<Vec<&str>> = table
+            .lines()
+            .skip(2)
+            .map(|l| l.split_whitespace().collect())
+            .collect();
+        assert_eq!(rows.len(), plan.words.len());
+        for (i, row) in rows.iter().enumerate() {
+            let word = plan.words[i];
+            let bits: String = (0..plan.m)
+                .map(|b| if word >> b & 1 == 1 { '1' } else { '0' })
+                .collect();
+            let set = (0..64).filter(|b| word >> b & 1 == 1);
+            let xor: Vec<String> = set.map(|b| format!("M{}", b + 1)).collect();
+            let expected = (plan.expected >> i & 1).to_string();
+            assert_eq!(
+                *row,
+                [
+                    &i.to_string(),
+                    &word.to_string(),
+                    &bits,
+                    &expected,
+                    &xor.join("⊕")
+                ]
+            );
+        }
+        let signatures: Vec<u64> = (0..20).map(|_| r.within(plan.m as usize)).collect();
+        let words: Vec<String> = signatures.iter().map(|s| s.to_string()).collect();
+        let mut asked = vec!["judge", "a.plan"];
+        asked.extend(words.iter().map(String::as_str));
+        let ran = folder.run(&asked);
+        let mut worst = 0;
+        for (line, signature) in ran.text().lines().zip(&signatures) {
+            let judged = judge(&file, *signature).unwrap();
+            let verdict = match judged.fails_at {
+                None => "passes".to_string(),
+                Some(word) => {
+                    worst = 1;
+                    format!("fails at word {word}")
+                }
+            };
+            let q = plan.words.len();
+            let bits: String = (0..q)
+                .map(|b| {
+                    if judged.cancelled >> b & 1 == 1 {
+                        '1'
+                    } else {
+                        '0'
+                    }
+                })
+                .collect();
+            assert_eq!(
+                line,
+                format!("{signature}: {verdict}, cancelled bits {bits}"),
+                "seed {seed}"
+            );
+        }
+        assert_eq!((ran.status, ran.text().lines().count()), (worst, 20));
+    }
+    assert!(plans >= 20, "{plans} plans are too few");
+}
