@@ -407,6 +407,18 @@ class Batch:
             out.append(with_bytes(at, self.junk(1), self.pick(out) or data))
         return out
 
+    def late(self):
+        """Sets of many slices whose one fault is in the last of them."""
+        for n, s in ((1, 40), (3, 200), (7, 512), (12, 90)):
+            one = self.any_set(n=n, s=s, kind="few")
+            data = bytearray(one.data())
+            values, marks = len(data) - 2 * one.b, len(data) - one.b
+            for places, bit in (([marks - 1], 128), ([len(data) - 1], 128), ([values, marks], 1)):
+                faulty = bytearray(data)
+                for place in places:
+                    faulty[place] |= bit
+                self.use_damaged(one, bytes(faulty), [0, 1, 2, 3, 4])
+
     def use_damaged(self, one, data, which=None):
         """The set reader, and one or two of the calls that take a set."""
         self.call("canceller_read_set", a=data, v=self.junk_words(256))
@@ -478,12 +490,11 @@ class Batch:
             t, c = self.pick([0, s - 1, self.random.randrange(s)]), self.random.randrange(n)
             if n % 8:
                 for bit in {n % 8, 7}:
-                    spare = bytearray(values)
-                    spare[b * t + b - 1] |= 1 << bit
-                    call(values=bytes(spare))
-                    spare = bytearray(marks)
-                    spare[b * t + b - 1] |= 1 << bit
-                    call(marks=bytes(spare))
+                    spare = {"values": bytearray(values), "marks": bytearray(marks)}
+                    for name, rows in spare.items():
+                        rows[b * t + b - 1] |= 1 << bit
+                        call(**{name: bytes(rows)})
+                    call(**spare)
             value, mark = bytearray(values), bytearray(marks)
             value[b * t + c // 8] |= 1 << c % 8
             mark[b * t + c // 8] |= 1 << c % 8
@@ -926,6 +937,7 @@ def calls_of(number):
         batch.largest()
     batch.sets(70)
     batch.damages(10)
+    batch.late()
     for _ in range(12):
         batch.write_set(batch.any_set(s=batch.pick([0, 1, 2, 3])))
     for n in (1, 2, 3, 9):
