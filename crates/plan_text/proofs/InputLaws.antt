@@ -1,11 +1,11 @@
 -- How much of its input the plan printer has to read. Document 01: "An input longer than any set counts as a set of the wrong
 -- length." The longest set has 34,830 bytes, and an input that is longer prints what its first 34,831 bytes print:
 --
---   longest           the bytes of the longest set
 --   longest-set       a set that meets none of 1 to 10 has no more
 --   long-refused      a longer input prints its first number
 --   long-number       .. which is 8 or an earlier one
 --   long-input        .. and so do its bytes up to the first too many, for any column places and word places
+--   long-printed      .. so the plan printer, which reads no more of them, writes the text of the whole input
 -- Assumes nothing.
 use mathlib.Core.Path.{_≡_, refl, sym, ap, ap₂, _∙_}
 use mathlib.Core.Bool.{Bool, true, false, cond, not, _||_}
@@ -32,13 +32,10 @@ use Rattle.set_file.specs.Reading.{badSlices, setTests}
 use Rattle.set_file.proofs.Laws.{Accepted, accepted, accepted-chains}
 use Rattle.columns.specs.Listing.{listTests}
 use Rattle.plan_lines.specs.Lines.{refusedLine}
-use Rattle.plan_text.specs.PlanText.{planText}
+use Rattle.plan_text.specs.PlanText.{planText, longest, printedText}
 use Rattle.plan_text.proofs.RefusalLaws.{listed-printed}
 
 -- ---- the longest set
-
-abbrev pub longest : ℕ
-longest = setLength 256 512
 
 set-length-most : (n s : ℕ) → n ≤ 256 → s ≤ 512 → setLength n s ≤ longest
 set-length-most n s hn hs =
@@ -165,3 +162,7 @@ pub long-input : (set : List ℕ) (k l : ℕ) → longest < length set → planT
 long-input set k l h =
     number-printed (take (suc longest) set) k l (λ (z : firstOf (setTests (take (suc longest) set)) ≡ 0). some-number set h (sym (same-first set h) ∙ z))
     ∙ ap refusedLine (same-first set h) ∙ sym (long-refused set k l h)
+
+pub long-printed : (set : List ℕ) → longest < length set → printedText (take (suc longest) set) ≡ printedText set
+unfolding printedText
+long-printed set h = long-input set 4096 64 h

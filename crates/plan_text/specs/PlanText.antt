@@ -3,10 +3,13 @@
 --
 --   textOf r set        the text for the reply r of planning the set
 --   planText set k l    the whole text, for k column places and l word places
+--   longest             the bytes of the longest set
+--   printedText set     what the plan printer writes for the set. Document 01: "It lends 4,096 column places". It lends 64 word places, as
+--                       many as a register can have bits
 use mathlib.Core.List.{List, _++_}
 use Prim.Native.Nat.{ℕ}
 use Rattle.word.specs.Reply.{Reply, answer, refusal}
-use Rattle.set_layout.specs.Layout.{widthOf, chainsOf, slicesOf}
+use Rattle.set_layout.specs.Layout.{setLength, widthOf, chainsOf, slicesOf}
 use Rattle.signatures.specs.Sets.{unknownsOf}
 use Rattle.planner.specs.Planning.{PlanParts, wordsOf, planReply}
 use Rattle.plan_lines.specs.Lines.{setLine, wordLines, endLine, refusedLine}
@@ -18,3 +21,10 @@ textOf (refusal n) set = refusedLine n
 
 unfoldable pub planText : List ℕ → ℕ → ℕ → List ℕ
 planText set k l = textOf (planReply set k l) set
+
+-- 256 chains and 512 slices
+abbrev pub longest : ℕ
+longest = setLength 256 512
+
+unfoldable pub printedText : List ℕ → List ℕ
+printedText set = planText set 4096 64
