@@ -12,18 +12,16 @@ use mathlib.Core.Bool.{true}
 use mathlib.Core.List.{List}
 use Prim.Native.Nat.{ℕ, _^_, _<_}
 use native.Mathlib.Omega.{arith}
-use lib.Dec.{eqb, ltb}
-use Rattle.word.specs.Word.{badWidth, beyond}
 use Rattle.word.specs.Reply.{Test, Reply, answer, refusal, replied, firstOf}
 use Rattle.word.proofs.TestLaws.{replied-number}
-use Rattle.set_layout.specs.Layout.{widthOf, chainsOf, slicesOf}
+use Rattle.set_layout.specs.Layout.{widthOf}
 use Rattle.set_file.specs.Reading.{setTests}
 use Rattle.signatures.specs.Sets.{Explained}
 use Rattle.signing.specs.Signing.{signTests, signReply}
 use Rattle.planner.specs.Planning.{wordsOf, PlanParts, earlierTests, planReply}
 use Rattle.plan_file.specs.Checking.{planFileTests}
 use Rattle.plan_writer.specs.Writing.{PlanContent, planContent, planWriteTests, planWriteReply}
-use Rattle.judge.specs.Verdict.{Finding, judgeTests, judgeReply}
+use Rattle.judge.specs.Verdict.{judgeTests, judgeReply}
 use Rattle.plan_lines.specs.Lines.{refusedLine}
 use Rattle.plan_text.specs.PlanText.{planText}
 use Rattle.plan_text.proofs.RefusalLaws.{refused-text}
@@ -102,6 +100,7 @@ record-seventeen set r k l room =
 
 -- ---- the plan printer's text
 
+-- 17 from the text exactly when every signature of the register's width is explained, no earlier number applying
 pub text-seventeen : (set : List ℕ) (k l : ℕ)
     → (planText set k l ≡ refusedLine 17 → (y : ℕ) → y < 2 ^ widthOf set → Explained set y)
     × (firstOf (earlierTests set k) ≡ 0 → ((y : ℕ) → y < 2 ^ widthOf set → Explained set y) → planText set k l ≡ refusedLine 17)

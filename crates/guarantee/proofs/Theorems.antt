@@ -45,7 +45,6 @@ use Rattle.set_file.proofs.Laws.{Accepted, accepted}
 use Rattle.signatures.specs.Signature.{signature}
 use Rattle.signatures.specs.Sets.{Explained, columnsOf, zeroSignature, recordCells}
 use Rattle.signing.specs.Signing.{signTests, signReply}
-use Rattle.columns.specs.Listing.{listTests}
 use Rattle.signatures.proofs.SetLaws.{columns-of-within, signature-within}
 use Rattle.planner.specs.Planning.{wordsOf, expectedOf, earlierTests, PlanParts, partsOf, planReply}
 use Rattle.planner.proofs.CallLaws as planning

@@ -5,7 +5,7 @@ use Prim.Native.Nat.{ℕ, _≤_}
 use native.Mathlib.Omega.{arith}
 use lib.ListN.{length, take}
 use Rattle.word.specs.Parities.{parities}
-use Rattle.word.specs.Reply.{Reply, answer, refusal, firstOf, front, lent, numberOf}
+use Rattle.word.specs.Reply.{Reply, answer, refusal, firstOf, lent, numberOf}
 use Rattle.word.proofs.ReplyLaws.{front-part}
 use Rattle.word.proofs.TestLaws.{replied-answer}
 use Rattle.signing.specs.Signing.{signReply, saidSigned}

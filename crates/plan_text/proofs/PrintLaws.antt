@@ -2,7 +2,7 @@
 -- in the two lent lists. Assumes nothing.
 use mathlib.Core.Path.{_≡_, refl, sym, ap, ap₂, _∙_}
 use mathlib.Core.List.{List, _++_}
-use Prim.Native.Nat.{ℕ, zero, suc, _≤_}
+use Prim.Native.Nat.{ℕ, zero, suc, _+_, _≤_}
 use native.Mathlib.Omega.{arith}
 use lib.ListN.{length, take, length-append}
 use Rattle.word.specs.Reply.{Reply, answer, refusal, replied, firstOf, numberOf, front, lent}
@@ -15,7 +15,7 @@ use Rattle.columns.specs.Listing.{listTests}
 use Rattle.planner.specs.Planning.{PlanParts, wordsOf, earlierTests, planTests, partsOf, planReply, columnsAfter, said}
 use Rattle.planner.specs.declared.Planned.{Planned}
 use Rattle.planner.specs.declared.Planned.the-variants.{Plan, Refused}
-use Rattle.planner.proofs.CallLaws.{Ends, few-words, planned-parts, words-front}
+use Rattle.planner.proofs.CallLaws.{Ends, words-few, planned-parts, words-front}
 use Rattle.text.specs.Text.{Put}
 use Rattle.text.proofs.PutLaws.{put-then, put-front}
 use Rattle.plan_lines.specs.Lines.{setLine, wordLines, endLine, refusedLine}
@@ -25,16 +25,17 @@ use Rattle.plan_text.specs.PlanText.{textOf, planText}
 -- ---- the text fits
 
 -- up to 64 words, whose indices have two digits at most
-plan-lines-fit : (m n s u : ℕ) (ws : List ℕ) (e q : ℕ) → length ws ≤ 64 → length (setLine m n s u ++ wordLines 0 ws e ++ endLine q) ≤ 4096
-plan-lines-fit m n s u ws e q h =
-    simp length-append (omega (arith, length-set-line m n s u, length-word-lines 0 ws e (omega arith), length-end-line q))
+plan-lines-fit : (m n s u i : ℕ) (ws : List ℕ) (e q : ℕ) → i + length ws ≤ 100 → length ws ≤ 64 → length (setLine m n s u ++ wordLines i ws e ++ endLine q) ≤ 4096
+plan-lines-fit m n s u i ws e q hi h =
+    simp length-append (omega (arith, length-set-line m n s u, length-word-lines i ws e hi, length-end-line q))
 
 -- the text of a reply whose first number is n; 0 stands for none
 number-fits : (set : List ℕ) (k l n : ℕ) → firstOf (planTests set k l) ≡ n → length (textOf (replied n (partsOf set)) set) ≤ 4096
 unfolding planTests earlierTests listTests
 number-fits set k l zero e =
     let listed : firstOf (listTests set k) ≡ 0 = first-of-none (listTests set k) _ (first-of-none (earlierTests set k) _ e) in
-    plan-lines-fit _ _ _ _ (wordsOf set) _ _ (few-words set (accepted set (first-of-none (setTests set) _ listed)))
+    let few : length (wordsOf set) ≤ 64 = words-few set (accepted set (first-of-none (setTests set) _ listed)) in
+    plan-lines-fit _ _ _ _ _ (wordsOf set) _ _ (omega (arith, few)) few
 number-fits set k l (suc n) e = omega (arith, length-refused-line (suc n))
 
 pub text-fits : (set : List ℕ) (k l : ℕ) → length (planText set k l) ≤ 4096

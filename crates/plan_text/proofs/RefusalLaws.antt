@@ -1,6 +1,6 @@
 -- What the text of a refusal says.
 --
---   refused-text     the text is the line of the refusal n exactly when planning's reply is that refusal
+--   refused-text     the text is the line of the refusal n, a number of at most 20 digits, exactly when planning's reply is that refusal
 --   listed-printed   a number that listing the columns meets, 1 to 10 or 14, is printed
 --   more-unknowns    a set that meets none of 1 to 10 and has more unknown cells than there are column places prints 14
 -- Assumes nothing.

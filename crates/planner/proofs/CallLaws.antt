@@ -1,5 +1,5 @@
 -- Each way out of planning, and what it answers and leaves in the two lent lists; what a caller knows of an answer: its parts are the
--- set's (planned-parts), and the words, at most 64 (few-words), stand at the front of the word list (words-front). Assumes nothing.
+-- set's (planned-parts), and the words, at most 64 (words-few), stand at the front of the word list (words-front). Assumes nothing.
 use mathlib.Core.Path.{_≡_, refl, sym, ap, ap₂, _∙_, subst}
 use mathlib.Core.Bool.{true}
 use mathlib.Core.List.{List, [], _∷_, append-assoc}
@@ -52,8 +52,8 @@ pub words-most : (set : List ℕ) → Accepted set → length (wordsOf set) ≤ 
 unfolding wordsOf columnsOf
 words-most set a = omega (arith, words-and-rank (widthOf set) (columnsOf set) (columns-of-within set a))
 
-pub few-words : (set : List ℕ) → Accepted set → length (wordsOf set) ≤ 64
-few-words set a = omega (arith, words-most set a, accepted-width set a .1)
+pub words-few : (set : List ℕ) → Accepted set → length (wordsOf set) ≤ 64
+words-few set a = omega (arith, words-most set a, accepted-width set a .1)
 
 counted : List ℕ → Counts
 counted set = record { rank = rank (columnsOf set); q = length (reducedList (widthOf set) (columnsOf set)) }
@@ -175,7 +175,7 @@ module _ (set cs cs′ ws : List ℕ) (a : Accepted set) (u : ℕ) (l : Lists se
       planned-room = planned-part .0
 
       planned-taken : take 64 (take q ws′) ≡ wordsOf set
-      planned-taken = ap (take 64) (planned-part .1) ∙ take-all 64 (wordsOf set) (few-words set a)
+      planned-taken = ap (take 64) (planned-part .1) ∙ take-all 64 (wordsOf set) (words-few set a)
 
       planned-reply : planReply set (length cs) (length ws) ≡ answer (partsOf set)
       unfolding planReply
