@@ -11,8 +11,8 @@ use Rattle.set_layout.specs.Layout.{widthOf, chainsOf, slicesOf}
 use Rattle.set_file.specs.Reading.{setTests}
 use Rattle.set_file.proofs.Laws.{accepted}
 use Rattle.signatures.specs.Sets.{unknownsOf}
-use Rattle.columns.specs.Listing.{listTests}
-use Rattle.planner.specs.Planning.{PlanParts, wordsOf, earlierTests, planTests, partsOf, planReply, columnsAfter, said}
+use Rattle.columns.specs.Listing.{listTests, columnsAfter}
+use Rattle.planner.specs.Planning.{PlanParts, wordsOf, earlierTests, planTests, partsOf, planReply, said}
 use Rattle.planner.specs.declared.Planned.{Planned}
 use Rattle.planner.specs.declared.Planned.the-variants.{Plan, Refused}
 use Rattle.planner.proofs.CallLaws.{Ends, words-few, planned-parts, words-front}

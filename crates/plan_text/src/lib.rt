@@ -3,7 +3,8 @@
 ghost use mathlib.Core.Path.{_≡_};
 ghost use lib.ListN.{length};
 ghost use Rattle.word.specs.Reply.{front, lent};
-ghost use Rattle.planner.specs.Planning.{wordsOf, planReply, columnsAfter};
+ghost use Rattle.planner.specs.Planning.{wordsOf, planReply};
+ghost use Rattle.columns.specs.Listing.{columnsAfter};
 ghost use Rattle.plan_text.specs.PlanText.{planText};
 use planner::Planned;
 use set_file::SetAnswer;

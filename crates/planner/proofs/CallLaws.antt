@@ -28,9 +28,9 @@ use Rattle.set_file.specs.Reading.{setTests, takenCircuit}
 use Rattle.set_file.proofs.Laws.{Accepted, accepted, accepted-width}
 use Rattle.signatures.specs.Sets.{columnsOf, unknownsOf, zeroSignature}
 use Rattle.columns.proofs.CallLaws.{Lists}
-use Rattle.columns.specs.Listing.{listTests, listReply}
+use Rattle.columns.specs.Listing.{listTests, listReply, columnsAfter}
 use Rattle.signatures.proofs.SetLaws.{length-columns, columns-of-within, zero-of-values}
-use Rattle.planner.specs.Planning.{wordsOf, expectedOf, earlierTests, planTests, PlanParts, partsOf, planReply, columnsAfter, said}
+use Rattle.planner.specs.Planning.{wordsOf, expectedOf, earlierTests, planTests, PlanParts, partsOf, planReply, said}
 use Rattle.planner.specs.declared.Planned.{Planned}
 use Rattle.planner.specs.declared.Planned.the-variants.{Plan, Refused}
 
@@ -84,7 +84,7 @@ told e n k r h = ap refusal (h ∙ ap (λ (x : Eliminated). numberOf (eliminated
 -- ---- the set is refused, or 14
 
 pub ends-unlisted : (set cs ws : List ℕ) (k : ℕ) → Lists set cs (refusal k) cs → Ends set cs ws (Refused k) cs ws
-unfolding planReply planTests earlierTests columnsAfter listReply
+unfolding planReply planTests earlierTests listReply
 ends-unlisted set cs ws k l =
     let number : firstOf (listTests set (length cs)) ≡ k = replied-number (firstOf (listTests set (length cs))) (unknownsOf set) k (sym (l .0)) in
     let some : k ≡ 0 → ⊥ = replied-not-zero (firstOf (listTests set (length cs))) (unknownsOf set) k (sym (l .0)) in
@@ -130,7 +130,6 @@ module _ (set cs cs′ ws : List ℕ) (a : Accepted set) (u : ℕ) (l : Lists se
   listed-columns = front-part (columnsOf set) cs cs′ u written (unknown-count ∙ sym (length-columns set)) .1
 
   columns-kept : cs′ ≡ columnsAfter set cs
-  unfolding columnsAfter
   columns-kept = l .1
 
   module _ (m : ℕ) (em : m ≡ widthOf set) where
