@@ -800,11 +800,18 @@ class Batch:
             x = self.pick([self.bits(64), self.bits(16), self.pick(NUMBERS), 10 ** self.random.randrange(20),
                            10 ** self.random.randrange(20) - 1])
             self.call("text::put_decimal", [at, x], d=self.junk(room))
+            room = self.pick([0, 30, 64, 200, 4096])
+            at = max(0, self.pick([0, 1, room, room + 1, self.random.randrange(room + 1), ALL]))
+            self.call("plan_lines::put_set_line", [at, x, self.bits(8), self.bits(9), self.pick(NUMBERS)], d=self.junk(room))
+            self.call("plan_lines::put_word_lines", [at, self.bits(64)], v=self.junk_words(self.pick([0, 1, 5, 64, 70])), d=self.junk(room))
+            self.call("plan_lines::put_end_line", [at, self.pick([x, self.bits(6)])], d=self.junk(room))
+            self.call("plan_lines::put_refused_line", [at, self.pick([x, self.bits(5)])], d=self.junk(room))
 
     def words(self, count):
         for at in (ALL, ALL - 1, ALL - 7, ALL - 8, 1 << 63):
             data, w = self.junk(9), self.bits(64)
             self.call("numbers::reads", [at], a=data)
+            self.call("numbers::whole_word", [at], a=data)
             self.call("numbers::part", [at, ALL], a=data, d=self.junk(24))
             self.call("numbers::part", [1, at], a=data, d=self.junk(24))
             self.call("numbers::moved", [at, 8, ALL])
@@ -825,6 +832,7 @@ class Batch:
             at = self.pick([0, 1, len(data), max(0, len(data) - 1), max(0, len(data) - 2), max(0, len(data) - 8),
                             max(0, len(data) - 7), self.pick(NUMBERS)])
             self.call("numbers::reads", [at], a=data)
+            self.call("numbers::whole_word", [at], a=data)
             self.call("numbers::moved", [self.pick(NUMBERS), self.pick(NUMBERS), self.pick(NUMBERS)])
             self.call("numbers::moved", [self.random.randrange(9), self.random.randrange(9), self.random.randrange(12)])
             self.call("numbers::part", [at, self.pick([0, 1, 3, len(data), self.pick(NUMBERS)])], a=data, d=self.junk(24))

@@ -10,13 +10,12 @@ ghost use Rattle.set_file.specs.Reading.{setReply, spreadBeside};
 ghost use Rattle.slice_rows.specs.Rows.{valueReply, markReply};
 ghost use Rattle.set_content.specs.Content.{setContent};
 ghost use Rattle.set_writer.specs.Writing.{setWriteReply, setBytes};
-ghost use Rattle.signatures.specs.Sets.{columnsOf};
 ghost use Rattle.signing.specs.Signing.{signReply};
-ghost use Rattle.columns.specs.Listing.{listReply};
+ghost use Rattle.columns.specs.Listing.{listReply, columnsAfter};
 ghost use Rattle.plan_file.specs.Layout.{fileWords};
 ghost use Rattle.plan_file.specs.Reading.{planFileReply};
 ghost use Rattle.plan_writer.specs.Writing.{planContent, planBytes, planWriteReply};
-ghost use Rattle.planner.specs.Planning.{wordsOf, planReply, columnsAfter};
+ghost use Rattle.planner.specs.Planning.{wordsOf, planReply};
 ghost use Rattle.judge.specs.Verdict.{judgeReply};
 ghost use Rattle.crossing.specs.Boundary.{setOf, stretchOf, writtenOf, registerOf, clockedOf, signedOf, listedOf, eliminatedOf, plannedOf, readOf, judgedOf};
 use crossing::CClocked;
@@ -98,7 +97,7 @@ pub extern "C" fn canceller_sign(set: &[u8], record: &[u8]) -> CSigned
 #[no_mangle]
 pub extern "C" fn canceller_list_columns(set: &[u8], columns: &mut [u64]) -> CListed
     ensures answer { λ r. ⌜ r ≡ listedOf (listReply (now (set .entry)) (length (now (columns .entry)))) ⌝ }
-    ensures list { λ _. ⌜ now (columns .exit) ≡ lent (listReply (now (set .entry)) (length (now (columns .entry)))) (columnsOf (now (set .entry))) (now (columns .entry)) ⌝ }
+    ensures list { λ _. ⌜ now (columns .exit) ≡ columnsAfter (now (set .entry)) (now (columns .entry)) ⌝ }
 {
     crossing::listed_of(columns::list_columns(set, columns))
 }

@@ -3,13 +3,15 @@
 --
 --   listTests set room   the numbers that the call meets, in order, for a lent list of `room` places
 --   listReply set room   its reply: the number of unknown cells
+--   columnsAfter set cs  the lent column list at exit
 --   saidListed a         the paper's reading of what the call hands back
 use mathlib.Core.List.{List, [], _∷_, _++_}
 use Prim.Native.Nat.{ℕ}
 use lib.Dec.{ltb}
-use Rattle.word.specs.Reply.{Test, _when_, Reply, answer, refusal, reply}
+use lib.ListN.{length}
+use Rattle.word.specs.Reply.{Test, _when_, Reply, answer, refusal, reply, lent}
 use Rattle.set_file.specs.Reading.{setTests}
-use Rattle.signatures.specs.Sets.{unknownsOf, placesOf}
+use Rattle.signatures.specs.Sets.{unknownsOf, placesOf, columnsOf}
 use Rattle.columns.specs.declared.Listed.{Listed}
 use Rattle.columns.specs.declared.Listed.the-variants.{Count, Declined}
 
@@ -18,6 +20,9 @@ listTests set room = setTests set ++ 14 when ltb room (placesOf set) ∷ []
 
 unfoldable pub listReply : List ℕ → ℕ → Reply ℕ
 listReply set room = reply (listTests set room) (unknownsOf set)
+
+abbrev pub columnsAfter : List ℕ → List ℕ → List ℕ
+columnsAfter set cs = lent (listReply set (length cs)) (columnsOf set) cs
 
 abbrev pub saidListed : Listed → Reply ℕ
 saidListed (Count n) = answer n

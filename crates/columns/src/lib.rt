@@ -3,13 +3,11 @@
 ghost use mathlib.Core.Path.{_≡_};
 ghost use Prim.Native.Nat.{min};
 ghost use lib.ListN.{length};
-ghost use Rattle.word.specs.Reply.{lent};
 ghost use Rattle.rows.specs.Lists.{cellsOf};
 ghost use Rattle.marked_words.specs.Back.{back};
 ghost use Rattle.set_file.specs.Reading.{takenCircuit};
 ghost use Rattle.signatures.specs.Columns.{columnsBelow};
-ghost use Rattle.signatures.specs.Sets.{columnsOf};
-ghost use Rattle.columns.specs.Listing.{listReply, saidListed};
+ghost use Rattle.columns.specs.Listing.{listReply, columnsAfter, saidListed};
 use rows::Rows;
 use set_file::SetAnswer;
 use set_file::Taken;
@@ -41,7 +39,7 @@ pub fn fill_columns(taken: Taken, list: &[u8], marks: Rows, columns: &mut [u64])
 // meets the set's 1 to 10, then 14; a refusal leaves the list as it was.
 pub fn list_columns(set: &[u8], columns: &mut [u64]) -> Listed
     ensures { λ r. ⌜ saidListed r ≡ listReply (now (set .entry)) (length (now (columns .entry))) ⌝ }
-    ensures { λ _. ⌜ now (columns .exit) ≡ lent (listReply (now (set .entry)) (length (now (columns .entry)))) (columnsOf (now (set .entry))) (now (columns .entry)) ⌝ }
+    ensures { λ _. ⌜ now (columns .exit) ≡ columnsAfter (now (set .entry)) (now (columns .entry)) ⌝ }
 {
     let read = set_file::read_set(set);
     let answer = read.answer;

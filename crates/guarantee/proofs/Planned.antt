@@ -14,15 +14,14 @@ use Rattle.word.proofs.BoolLaws.{and-left, and-right}
 use Rattle.word.proofs.Laws.{parities-lt}
 use Rattle.word.proofs.TestLaws.{numbered, none-and-rest, first-of-later, first-of-sooner, first-of-none, replied-answer, replied-number}
 use Rattle.combinations.specs.Combination.{rank, onlyEmpty}
-use Rattle.combinations.proofs.Theorems.{words-and-rank, reduced-list-reduced, only-empty-list}
+use Rattle.combinations.proofs.Theorems.{reduced-list-reduced, only-empty-list}
 use Rattle.set_layout.specs.Layout.{widthOf}
 use Rattle.set_file.specs.Reading.{setTests}
 use Rattle.set_file.proofs.Laws.{Accepted, accepted, accepted-width}
 use Rattle.signatures.specs.Sets.{columnsOf, zeroSignature}
 use Rattle.columns.specs.Listing.{listTests}
-use Rattle.signatures.proofs.SetLaws.{columns-of-within}
 use Rattle.planner.specs.Planning.{wordsOf, expectedOf, earlierTests, planTests, PlanParts, partsOf, planReply}
-use Rattle.planner.proofs.CallLaws.{list-numbered}
+use Rattle.planner.proofs.CallLaws.{list-numbered, words-most, planned-parts}
 use Rattle.plan_writer.specs.Writing.{planContent, planBytes}
 use Rattle.plan_writer.proofs.Parts.{Content}
 use Rattle.guarantee.specs.Demand.{planFile}
@@ -112,10 +111,6 @@ module _ (set : List ℕ) (k l : ℕ) (p : PlanParts) (h : planReply set k l ≡
   unfolding planReply
   planned-none = replied-answer (firstOf (planTests set k l)) (partsOf set) p h .0
 
-  pub planned-parts : p ≡ partsOf set
-  unfolding planReply
-  planned-parts = replied-answer (firstOf (planTests set k l)) (partsOf set) p h .1
-
   list-none : firstOf (listTests set k) ≡ 0
   unfolding planTests
   list-none = earlier-listed set k (first-of-none (earlierTests set k) _ planned-none)
@@ -132,7 +127,7 @@ module _ (set : List ℕ) (k l : ℕ) (p : PlanParts) (h : planReply set k l ≡
   unfolding wordsOf columnsOf
   words-count =
       let positive : length (wordsOf set) ≡ 0 → ⊥ = eqb-false (length (wordsOf set)) 0 (sym (only-empty-list (widthOf set) (columnsOf set)) ∙ some-words) in
-      (omega arith, omega (arith, words-and-rank (widthOf set) (columnsOf set) (columns-of-within set planned-accepted)))
+      (omega arith, words-most set planned-accepted)
 
   -- the plan writer takes m, the words and the expected bits
   pub planned-content : Content (planContent (widthOf set) (wordsOf set) (expectedOf set))
@@ -150,4 +145,4 @@ module _ (set : List ℕ) (k l : ℕ) (p : PlanParts) (h : planReply set k l ≡
   -- planning's plan file is that of m, the words and the expected bits of the set
   pub planned-file : planFile set p ≡ planBytes (planContent (widthOf set) (wordsOf set) (expectedOf set))
   unfolding planFile
-  planned-file = ap (λ (x : PlanParts). planBytes (planContent (x .m) (wordsOf set) (x .expected))) planned-parts
+  planned-file = ap (λ (x : PlanParts). planBytes (planContent (x .m) (wordsOf set) (x .expected))) (planned-parts set k l p h)

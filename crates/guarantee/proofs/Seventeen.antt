@@ -5,24 +5,26 @@
 --                       number before 17 applies
 --   planned-seventeen   planning itself
 --   record-seventeen    judging a record by the plan of its set; each of two records
+--   text-seventeen      the plan printer's text, for any column places and word places: its line `refused 17`
 -- Assumes nothing.
 use mathlib.Core.Path.{_≡_, refl, sym, ap, _∙_}
 use mathlib.Core.Bool.{true}
 use mathlib.Core.List.{List}
 use Prim.Native.Nat.{ℕ, _^_, _<_}
 use native.Mathlib.Omega.{arith}
-use lib.Dec.{eqb, ltb}
-use Rattle.word.specs.Word.{badWidth, beyond}
 use Rattle.word.specs.Reply.{Test, Reply, answer, refusal, replied, firstOf}
 use Rattle.word.proofs.TestLaws.{replied-number}
-use Rattle.set_layout.specs.Layout.{widthOf, chainsOf, slicesOf}
+use Rattle.set_layout.specs.Layout.{widthOf}
 use Rattle.set_file.specs.Reading.{setTests}
 use Rattle.signatures.specs.Sets.{Explained}
 use Rattle.signing.specs.Signing.{signTests, signReply}
 use Rattle.planner.specs.Planning.{wordsOf, PlanParts, earlierTests, planReply}
 use Rattle.plan_file.specs.Checking.{planFileTests}
 use Rattle.plan_writer.specs.Writing.{PlanContent, planContent, planWriteTests, planWriteReply}
-use Rattle.judge.specs.Verdict.{Finding, judgeTests, judgeReply}
+use Rattle.judge.specs.Verdict.{judgeTests, judgeReply}
+use Rattle.plan_lines.specs.Lines.{refusedLine}
+use Rattle.plan_text.specs.PlanText.{planText}
+use Rattle.plan_text.proofs.RefusalLaws.{refused-text}
 use Rattle.guarantee.specs.AtWork.{after, madeReply, planOf, signedReply, recordReply}
 use Rattle.guarantee.proofs.Planned.{without, first-of-without}
 use Rattle.guarantee.proofs.Theorems.{seventeen-explained, explained-seventeen}
@@ -95,3 +97,13 @@ record-seventeen set r k l room =
     in
     let same = after-after (planReply set k l) (λ p. planWriteReply (planContent (p .m) (wordsOf set) (p .expected)) room) (λ n. signedReply set r (planOf set)) in
     ((λ h. both .0 (sym same ∙ h)), (λ h e. same ∙ both .1 h e))
+
+-- ---- the plan printer's text
+
+-- 17 from the text exactly when every signature of the register's width is explained, no earlier number applying
+pub text-seventeen : (set : List ℕ) (k l : ℕ)
+    → (planText set k l ≡ refusedLine 17 → (y : ℕ) → y < 2 ^ widthOf set → Explained set y)
+    × (firstOf (earlierTests set k) ≡ 0 → ((y : ℕ) → y < 2 ^ widthOf set → Explained set y) → planText set k l ≡ refusedLine 17)
+text-seventeen set k l =
+    let told = refused-text set k l 17 (omega arith) in
+    ((λ h. seventeen-explained set k l (told .0 h)), (λ h e. told .1 (explained-seventeen set k l h e)))

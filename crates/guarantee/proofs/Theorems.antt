@@ -45,9 +45,9 @@ use Rattle.set_file.proofs.Laws.{Accepted, accepted}
 use Rattle.signatures.specs.Signature.{signature}
 use Rattle.signatures.specs.Sets.{Explained, columnsOf, zeroSignature, recordCells}
 use Rattle.signing.specs.Signing.{signTests, signReply}
-use Rattle.columns.specs.Listing.{listTests}
 use Rattle.signatures.proofs.SetLaws.{columns-of-within, signature-within}
 use Rattle.planner.specs.Planning.{wordsOf, expectedOf, earlierTests, PlanParts, partsOf, planReply}
+use Rattle.planner.proofs.CallLaws as planning
 use Rattle.plan_file.specs.Layout.{planLength, fileWords}
 use Rattle.plan_file.specs.Reading.{planFileReply}
 use Rattle.plan_writer.specs.Writing.{planContent, planBytes, planWriteReply}
@@ -63,13 +63,13 @@ use Rattle.guarantee.proofs.Content as content
 
 -- planning that answers answers with the set's m, the number of its words, and its expected bits
 pub planned-parts : (set : List ℕ) (k l : ℕ) (p : PlanParts) → planReply set k l ≡ answer p → p ≡ partsOf set
-planned-parts = planned.planned-parts
+planned-parts = planning.planned-parts
 
 -- the plan writer, handed what planning answered and the words, takes it where there is room for the file
 pub plan-written : (set : List ℕ) (k l room : ℕ) (p : PlanParts) → planReply set k l ≡ answer p → planLength (p .q) ≤ room
     → planWriteReply (planContent (p .m) (wordsOf set) (p .expected)) room ≡ answer (planLength (p .q))
 plan-written set k l room p h r =
-    let parts : p ≡ partsOf set = planned.planned-parts set k l p h in
+    let parts : p ≡ partsOf set = planning.planned-parts set k l p h in
     ap (λ (x : PlanParts). planWriteReply (planContent (x .m) (wordsOf set) (x .expected)) room) parts
     ∙ content-taken _ room (planned.planned-content set k l p h) (subst (λ (x : PlanParts). planLength (x .q) ≤ room) parts r)
     ∙ sym (ap (λ (x : PlanParts). answer (planLength (x .q))) parts)
@@ -79,7 +79,7 @@ pub plan-read-back : (set : List ℕ) (k l room : ℕ) (p : PlanParts) → planR
     → (planFileReply (planFile set p) room ≡ answer (record { m = p .m; q = p .q; expected = p .expected }))
     × (fileWords (planFile set p) ≡ wordsOf set)
 plan-read-back set k l room p h r =
-    let parts : p ≡ partsOf set = planned.planned-parts set k l p h in
+    let parts : p ≡ partsOf set = planning.planned-parts set k l p h in
     let file : planFile set p ≡ planBytes (planContent (widthOf set) (wordsOf set) (expectedOf set)) = planned.planned-file set k l p h in (
       ap (λ (f : List ℕ). planFileReply f room) file
           ∙ content-read _ (planned.planned-content set k l p h) room (subst (λ (x : PlanParts). x .q ≤ room) parts r)
@@ -141,7 +141,7 @@ explained-passes set k l p y h e =
     let same : parities (wordsOf set) y ≡ expectedOf set = explaining.explained-expected set taken y e in
     plan-judged set k l p y h (explaining.explained-within set taken y e)
     ∙ ap₂ (λ (b : ℕ) (o : Outcome). answer (record { cancelled = b; outcome = o }))
-    (same ∙ sym (ap (λ (x : PlanParts). x .expected) (planned.planned-parts set k l p h)))
+    (same ∙ sym (ap (λ (x : PlanParts). x .expected) (planning.planned-parts set k l p h)))
     (agrees-passes (wordsOf set) (expectedOf set) y same (expected-inside set))
 
 -- a signature of the register's width that passes is explained

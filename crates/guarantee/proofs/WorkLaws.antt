@@ -3,16 +3,17 @@ use mathlib.Core.Path.{_≡_, refl, sym, ap, ap₂, _∙_, subst}
 use mathlib.Core.List.{List}
 use Prim.Native.Nat.{ℕ, _≤_}
 use native.Mathlib.Omega.{arith}
-use lib.ListN.{length, take, drop, length-append}
-use lib.Seq.{take-at}
+use lib.ListN.{length, take}
 use Rattle.word.specs.Parities.{parities}
-use Rattle.word.specs.Reply.{Reply, answer, refusal, firstOf, front, lent, numberOf}
+use Rattle.word.specs.Reply.{Reply, answer, refusal, firstOf, lent, numberOf}
+use Rattle.word.proofs.ReplyLaws.{front-part}
 use Rattle.word.proofs.TestLaws.{replied-answer}
 use Rattle.signing.specs.Signing.{signReply, saidSigned}
 use Rattle.signing.specs.declared.Signed.{Signed}
-use Rattle.planner.specs.Planning.{wordsOf, expectedOf, PlanParts, partsOf, planReply, columnsAfter, said as saidPlanned}
+use Rattle.columns.specs.Listing.{columnsAfter}
+use Rattle.planner.specs.Planning.{wordsOf, expectedOf, PlanParts, partsOf, planReply, said as saidPlanned}
 use Rattle.planner.specs.declared.Planned.{Planned}
-use Rattle.planner.proofs.CallLaws.{Ends}
+use Rattle.planner.proofs.CallLaws.{Ends, words-front}
 use Rattle.plan_file.specs.Layout.{planLength}
 use Rattle.plan_writer.specs.Writing.{planContent, wordCount, planBytes, planWriteTests, planWriteReply, said as saidWritten}
 use Rattle.plan_writer.specs.declared.Written.{Written}
@@ -28,14 +29,6 @@ after-answer : {A : Type 0} {B : Type 0} (r : Reply A) (f : A → Reply B) (b : 
     → (a : A) × (r ≡ answer a) × (f a ≡ answer b)
 after-answer (answer a) f b h = (a, refl, h)
 after-answer (refusal n) f b h = let z : _≡_ {A = ℕ} 0 1 = cc in let no : ⊥ = omega arith in absurd no
-
--- a list that stands at the front of another is its first part
-front-part : (vs l l′ : List ℕ) (n : ℕ) → l′ ≡ front vs l → n ≡ length vs → (n ≤ length l′) × (take n l′ ≡ vs)
-unfolding front
-front-part vs l l′ n e h = (
-  omega (arith, ap length e, length-append vs (drop (length vs) l)),
-  ap (take n) e ∙ take-at vs (drop (length vs) l) n (sym h),
-)
 
 -- ---- making the plan
 
@@ -70,9 +63,7 @@ module _ (set cs ws cs′ ws′ : List ℕ) (p : Planned) (ends : Ends set cs ws
 
     -- the words stand at the front
     pub planned-words : (q ≤ length ws′) × (take q ws′ ≡ wordsOf set)
-    planned-words =
-        front-part (wordsOf set) ws ws′ q (ends .1 .1 ∙ ap (λ (r : Reply PlanParts). lent r (wordsOf set) ws) planned)
-        (ap (λ (x : PlanParts). x .q) (planned-parts set (length cs) (length ws) parts planned))
+    planned-words = words-front set ws ws′ (length cs) parts planned (ends .1 .1)
 
     pub made-planned : (file file′ : List ℕ) (a : Reply ℕ) → a ≡ planWriteReply (planContent m (take q ws′) e) (length file)
         → file′ ≡ lent (planWriteReply (planContent m (take q ws′) e) (length file)) (planBytes (planContent m (take q ws′) e)) file

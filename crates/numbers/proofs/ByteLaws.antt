@@ -10,9 +10,9 @@ use native.Mathlib.Numerals.{add-one, towards-suc}
 use lib.Arith.{mod-mul}
 use borrow.Author.Tests.{le-leb, lt-leb}
 use lib.Dec.{leb, lit<}
-use lib.ListN.{length, getD, set, length-append, drop-of-length-le}
+use lib.ListN.{length, getD, set, take, length-append, drop-of-length-le}
 use lib.Pow.{pow-mono, pow-add}
-use lib.Seq.{take-nil, take-at, drop-append-seam, sets, set-out}
+use lib.Seq.{take-nil, take-at, getD-take, drop-append-seam, sets, set-out}
 use Rattle.numbers.specs.Bytes.{number, numberAt, countAt, wordAt, wholeWordAt, wordsAt, bytesOf, wordBytes}
 
 pub number-at-zero : (s : List ℕ) (i : ℕ) → numberAt zero s i ≡ 0
@@ -29,6 +29,14 @@ unfolding numberAt number
 number-at-suc k [] i = omega (arith, number-at-end (suc k) [] i (omega arith), number-at-end k [] (suc i) (omega arith))
 number-at-suc k (b ∷ s) zero = refl
 number-at-suc k (b ∷ s) (suc i) = number-at-suc k s i
+
+-- a number that lies within the first n bytes is read from them alone
+pub number-at-take : (k : ℕ) (s : List ℕ) (n i : ℕ) → i + k ≤ n → numberAt k (take n s) i ≡ numberAt k s i
+number-at-take zero s n i h = number-at-zero (take n s) i ∙ sym (number-at-zero s i)
+number-at-take (suc k) s n i h =
+    number-at-suc k (take n s) i
+    ∙ ap₂ (λ (x y : ℕ). x + 256 * y) (getD-take n s i 0 (omega arith)) (number-at-take k s n (suc i) (omega arith))
+    ∙ sym (number-at-suc k s i)
 
 -- the k bytes of s from place i; a byte past the end is 0
 abbrev bytesFrom : ℕ → List ℕ → ℕ → List ℕ
@@ -178,6 +186,12 @@ pub length-words-at : (s : List ℕ) (i k : ℕ) → length (wordsAt s i k) ≡ 
 unfolding wordsAt
 length-words-at s i zero = refl
 length-words-at s i (suc k) = ap suc (length-words-at s (i + 8) k)
+
+pub words-at-take : (k : ℕ) (s : List ℕ) (n i : ℕ) → i + 8 * k ≤ n → wordsAt (take n s) i k ≡ wordsAt s i k
+unfolding wordsAt
+words-at-take zero s n i h = refl
+words-at-take (suc k) s n i h =
+    ap₂ _∷_ (number-at-take 8 s n i (omega arith)) (words-at-take k s n (i + 8) (omega arith))
 
 pub length-word-bytes : (ws : List ℕ) → length (wordBytes ws) ≡ 8 * length ws
 unfolding wordBytes

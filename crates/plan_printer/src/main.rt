@@ -1,7 +1,9 @@
-// The plan printer: reads a set from standard input and prints its plan.
+// The plan printer: reads a set from standard input and prints its plan. It sees the plan's text, and what reads and writes.
 ghost use mathlib.Core.Path.{_≡_};
-ghost use Prim.Native.Nat.{_≤_};
+ghost use Prim.Native.Nat.{suc, _≤_};
 ghost use lib.ListN.{length};
+ghost use Rattle.word.specs.Reply.{front};
+ghost use Rattle.plan_text.specs.PlanText.{longest, printedText};
 ghost use Rattle.plan_printer.specs.Reading.{countOf};
 
 // What reading answers: how many bytes there were, or that a read failed.
@@ -10,24 +12,42 @@ enum Input {
     Failed,
 }
 
-// One byte more than the longest set has. A longer input prints what its first 34,831 bytes print (plan_text,
-// proofs/InputLaws.antt, long-input).
-fn no_bytes() -> [u8; 34831]
-    ensures { λ r. ⌜ length r ≡ 34831 ⌝ }
+// So many bytes of the input are read: one more than the longest set has. A longer input prints what these print (plan_text,
+// proofs/InputLaws.antt, long-printed).
+const MOST_BYTES: usize = 34831;
+
+// Document 01: "It lends 4,096 column places, so more unknown cells print 14."
+const COLUMN_PLACES: usize = 4096;
+
+// A set has no more words than its register has bits.
+const WORD_PLACES: usize = 64;
+
+fn no_bytes() -> [u8; MOST_BYTES]
+    ensures { λ r. ⌜ length r ≡ suc longest ⌝ }
 {
-    [0u8; 34831]
+    [0u8; MOST_BYTES]
 }
 
-fn no_columns() -> [u64; 4096]
+fn no_columns() -> [u64; COLUMN_PLACES]
     ensures { λ r. ⌜ length r ≡ 4096 ⌝ }
 {
-    [0u64; 4096]
+    [0u64; COLUMN_PLACES]
 }
 
-fn no_words() -> [u64; 64]
+fn no_words() -> [u64; WORD_PLACES]
     ensures { λ r. ⌜ length r ≡ 64 ⌝ }
 {
-    [0u64; 64]
+    [0u64; WORD_PLACES]
+}
+
+// The text of a set, with the places that the plan printer lends. Answers with its length and writes it over the front of `out`.
+fn print_set(set: &[u8], out: &mut [u8; 4096]) -> usize
+    ensures count { λ r. ⌜ r ≡ length (printedText (now (set .entry))) ⌝ }
+    ensures text { λ _. ⌜ now (out .exit) ≡ front (printedText (now (set .entry))) (now (out .entry)) ⌝ }
+{
+    let mut columns = no_columns();
+    let mut words = no_words();
+    plan_text::print_plan(set, &mut columns, &mut words, out)
 }
 
 // Reads standard input over the front of `bytes`, until it is full or the input ends. A read that fails is told apart from the
@@ -71,10 +91,8 @@ fn main() {
         tell_unread();
         return;
     };
-    let mut columns = no_columns();
-    let mut words = no_words();
     let mut out = io::buffer();
-    let end = plan_text::print_plan(&bytes[..count], &mut columns, &mut words, &mut out);
+    let end = print_set(&bytes[..count], &mut out);
     if !io::write_all(libc::STDOUT_FILENO, &out[..end]) {
         tell_unwritten();
     }

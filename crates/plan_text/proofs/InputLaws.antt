@@ -1,29 +1,28 @@
 -- How much of its input the plan printer has to read. Document 01: "An input longer than any set counts as a set of the wrong
 -- length." The longest set has 34,830 bytes, and an input that is longer prints what its first 34,831 bytes print:
 --
---   longest           the bytes of the longest set
 --   longest-set       a set that meets none of 1 to 10 has no more
 --   long-refused      a longer input prints its first number
 --   long-number       .. which is 8 or an earlier one
 --   long-input        .. and so do its bytes up to the first too many, for any column places and word places
+--   long-printed      .. so the plan printer, which reads no more of them, writes the text of the whole input
 -- Assumes nothing.
 use mathlib.Core.Path.{_≡_, refl, sym, ap, ap₂, _∙_}
 use mathlib.Core.Bool.{Bool, true, false, cond, not, _||_}
-use mathlib.Core.List.{List, _∷_}
-use Prim.Native.Nat.{ℕ, zero, suc, _+_, _*_, _<_, _≤_}
+use mathlib.Core.List.{List}
+use Prim.Native.Nat.{ℕ, suc, _*_, _<_, _≤_}
 use native.Mathlib.Nat.{mul-le-mul-right}
 use native.Mathlib.Omega.{arith}
 use borrow.Author.Tests.{le-ltb, ltb-false, ne-eqb}
 use lib.Dec.{eqb, ltb}
 use lib.ListN.{length, take}
-use lib.Seq.{getD-take, length-take-le}
+use lib.Seq.{length-take-le}
 use Rattle.word.specs.Word.{badWidth}
 use Rattle.numbers.specs.Bytes.{numberAt, wordsAt}
-use Rattle.word.specs.Reply.{Reply, replied, firstOf}
+use Rattle.word.specs.Reply.{firstOf}
 use Rattle.word.proofs.BoolLaws.{or-false-right}
-use Rattle.numbers.proofs.ByteLaws.{number-at-zero, number-at-suc}
-use Rattle.word.proofs.ReplyLaws.{replied-refusal}
-use Rattle.word.proofs.TestLaws.{first-sooner}
+use Rattle.numbers.proofs.ByteLaws.{number-at-take, words-at-take}
+use Rattle.word.proofs.TestLaws.{first-sooner, cond-most}
 use Rattle.rows.specs.Row.{rowBytes}
 use Rattle.register.specs.Circuit.{badTaps, badChains, tooManySlices}
 use Rattle.chains.specs.Driven.{badSpread}
@@ -32,28 +31,11 @@ use Rattle.set_layout.proofs.LayoutLaws.{good-chains}
 use Rattle.set_file.specs.Reading.{badSlices, setTests}
 use Rattle.set_file.proofs.Laws.{Accepted, accepted, accepted-chains}
 use Rattle.columns.specs.Listing.{listTests}
-use Rattle.planner.specs.Planning.{PlanParts, earlierTests, planTests, partsOf, planReply}
-use Rattle.plan_text.specs.PlanText.{refusedLine, textOf, planText}
-
--- ---- numbers in the first bytes of a list
-
-number-at-take : (k : ℕ) (s : List ℕ) (n i : ℕ) → i + k ≤ n → numberAt k (take n s) i ≡ numberAt k s i
-number-at-take zero s n i h = number-at-zero (take n s) i ∙ sym (number-at-zero s i)
-number-at-take (suc k) s n i h =
-    number-at-suc k (take n s) i
-    ∙ ap₂ (λ (x y : ℕ). x + 256 * y) (getD-take n s i 0 (omega arith)) (number-at-take k s n (suc i) (omega arith))
-    ∙ sym (number-at-suc k s i)
-
-words-at-take : (k : ℕ) (s : List ℕ) (n i : ℕ) → i + 8 * k ≤ n → wordsAt (take n s) i k ≡ wordsAt s i k
-unfolding wordsAt
-words-at-take zero s n i h = refl
-words-at-take (suc k) s n i h =
-    ap₂ _∷_ (number-at-take 8 s n i (omega arith)) (words-at-take k s n (i + 8) (omega arith))
+use Rattle.plan_lines.specs.Lines.{refusedLine}
+use Rattle.plan_text.specs.PlanText.{planText, longest, printedText}
+use Rattle.plan_text.proofs.RefusalLaws.{listed-printed}
 
 -- ---- the longest set
-
-abbrev pub longest : ℕ
-longest = setLength 256 512
 
 set-length-most : (n s : ℕ) → n ≤ 256 → s ≤ 512 → setLength n s ≤ longest
 set-length-most n s hn hs =
@@ -71,10 +53,6 @@ alike b false n x y e h = ap (λ (d : Bool). cond d n x) e ∙ h refl
 
 stops : (b : Bool) (n x : ℕ) → b ≡ true → cond b n x ≡ n
 stops b n x e = ap (λ (d : Bool). cond d n x) e
-
-at-most : (b : Bool) (n x : ℕ) → n ≤ 8 → (b ≡ false → x ≤ 8) → cond b n x ≤ 8
-at-most true n x l h = l
-at-most false n x l h = h refl
 
 at-last : (b : Bool) (n x : ℕ) → n ≤ 8 → b ≡ true → cond b n x ≤ 8
 at-last b n x l e = omega (arith, stops b n x e)
@@ -154,19 +132,19 @@ module _ (set : List ℕ) (h : longest < length set) where
   pub long-number : firstOf (setTests set) ≤ 8
   unfolding setTests
   long-number =
-      at-most (ltb (length set) chainsAt) 1 _ (omega arith)
+      cond-most (ltb (length set) chainsAt) 8 1 _ (omega arith)
       (λ e1.
-      at-most (badWidth (widthOf set)) 2 _ (omega arith)
+      cond-most (badWidth (widthOf set)) 8 2 _ (omega arith)
       (λ e2.
-      at-most (badTaps (widthOf set) (tapsOf set)) 3 _ (omega arith)
+      cond-most (badTaps (widthOf set) (tapsOf set)) 8 3 _ (omega arith)
       (λ e3.
-      at-most (ltb (length set) spreadAt || badChains (chainsOf set)) 4 _ (omega arith)
+      cond-most (ltb (length set) spreadAt || badChains (chainsOf set)) 8 4 _ (omega arith)
       (λ e4.
-      at-most (ltb (length set) (slicesAt (chainsOf set))) 5 _ (omega arith)
+      cond-most (ltb (length set) (slicesAt (chainsOf set))) 8 5 _ (omega arith)
       (λ e5.
-      at-most (badSpread (widthOf set) (spreadOf set)) 6 _ (omega arith)
+      cond-most (badSpread (widthOf set) (spreadOf set)) 8 6 _ (omega arith)
       (λ e6.
-      at-most (badSlices set) 7 _ (omega arith)
+      cond-most (badSlices set) 8 7 _ (omega arith)
       (λ e7. at-last _ 8 _ (omega arith) (too-long (few-chains e4) (length set) h (few-slices (few-chains e4) e7)))))))))
 
   some-number : firstOf (setTests set) ≡ 0 → ⊥
@@ -174,12 +152,8 @@ module _ (set : List ℕ) (h : longest < length set) where
 
 -- a set that meets one of 1 to 10 prints it
 number-printed : (set : List ℕ) (k l : ℕ) → (firstOf (setTests set) ≡ 0 → ⊥) → planText set k l ≡ refusedLine (firstOf (setTests set))
-unfolding planText planReply planTests earlierTests listTests
-number-printed set k l h =
-    let listed = first-sooner (setTests set) _ _ refl h in
-    let first = first-sooner (earlierTests set k) _ _ (first-sooner (listTests set k) _ _ listed h) h in
-    ap (λ (x : Reply PlanParts). textOf x set)
-    (ap (λ (x : ℕ). replied x (partsOf set)) (sym first) ∙ replied-refusal (firstOf (setTests set)) (partsOf set) h)
+unfolding listTests
+number-printed set k l h = listed-printed set k l (firstOf (setTests set)) (first-sooner (setTests set) _ _ refl h) h
 
 pub long-refused : (set : List ℕ) (k l : ℕ) → longest < length set → planText set k l ≡ refusedLine (firstOf (setTests set))
 long-refused set k l h = number-printed set k l (some-number set h)
@@ -188,3 +162,7 @@ pub long-input : (set : List ℕ) (k l : ℕ) → longest < length set → planT
 long-input set k l h =
     number-printed (take (suc longest) set) k l (λ (z : firstOf (setTests (take (suc longest) set)) ≡ 0). some-number set h (sym (same-first set h) ∙ z))
     ∙ ap refusedLine (same-first set h) ∙ sym (long-refused set k l h)
+
+pub long-printed : (set : List ℕ) → longest < length set → printedText (take (suc longest) set) ≡ printedText set
+unfolding printedText
+long-printed set h = long-input set 4096 64 h

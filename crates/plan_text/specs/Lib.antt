@@ -1,2 +1,1 @@
 pub mod PlanText
-pub mod Code

@@ -1,45 +1,18 @@
--- What the plan printer writes. Document 01: "First line: m, n, s, unknown cells. Each word line: index, word, expected bit.
--- Last: q. A refusal prints one line only, as `refused 14`."
+-- What the plan printer writes, in the lines of plan_lines/specs/Lines: of a plan the set's line, a line for each word and the last
+-- line; of a refusal its line alone.
 --
---   sp, newline         a space, the end of a line
---   setLine m n s u     "set m n s u"
---   wordLine i w b      "word i w b"
---   wordLines i ws e    a line for each of the words ws, the first of which is word i, with the expected bits e
---   endLine q           "end q"
---   refusedLine n       "refused n"
 --   textOf r set        the text for the reply r of planning the set
 --   planText set k l    the whole text, for k column places and l word places
-use mathlib.Core.List.{List, [], _∷_, _++_}
-use Prim.Native.Nat.{ℕ, suc}
-use Rattle.word.specs.Word.{digit}
+--   longest             the bytes of the longest set
+--   printedText set     what the plan printer writes for the set. Document 01: "It lends 4,096 column places". It lends 64 word places, as
+--                       many as a register can have bits
+use mathlib.Core.List.{List, _++_}
+use Prim.Native.Nat.{ℕ}
 use Rattle.word.specs.Reply.{Reply, answer, refusal}
-use Rattle.set_layout.specs.Layout.{widthOf, chainsOf, slicesOf}
+use Rattle.set_layout.specs.Layout.{setLength, widthOf, chainsOf, slicesOf}
 use Rattle.signatures.specs.Sets.{unknownsOf}
 use Rattle.planner.specs.Planning.{PlanParts, wordsOf, planReply}
-use Rattle.text.specs.Text.{decimal}
-
-abbrev pub sp : List ℕ
-sp = 32 ∷ []
-
-abbrev pub newline : List ℕ
-newline = 10 ∷ []
-
-unfoldable pub setLine : ℕ → ℕ → ℕ → ℕ → List ℕ
-setLine m n s u =
-    (115 ∷ 101 ∷ 116 ∷ 32 ∷ []) ++ decimal m ++ sp ++ decimal n ++ sp ++ decimal s ++ sp ++ decimal u ++ newline
-
-unfoldable pub wordLine : ℕ → ℕ → ℕ → List ℕ
-wordLine i w b = (119 ∷ 111 ∷ 114 ∷ 100 ∷ 32 ∷ []) ++ decimal i ++ sp ++ decimal w ++ sp ++ decimal b ++ newline
-
-unfoldable pub wordLines : ℕ → List ℕ → ℕ → List ℕ
-wordLines i [] e = []
-wordLines i (w ∷ ws) e = wordLine i w (digit i e) ++ wordLines (suc i) ws e
-
-unfoldable pub endLine : ℕ → List ℕ
-endLine q = (101 ∷ 110 ∷ 100 ∷ 32 ∷ []) ++ decimal q ++ newline
-
-unfoldable pub refusedLine : ℕ → List ℕ
-refusedLine n = (114 ∷ 101 ∷ 102 ∷ 117 ∷ 115 ∷ 101 ∷ 100 ∷ 32 ∷ []) ++ decimal n ++ newline
+use Rattle.plan_lines.specs.Lines.{setLine, wordLines, endLine, refusedLine}
 
 abbrev pub textOf : Reply PlanParts → List ℕ → List ℕ
 textOf (answer p) set =
@@ -48,3 +21,10 @@ textOf (refusal n) set = refusedLine n
 
 unfoldable pub planText : List ℕ → ℕ → ℕ → List ℕ
 planText set k l = textOf (planReply set k l) set
+
+-- 256 chains and 512 slices
+abbrev pub longest : ℕ
+longest = setLength 256 512
+
+unfoldable pub printedText : List ℕ → List ℕ
+printedText set = planText set 4096 64

@@ -1,13 +1,14 @@
--- Each way out of planning, and what it answers and leaves in the two lent lists. Assumes nothing.
+-- Each way out of planning, and what it answers and leaves in the two lent lists; what a caller knows of an answer: its parts are the
+-- set's (planned-parts), and the words, at most 64 (words-few), stand at the front of the word list (words-front). Assumes nothing.
 use mathlib.Core.Path.{_≡_, refl, sym, ap, ap₂, _∙_, subst}
 use mathlib.Core.Bool.{true}
 use mathlib.Core.List.{List, [], _∷_, append-assoc}
 use Prim.Native.Nat.{ℕ, zero, suc, _≤_}
 use native.Mathlib.Omega.{arith}
 use lib.Dec.{ltb}
-use lib.ListN.{length, take, drop, length-append}
-use lib.Seq.{take-append-seam, take-all}
-use Rattle.word.proofs.ReplyLaws.{refusal-leaves}
+use lib.ListN.{length, take}
+use lib.Seq.{take-all}
+use Rattle.word.proofs.ReplyLaws.{refusal-leaves, front-part}
 use Rattle.word.specs.Parities.{parities}
 use Rattle.word.specs.Reply.{Test, _when_, Reply, answer, refusal, reply, replied, firstOf, numberOf, front, lent}
 use Rattle.word.proofs.TestLaws.{numbered, first-of-later, first-of-sooner, replied-answer, replied-number, replied-not-zero, replied-alike}
@@ -27,9 +28,9 @@ use Rattle.set_file.specs.Reading.{setTests, takenCircuit}
 use Rattle.set_file.proofs.Laws.{Accepted, accepted, accepted-width}
 use Rattle.signatures.specs.Sets.{columnsOf, unknownsOf, zeroSignature}
 use Rattle.columns.proofs.CallLaws.{Lists}
-use Rattle.columns.specs.Listing.{listTests, listReply}
+use Rattle.columns.specs.Listing.{listTests, listReply, columnsAfter}
 use Rattle.signatures.proofs.SetLaws.{length-columns, columns-of-within, zero-of-values}
-use Rattle.planner.specs.Planning.{wordsOf, expectedOf, earlierTests, planTests, PlanParts, partsOf, planReply, columnsAfter, said}
+use Rattle.planner.specs.Planning.{wordsOf, expectedOf, earlierTests, planTests, PlanParts, partsOf, planReply, said}
 use Rattle.planner.specs.declared.Planned.{Planned}
 use Rattle.planner.specs.declared.Planned.the-variants.{Plan, Refused}
 
@@ -45,6 +46,14 @@ refusing n (suc k) a e z = ap (λ (x : ℕ). replied x a) e
 
 ends-refused : (set cs ws cs′ : List ℕ) (k : ℕ) → planReply set (length cs) (length ws) ≡ refusal k → cs′ ≡ columnsAfter set cs → Ends set cs ws (Refused k) cs′ ws
 ends-refused set cs ws cs′ k h e = let left = refusal-leaves _ _ k (wordsOf set) ws h refl in (left .0, (e, left .1))
+
+-- a set has no more words than its register has bits
+pub words-most : (set : List ℕ) → Accepted set → length (wordsOf set) ≤ widthOf set
+unfolding wordsOf columnsOf
+words-most set a = omega (arith, words-and-rank (widthOf set) (columnsOf set) (columns-of-within set a))
+
+pub words-few : (set : List ℕ) → Accepted set → length (wordsOf set) ≤ 64
+words-few set a = omega (arith, words-most set a, accepted-width set a .1)
 
 counted : List ℕ → Counts
 counted set = record { rank = rank (columnsOf set); q = length (reducedList (widthOf set) (columnsOf set)) }
@@ -75,7 +84,7 @@ told e n k r h = ap refusal (h ∙ ap (λ (x : Eliminated). numberOf (eliminated
 -- ---- the set is refused, or 14
 
 pub ends-unlisted : (set cs ws : List ℕ) (k : ℕ) → Lists set cs (refusal k) cs → Ends set cs ws (Refused k) cs ws
-unfolding planReply planTests earlierTests columnsAfter listReply
+unfolding planReply planTests earlierTests listReply
 ends-unlisted set cs ws k l =
     let number : firstOf (listTests set (length cs)) ≡ k = replied-number (firstOf (listTests set (length cs))) (unknownsOf set) k (sym (l .0)) in
     let some : k ≡ 0 → ⊥ = replied-not-zero (firstOf (listTests set (length cs))) (unknownsOf set) k (sym (l .0)) in
@@ -118,12 +127,9 @@ module _ (set cs cs′ ws : List ℕ) (a : Accepted set) (u : ℕ) (l : Lists se
 
   -- the columns stand at the front
   pub listed-columns : take u cs′ ≡ columnsOf set
-  unfolding front
-  listed-columns =
-      ap₂ take (unknown-count ∙ sym (length-columns set)) written ∙ take-append-seam (columnsOf set) (drop (length (columnsOf set)) cs)
+  listed-columns = front-part (columnsOf set) cs cs′ u written (unknown-count ∙ sym (length-columns set)) .1
 
   columns-kept : cs′ ≡ columnsAfter set cs
-  unfolding columnsAfter
   columns-kept = l .1
 
   module _ (m : ℕ) (em : m ≡ widthOf set) where
@@ -160,21 +166,15 @@ module _ (set cs cs′ ws : List ℕ) (a : Accepted set) (u : ℕ) (l : Lists se
       planned-words =
           w ∙ sym (ap (λ (x : Reply Counts). lent x (reducedList m (take u cs′)) ws) h) ∙ ap (λ (x : List ℕ). front x ws) words-of
 
+      planned-part : (q ≤ length ws′) × (take q ws′ ≡ wordsOf set)
+      planned-part = front-part (wordsOf set) ws ws′ q planned-words planned-count
+
       -- the words stand in the list
       pub planned-room : q ≤ length ws′
-      unfolding front
-      planned-room =
-          omega (arith, planned-count, ap length planned-words, length-append (wordsOf set) (drop (length (wordsOf set)) ws))
-
-      planned-few : length (wordsOf set) ≤ 64
-      unfolding wordsOf columnsOf
-      planned-few = omega (arith, words-and-rank (widthOf set) (columnsOf set) (columns-of-within set a), accepted-width set a .1)
+      planned-room = planned-part .0
 
       planned-taken : take 64 (take q ws′) ≡ wordsOf set
-      unfolding front
-      planned-taken =
-          ap (take 64) (ap₂ take planned-count planned-words ∙ take-append-seam (wordsOf set) (drop (length (wordsOf set)) ws))
-          ∙ take-all 64 (wordsOf set) planned-few
+      planned-taken = ap (take 64) (planned-part .1) ∙ take-all 64 (wordsOf set) (words-few set a)
 
       planned-reply : planReply set (length cs) (length ws) ≡ answer (partsOf set)
       unfolding planReply
@@ -186,3 +186,15 @@ module _ (set cs cs′ ws : List ℕ) (a : Accepted set) (u : ℕ) (l : Lists se
         parts em planned-count (e ∙ ap (λ (x : List ℕ). parities x (zeroSignature set)) planned-taken) ∙ sym planned-reply,
         (columns-kept, planned-words ∙ sym (ap (λ (x : Reply PlanParts). lent x (wordsOf set) ws) planned-reply)),
       )
+
+-- ---- what a caller knows of an answer
+
+pub planned-parts : (set : List ℕ) (k l : ℕ) (p : PlanParts) → planReply set k l ≡ answer p → p ≡ partsOf set
+unfolding planReply
+planned-parts set k l p h = replied-answer (firstOf (planTests set k l)) (partsOf set) p h .1
+
+pub words-front : (set ws ws′ : List ℕ) (k : ℕ) (p : PlanParts) → planReply set k (length ws) ≡ answer p
+    → ws′ ≡ lent (planReply set k (length ws)) (wordsOf set) ws → (p .q ≤ length ws′) × (take (p .q) ws′ ≡ wordsOf set)
+words-front set ws ws′ k p h e =
+    front-part (wordsOf set) ws ws′ (p .q) (e ∙ ap (λ (r : Reply PlanParts). lent r (wordsOf set) ws) h)
+    (ap (λ (x : PlanParts). x .q) (planned-parts set k (length ws) p h))

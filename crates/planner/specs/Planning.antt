@@ -1,6 +1,6 @@
 -- Planning. Document 01: "Planning is lent a column list and a word list and answers with m, q and the expected bits as one
 -- word, bit i for word i"; "planning that gets past 14 has filled the front of its column list with the columns, whether or not
--- 16, 17 or 18 follows"; "The expected bit of a word is the parity of the bits it shares with the signature for all unknowns 0."
+-- 16, 17 or 18 follows": that list at exit is columns/specs/Listing columnsAfter; "The expected bit of a word is the parity of the bits it shares with the signature for all unknowns 0."
 --
 --   wordsFor g              document 01: the plan's words, the reduced list for the columns of what is given
 --   wordsOf set             .. of a set
@@ -10,20 +10,19 @@
 --   planTests set k l       the numbers that planning meets, in order, for k column places and l word places
 --   PlanParts               what planning answers
 --   planReply set k l       its reply
---   columnsAfter set cs     the lent column list at exit
 --   said p                  the paper's reading of what planning hands back
 use mathlib.Core.List.{List, [], _∷_, _++_}
 use Prim.Native.Nat.{ℕ}
 use lib.Dec.{ltb}
 use lib.ListN.{length}
 use Rattle.word.specs.Parities.{parities}
-use Rattle.word.specs.Reply.{Test, _when_, Reply, answer, refusal, reply, lent}
+use Rattle.word.specs.Reply.{Test, _when_, Reply, answer, refusal, reply}
 use Rattle.combinations.specs.Combination.{rank, onlyEmpty}
 use Rattle.combinations.specs.Reduced.{reducedList}
 use Rattle.set_layout.specs.Layout.{widthOf}
 use Rattle.signatures.specs.Given.{Given, columnsFor}
 use Rattle.signatures.specs.Sets.{given, columnsOf, zeroSignature}
-use Rattle.columns.specs.Listing.{listTests, listReply}
+use Rattle.columns.specs.Listing.{listTests}
 use Rattle.planner.specs.declared.Planned.{Planned}
 use Rattle.planner.specs.declared.Planned.the-variants.{Plan, Refused}
 
@@ -58,9 +57,6 @@ partsOf set = record { m = widthOf set; q = length (wordsOf set); expected = exp
 
 unfoldable pub planReply : List ℕ → ℕ → ℕ → Reply PlanParts
 planReply set k l = reply (planTests set k l) (partsOf set)
-
-unfoldable pub columnsAfter : List ℕ → List ℕ → List ℕ
-columnsAfter set cs = lent (listReply set (length cs)) (columnsOf set) cs
 
 abbrev pub said : Planned → Reply PlanParts
 said (Plan w k e) = answer (record { m = w; q = k; expected = e })

@@ -2,7 +2,8 @@
 ghost use mathlib.Core.Path.{_≡_};
 ghost use lib.ListN.{length};
 ghost use Rattle.word.specs.Reply.{lent, numberOf};
-ghost use Rattle.planner.specs.Planning.{wordsOf, planReply, columnsAfter, said};
+ghost use Rattle.columns.specs.Listing.{columnsAfter};
+ghost use Rattle.planner.specs.Planning.{wordsOf, planReply, said};
 use elimination::Eliminated;
 use set_file::SetAnswer;
 use set_file::Taken;

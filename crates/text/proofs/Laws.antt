@@ -1,24 +1,20 @@
 -- The start, turn and end of the loops that put bytes and make digits. Assumes nothing.
-use mathlib.Core.Path.{_≡_, refl, sym, ap, ap₂, _∙_, subst}
-use mathlib.Core.Bool.{Bool, true, false, cond}
+use mathlib.Core.Path.{_≡_, sym, ap, ap₂, _∙_, subst}
 use mathlib.Core.List.{List, [], _∷_, _++_, append-assoc, append-nil}
-use Prim.Native.Nat.{ℕ, zero, suc, _+_, _-_, _*_, _/_, _%_, _^_, _<_, _≤_}
-use native.Mathlib.Nat.{add-zero, add-suc, pow-suc, mod-eq-of-lt}
+use Prim.Native.Nat.{ℕ, zero, suc, min, _+_, _-_, _/_, _%_, _^_, _<_, _≤_}
+use native.Mathlib.Nat.{add-zero, add-suc, pow-suc}
 use native.Mathlib.Numerals.{add-one}
 use native.Mathlib.Omega.{arith}
-use borrow.Author.Tests.{le-leb, lt-leb, lt-ltb, le-ltb}
-use lib.Dec.{leb, ltb}
 use lib.ListN.{length, getD, set, take, drop, length-set, length-drop, drop-of-length-le}
 use lib.Seq.{sets, take-all, drop-cons, drop-set-lt, getD-set-same}
 use Rattle.numbers.proofs.ByteLaws.{sets-past-end}
-use Rattle.text.specs.Text.{digitsIn, decimal, placeAfter}
+use Rattle.text.specs.Text.{digitsIn, decimal, Put}
+use Rattle.text.proofs.DecimalLaws.{digits-more, digits-last}
 
 -- ---- bytes
 
-pub put-past : (l vs : List ℕ) (at : ℕ) → length l < at → (at ≡ placeAfter l at (length vs)) × (l ≡ sets l at vs)
-unfolding placeAfter
-put-past l vs at h =
-    (sym (ap (λ (b : Bool). cond b (at + length vs) at) (lt-leb at (length l) h)), sym (sets-past-end vs l at (omega arith)))
+pub put-past : (l vs : List ℕ) (at : ℕ) → length l < at → Put l at vs (length l) l
+put-past l vs at h = record { place = omega arith; bytes = sym (sets-past-end vs l at (omega arith)) }
 
 pub put-start : (l vs : List ℕ) (at : ℕ) → sets l (at + 0) vs ≡ sets l at vs
 put-start l vs at = ap (λ (n : ℕ). sets l n vs) (add-zero at)
@@ -30,14 +26,10 @@ put-turn l vs ws at i done h inv e =
     ∙ ap (λ (x : List ℕ). sets x (suc (at + i)) (drop (suc i) vs)) e
     ∙ ap (sets ws (at + i)) (sym (drop-cons vs i 0 h)) ∙ inv
 
-pub put-end : (l vs ws : List ℕ) (at i : ℕ) → i ≤ length vs → length vs ≤ i → at ≤ length l → sets ws (at + i) (drop i vs) ≡ sets l at vs
-    → (at + i ≡ placeAfter l at (length vs)) × (ws ≡ sets l at vs)
-unfolding placeAfter
-put-end l vs ws at i a b h inv =
-    let all : i ≡ length vs = omega arith in (
-      ap (at +_) all ∙ sym (ap (λ (b : Bool). cond b (at + length vs) at) (le-leb at (length l) h)),
-      ap (sets ws (at + i)) (sym (drop-of-length-le vs b)) ∙ inv,
-    )
+pub put-end : (l vs ws : List ℕ) (at i r : ℕ) → i ≤ length vs → length vs ≤ i → length ws ≡ length l → sets ws (at + i) (drop i vs) ≡ sets l at vs
+    → r ≡ min (at + i) (length ws) → Put l at vs r ws
+put-end l vs ws at i r a b h inv e =
+    record { place = omega arith; bytes = ap (sets ws (at + i)) (sym (drop-of-length-le vs b)) ∙ inv }
 
 -- ---- digits
 
@@ -64,16 +56,6 @@ pub two-left : (left i : ℕ) → left < 10 ^ i → 9 < left → 2 ≤ i
 two-left left zero s h = let z : ⊥ = omega arith in absurd z
 two-left left (suc zero) s h = let z : ⊥ = omega arith in absurd z
 two-left left (suc (suc i)) s h = omega arith
-
-digits-more : (k left : ℕ) → 9 < left → digitsIn (suc k) left ≡ digitsIn k (left / 10) ++ (48 + left % 10) ∷ []
-unfolding digitsIn
-digits-more k left h =
-    ap (λ (b : Bool). cond b ((48 + left) ∷ []) (digitsIn k (left / 10) ++ (48 + left % 10) ∷ [])) (le-ltb left 10 (omega arith))
-
-digits-last : (k left : ℕ) → left ≤ 9 → digitsIn (suc k) left ≡ (48 + left) ∷ []
-unfolding digitsIn
-digits-last k left h =
-    ap (λ (b : Bool). cond b ((48 + left) ∷ []) (digitsIn k (left / 10) ++ (48 + left % 10) ∷ [])) (lt-ltb left 10 (omega arith))
 
 -- the byte at place k is set, and those behind it stay
 set-behind : (bytes : List ℕ) (k v : ℕ) → k < length bytes → drop k (set bytes k v) ≡ v ∷ drop (suc k) bytes
@@ -116,11 +98,7 @@ digiting-end n bytes left i d h =
     let e : i ≡ suc (i - 1) = omega (arith, d .low) in
     end-at n bytes left (i - 1) (subst (Digiting n bytes left) e d) h
 
-pub decimal-put : (l bytes l′ : List ℕ) (at from n r : ℕ) → length bytes ≡ 20 → drop from bytes ≡ decimal n
-    → r ≡ placeAfter l at (length (take (20 - from) (drop from bytes))) → l′ ≡ sets l at (take (20 - from) (drop from bytes))
-    → (r ≡ placeAfter l at (length (decimal n))) × (l′ ≡ sets l at (decimal n))
-decimal-put l bytes l′ at from n r long e p s =
-    let part : take (20 - from) (drop from bytes) ≡ decimal n =
-    take-all (20 - from) (drop from bytes) (omega (arith, length-drop from bytes)) ∙ e
-    in
-    (p ∙ ap (λ (x : List ℕ). placeAfter l at (length x)) part, s ∙ ap (sets l at) part)
+pub decimal-put : {l : List ℕ} {at : ℕ} (bytes : List ℕ) (from n : ℕ) {r : ℕ} {l′ : List ℕ} → length bytes ≡ 20 → drop from bytes ≡ decimal n
+    → Put l at (take (20 - from) (drop from bytes)) r l′ → Put l at (decimal n) r l′
+decimal-put {l = l} {at = at} bytes from n {r = r} {l′ = l′} long e p =
+    subst (λ (vs : List ℕ). Put l at vs r l′) (take-all (20 - from) (drop from bytes) (omega (arith, length-drop from bytes)) ∙ e) p

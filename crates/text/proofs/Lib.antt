@@ -1,1 +1,3 @@
+pub mod DecimalLaws
+pub mod PutLaws
 pub mod Laws

@@ -1,24 +1,23 @@
-// Text in a lent buffer: bytes and decimal numbers, one after the other. Nothing is written past the buffer's end.
+// Text in a lent buffer: bytes and decimal numbers, one after the other. It sees numbers in lists of bytes. Every function is total:
+// nothing is written past the buffer's end, and no place that is answered lies past it.
 ghost use mathlib.Core.Path.{_≡_};
 ghost use Prim.Native.Nat.{_≤_};
 ghost use lib.ListN.{length, drop};
-ghost use lib.Seq.{sets};
-ghost use Rattle.text.specs.Text.{decimal, placeAfter};
+ghost use Rattle.text.specs.Text.{decimal, Put};
 
-// The bytes of `text` into `out` from place `at`; answers with the place behind them.
+// The bytes of `text` into `out` from place `at`; answers with the place behind them, or with the buffer's end where they reach past it.
 pub fn put(out: &mut [u8], at: usize, text: &[u8]) -> usize
-    ensures place { λ r. ⌜ r ≡ placeAfter (now (out .entry)) at (length (now (text .entry))) ⌝ }
-    ensures bytes { λ _. ⌜ now (out .exit) ≡ sets (now (out .entry)) at (now (text .entry)) ⌝ }
+    ensures { λ r. ⌜ Put (now (out .entry)) at (now (text .entry)) r (now (out .exit)) ⌝ }
 {
     if out.len() < at {
-        return at;
+        return out.len();
     }
     let mut i: usize = 0;
     while i < text.len() {
         written_numbers::write_byte(out, at + i, text[i]);
         i += 1;
     }
-    at + i
+    numbers::moved(at, i, out.len())
 }
 
 // A number's digits at the end of 20 bytes: they start at place `from`.
@@ -49,10 +48,9 @@ fn digits_of(n: u64) -> Digits
     Digits { bytes, from: i }
 }
 
-// The decimal digits of n into `out` from place `at`; answers with the place behind them.
+// The decimal digits of n into `out` from place `at`; answers with the place behind them as `put` does.
 pub fn put_decimal(out: &mut [u8], at: usize, n: u64) -> usize
-    ensures place { λ r. ⌜ r ≡ placeAfter (now (out .entry)) at (length (decimal n)) ⌝ }
-    ensures bytes { λ _. ⌜ now (out .exit) ≡ sets (now (out .entry)) at (decimal n) ⌝ }
+    ensures { λ r. ⌜ Put (now (out .entry)) at (decimal n) r (now (out .exit)) ⌝ }
 {
     let digits = digits_of(n);
     let bytes = digits.bytes;

@@ -3,8 +3,10 @@
 use mathlib.Core.Path.{_≡_, refl, sym, ap, _∙_}
 use mathlib.Core.Bool.{Bool, true, false, cond}
 use mathlib.Core.List.{List}
-use Prim.Native.Nat.{ℕ, zero, suc}
+use Prim.Native.Nat.{ℕ, zero, suc, _≤_}
 use native.Mathlib.Omega.{arith}
+use lib.ListN.{length, take, drop, length-append}
+use lib.Seq.{take-at}
 use Rattle.word.specs.Reply.{Reply, answer, refusal, replied, front, lent}
 
 -- a test that applies gives its number
@@ -59,3 +61,12 @@ pub answered-writes : {A : Type 0} {B : Type 0} (k n : ℕ) (a b : A) (vs l l′
     → Leaves (replied k a) vs (answer b) l l′
 answered-writes k n a b vs l l′ e z eb w =
     answer-leaves (replied k a) (answer b) b vs l l′ (sym (answered-reply k n a b e z eb)) refl w
+
+-- ---- what is written over the front of a list is its first part
+
+pub front-part : (vs l l′ : List ℕ) (n : ℕ) → l′ ≡ front vs l → n ≡ length vs → (n ≤ length l′) × (take n l′ ≡ vs)
+unfolding front
+front-part vs l l′ n e h = (
+  omega (arith, ap length e, length-append vs (drop (length vs) l)),
+  ap (take n) e ∙ take-at vs (drop (length vs) l) n (sym h),
+)

@@ -1,12 +1,15 @@
 -- Lists of tests of which none applies, lists of tests one after the other, and what a reply says of its tests. Assumes nothing.
 use mathlib.Core.Path.{_≡_, refl, sym, _∙_}
-use mathlib.Core.Bool.{Bool, true, false, cond}
+use mathlib.Core.Bool.{Bool, true, false, cond, _&&_}
 use mathlib.Core.Logic.{dite}
 use mathlib.Core.List.{List, [], _∷_, _++_}
-use Prim.Native.Nat.{ℕ, zero, suc}
+use Prim.Native.Nat.{ℕ, zero, suc, _≤_}
 use native.Mathlib.Decide.{ℕ-discrete}
 use native.Mathlib.Omega.{arith}
+use borrow.Author.Tests.{leb-true}
+use lib.Dec.{leb}
 use Rattle.word.specs.Reply.{Test, _when_, answer, refusal, replied, firstOf}
+use Rattle.word.proofs.BoolLaws.{and-left, and-right}
 
 pub none-and-rest : (b : Bool) (n k : ℕ) → cond b (suc n) k ≡ 0 → (b ≡ false) × (k ≡ 0)
 none-and-rest true n k h = let z : ⊥ = omega arith in absurd z
@@ -47,6 +50,23 @@ first-later ts us n k d e z h = h ∙ sym (first-of-later ts us d (sym e ∙ z))
 
 pub none-of-both : (ts us : List Test) → numbered ts ≡ true → firstOf (ts ++ us) ≡ 0 → (firstOf ts ≡ 0) × (firstOf us ≡ 0)
 none-of-both ts us d h = let none : firstOf ts ≡ 0 = first-of-none ts us h in (none, sym (first-of-later ts us d none) ∙ h)
+
+-- ---- how large the first number can be
+
+pub cond-most : (b : Bool) (n k x : ℕ) → k ≤ n → (b ≡ false → x ≤ n) → cond b k x ≤ n
+cond-most true n k x l h = l
+cond-most false n k x l h = h refl
+
+-- no test of the list has a number above n
+abbrev pub numberedTo : ℕ → List Test → Bool
+numberedTo n [] = true
+numberedTo n (k when b ∷ ts) = leb k n && numberedTo n ts
+
+pub first-of-most : (n : ℕ) (ts : List Test) → numberedTo n ts ≡ true → firstOf ts ≤ n
+first-of-most n [] d = omega arith
+first-of-most n (k when b ∷ ts) d =
+    let most : k ≤ n = leb-true k n (and-left (leb k n) (numberedTo n ts) d) in
+    cond-most b n k (firstOf ts) most (λ e. first-of-most n ts (and-right (leb k n) (numberedTo n ts) d))
 
 -- ---- what a reply says of its tests
 

@@ -5,7 +5,7 @@ use borrow.Author.Needs.{needs}
 use Rattle.set_file.proofs.ReadLaws.{refused-set, taken-set}
 use Rattle.columns.proofs.CallLaws.{list-set-refused, unknowns-are}
 use Rattle.planner.proofs.CallLaws.{ends-unlisted}
-use Rattle.plan_text.proofs.PrintLaws.{ends-at-set, prints-refused, printed-room, prints-plan}
+use Rattle.plan_text.proofs.PrintLaws.{ends-at-set, prints-refused, printed-words, prints-plan}
 use Rattle.plan_text.proofs.print_plan.Statement.{statement}
 use Rattle.plan_text.proofs.print_plan.Tie as tie
 
@@ -15,21 +15,21 @@ returns c =
     let refused = refused-set _ _ _ _ _ (c .before .before .before .before .before .read-set .ensures) (c .before .before .before .enum-told .given .1) (c .before .number-of .ensures) in
     let unlisted = list-set-refused _ (args .columns .now) _ (refused .0) (refused .1) in
     ends-at-set _ (args .columns .now) (args .words .now) (args .out .now) _ _ _ (ends-unlisted _ _ (args .words .now) _ unlisted)
-    (c .put-refused .ensures .0) (c .put-refused .ensures .1)
+    (search needs) (c .put-refused-line .ensures)
 
 returns-2 : tie.Need-returns-2
 returns-2 c =
     let args = c .before .before .before .before .before .before .before .before .before .before .before .before .before .before .before .before .before .before .before .args in
     let plan = c .before .before .before .before .before .before .before .before .before .plan .ensures in
     prints-refused (args .set .now) (args .columns .now) (args .words .now) (args .out .now) _ _ _ _ _ _ _ plan
-    (c .before .before .before .enum-told2 .given .1) (c .before .number-of2 .ensures) (c .put-refused2 .ensures .0) (c .put-refused2 .ensures .1)
+    (c .before .before .before .enum-told2 .given .1) (c .before .number-of2 .ensures) (search needs) (c .put-refused-line2 .ensures)
 
 -- the words stand in the word list
 slice-reshare-prefix-put-word-lines : tie.Need-slice-reshare-prefix-put-word-lines
 slice-reshare-prefix-put-word-lines c =
     let args = c .before .before .before .before .before .before .before .before .before .before .before .before .before .before .before .before .before .before .before .before .before .before .args in
     let plan = c .before .before .before .before .before .before .before .before .before .before .before .before .plan .ensures in
-    printed-room (args .set .now) (args .columns .now) (args .words .now) _ (plan .0) _ _ _ (c .before .before .before .before .before .before .planned .given .1) _ (plan .1 .1)
+    printed-words (args .set .now) (args .columns .now) (args .words .now) _ (plan .0) _ _ _ (c .before .before .before .before .before .before .planned .given .1) _ (plan .1 .1) .0
 
 slice-aggregate-put-word-lines : tie.Need-slice-aggregate-put-word-lines
 slice-aggregate-put-word-lines c = sym (length-take-le _ _ (slice-reshare-prefix-put-word-lines (c .before)))

@@ -1,10 +1,10 @@
 -- `put_word_lines` meets its contract: the lines put, and those still to be put.
 use Prim.Native.Nat.{_-_}
 use lib.ListN.{length}
-use Rattle.plan_text.proofs.PutLaws.{Lining, lining-start, lining-turn, lining-end}
+use Rattle.plan_lines.proofs.PieceLaws.{Lining, lining-start, lining-turn, lining-end}
 use borrow.Author.Needs.{needs}
-use Rattle.plan_text.proofs.put_word_lines.Statement.{statement}
-use Rattle.plan_text.proofs.put_word_lines.Tie as tie
+use Rattle.plan_lines.proofs.put_word_lines.Statement.{statement}
+use Rattle.plan_lines.proofs.put_word_lines.Tie as tie
 
 abbrev Inv-loop : tie.InvT-loop
 Inv-loop out₀ at words expected place₀ bits₀ i₀ out place bits i = Lining out₀ at words expected out place bits i
@@ -13,7 +13,7 @@ abbrev μ-loop : tie.MeasureT-loop
 μ-loop out₀ at words expected place₀ bits₀ i₀ out place bits i = length words - i
 
 loop-holds : tie.Need-loop-holds Inv-loop μ-loop
-loop-holds c = lining-start _ _ _ _
+loop-holds c = lining-start _ _ _ _ _ (c .moved .ensures)
 
 loop-again : tie.Need-loop-again Inv-loop μ-loop
 loop-again c =
@@ -29,6 +29,7 @@ put-word-lines-spec =
     (tie.spec
     Inv-loop
     μ-loop
+    (λ c κs. search needs)
     loop-holds
     (λ c. search needs)
     (λ c. search needs)

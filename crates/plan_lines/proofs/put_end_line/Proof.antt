@@ -1,13 +1,13 @@
 -- `put_end_line` meets its contract: its name, then a number.
-use Rattle.plan_text.proofs.PutLaws.{end-line-put}
+use Rattle.plan_lines.proofs.PieceLaws.{end-line-put}
 use borrow.Author.Needs.{needs}
-use Rattle.plan_text.proofs.put_end_line.Statement.{statement}
-use Rattle.plan_text.proofs.put_end_line.Tie as tie
+use Rattle.plan_lines.proofs.put_end_line.Statement.{statement}
+use Rattle.plan_lines.proofs.put_end_line.Tie as tie
 
 returns : tie.Need-returns
 returns c =
     let name = c .before .before .before .before .before .before .before .put .ensures in
-    end-line-put _ (name .0) (name .1) (c .before .before .put-number .ensures)
+    end-line-put _ name (c .before .before .put-number .ensures)
 
 pub put-end-line-spec : {M : Type 1} → statement M
 put-end-line-spec =

@@ -1,8 +1,8 @@
 -- `put_set_line` meets its contract: its name, then four numbers.
-use Rattle.plan_text.proofs.PutLaws.{set-line-put}
+use Rattle.plan_lines.proofs.PieceLaws.{set-line-put}
 use borrow.Author.Needs.{needs}
-use Rattle.plan_text.proofs.put_set_line.Statement.{statement}
-use Rattle.plan_text.proofs.put_set_line.Tie as tie
+use Rattle.plan_lines.proofs.put_set_line.Statement.{statement}
+use Rattle.plan_lines.proofs.put_set_line.Tie as tie
 
 returns : tie.Need-returns
 returns c =
@@ -10,7 +10,7 @@ returns c =
     let width = c .before .before .before .before .before .before .before .before .before .before .before .before .before .before .before .before .before .put-number .ensures in
     let chains = c .before .before .before .before .before .before .before .before .before .before .before .before .put-number2 .ensures in
     let slices = c .before .before .before .before .before .before .before .put-number3 .ensures in
-    set-line-put _ _ _ _ (name .0) (name .1) width chains slices (c .before .before .put-number4 .ensures)
+    set-line-put _ _ _ _ name width chains slices (c .before .before .put-number4 .ensures)
 
 pub put-set-line-spec : {M : Type 1} → statement M
 put-set-line-spec =

@@ -1,0 +1,52 @@
+-- What the text of a refusal says.
+--
+--   refused-text     the text is the line of the refusal n, a number of at most 20 digits, exactly when planning's reply is that refusal
+--   listed-printed   a number that listing the columns meets, 1 to 10 or 14, is printed
+--   more-unknowns    a set that meets none of 1 to 10 and has more unknown cells than there are column places prints 14
+-- Assumes nothing.
+use mathlib.Core.Path.{_≡_, refl, sym, ap, _∙_}
+use mathlib.Core.List.{List}
+use Prim.Native.Nat.{ℕ, zero, suc, _^_, _<_, _≤_}
+use native.Mathlib.Omega.{arith}
+use borrow.Author.Tests.{lt-ltb}
+use Rattle.word.specs.Reply.{Reply, refusal, replied, firstOf}
+use Rattle.word.proofs.ReplyLaws.{replied-refusal}
+use Rattle.word.proofs.TestLaws.{first-of-later, first-sooner, first-of-most}
+use Rattle.set_file.specs.Reading.{setTests}
+use Rattle.set_file.proofs.Laws.{set-numbered}
+use Rattle.signatures.specs.Sets.{unknownsOf}
+use Rattle.columns.specs.Listing.{listTests}
+use Rattle.planner.specs.Planning.{PlanParts, earlierTests, planTests, partsOf, planReply}
+use Rattle.plan_lines.specs.Lines.{refusedLine}
+use Rattle.plan_lines.proofs.LineLaws.{refused-line-same, set-line-no-refusal}
+use Rattle.plan_text.specs.PlanText.{textOf, planText}
+
+few-numbers : (set : List ℕ) (k l : ℕ) → firstOf (planTests set k l) ≤ 18
+unfolding planTests earlierTests listTests setTests
+few-numbers set k l = first-of-most 18 (planTests set k l) refl
+
+-- the text of a reply whose first number is j; 0 stands for none
+number-told : (set : List ℕ) (j n : ℕ) → j ≤ 18 → n < 10 ^ 20 → textOf (replied j (partsOf set)) set ≡ refusedLine n → replied j (partsOf set) ≡ refusal n
+number-told set zero n hj hn h = absurd (set-line-no-refusal _ _ _ _ _ _ n h)
+number-told set (suc j) n hj hn h = ap refusal (refused-line-same (suc j) n (omega arith) hn h)
+
+pub refused-text : (set : List ℕ) (k l n : ℕ) → n < 10 ^ 20
+    → (planText set k l ≡ refusedLine n → planReply set k l ≡ refusal n) × (planReply set k l ≡ refusal n → planText set k l ≡ refusedLine n)
+unfolding planText planReply
+refused-text set k l n h = (
+  number-told set (firstOf (planTests set k l)) n (few-numbers set k l) h,
+  (λ e. ap (λ (r : Reply PlanParts). textOf r set) e),
+)
+
+pub listed-printed : (set : List ℕ) (k l n : ℕ) → n ≡ firstOf (listTests set k) → (n ≡ 0 → ⊥) → planText set k l ≡ refusedLine n
+unfolding planText planReply planTests earlierTests
+listed-printed set k l n e h =
+    let first : n ≡ firstOf (planTests set k l) = first-sooner (earlierTests set k) _ n (first-sooner (listTests set k) _ n e h) h in
+    ap (λ (r : Reply PlanParts). textOf r set)
+    (ap (λ (x : ℕ). replied x (partsOf set)) (sym first) ∙ replied-refusal n (partsOf set) h)
+
+pub more-unknowns : (set : List ℕ) (k l : ℕ) → firstOf (setTests set) ≡ 0 → k < unknownsOf set → planText set k l ≡ refusedLine 14
+unfolding listTests
+more-unknowns set k l h more =
+    listed-printed set k l 14 (sym (first-of-later (setTests set) _ (set-numbered set) h ∙ (rw (lt-ltb k (unknownsOf set) more))))
+    (λ (z : 14 ≡ 0). omega arith)
