@@ -8,11 +8,13 @@
 # make bench  the benchmark's tables, and the picture docs/growth.svg
 # make faults  each fault of reference/faults/ put into the second implementation, and what the tests say of it (not in the gate)
 # make wrong  each must-fail edit as a program without proof, run beside the library: an edit that behaves the same is no wrong
-#             program (not in the gate; make wrong EDITS="judge planner/refuses_at_m_unknowns": a crate's edits and one edit)
+#             program (not in the gate; make wrong EDITS="judge planner/expected_bits_all_zero": a crate's edits and one edit)
 # make bench-instructions   instructions of each call, by valgrind's callgrind
+# make bench-against BEFORE=folder   each call beside that of another folder of this repository (make lib has been run there), in
+#             one run
 # make bench-csv   rows a second of canceller judge --csv, and the library's share of the time
 # make fmt    lay every source out as the gate asks
-.PHONY: run test lib command install uninstall soak faults wrong bench bench-instructions bench-csv fmt tools cargo rust-tools
+.PHONY: run test lib command install uninstall soak faults wrong bench bench-instructions bench-against bench-csv fmt tools cargo rust-tools
 
 SECONDS ?= 60
 
@@ -55,6 +57,9 @@ bench: lib rust-tools
 
 bench-instructions: lib rust-tools
 	scripts/bench.sh instructions
+
+bench-against: lib rust-tools
+	scripts/bench.sh against "$(BEFORE)"
 
 bench-csv: command
 	mkdir -p target/bench

@@ -4,6 +4,8 @@
 # doesn't compile is an error.
 #   scripts/bench.sh               the tables, and the picture docs/growth.svg
 #   scripts/bench.sh instructions  instructions of each call by valgrind's callgrind, ours and the same algorithm in Rust
+#   scripts/bench.sh against FOLDER  each call beside that of another folder of this repository, in one run; `make lib` has been
+#                                  run there, and its benchmark is built as it stands there
 set -euo pipefail
 cd "$(dirname "$0")/.."
 
@@ -39,6 +41,11 @@ if [ "${1:-}" = instructions ]; then
         rust=$(each "$call" rust)
         printf '%-18s %12d %12d %8s\n' "$call" "$ours" "$rust" "$(awk "BEGIN { printf \"%.2f\", $ours / $rust }")"
     done
+elif [ "${1:-}" = against ]; then
+    before=${2:-}
+    [ -r "$before/target/staticlib/libcanceller.a" ] || { echo "'$before' has no target/staticlib/libcanceller.a: name a folder of this repository in which make lib has been run" >&2; exit 1; }
+    cargo build --offline --release --manifest-path "$before/reference/Cargo.toml" -p bench
+    "$bench" --against "$before/reference/target/release/bench"
 else
     build bench_m4ri m4ri/m4ri.h HAVE_M4RI "-lm4ri -lm" libm4ri-dev
     build bench_pari pari/pari.h HAVE_PARI "-lpari -lm" libpari-dev

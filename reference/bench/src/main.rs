@@ -2,8 +2,10 @@
 //! they are installed; a second table of how listing and planning grow, drawn as a picture.
 //!
 //! `bench` prints the tables, `bench PICTURE` also writes the picture. `bench --count CALL SIDE TIMES` makes one call so many times
-//! and nothing else, for counting instructions; SIDE is `ours` or `rust`.
+//! and nothing else, for counting instructions; SIDE is `ours` or `rust`. `bench --against OTHER` times these calls beside those of
+//! another folder's bench, whose program OTHER is (`against.rs`).
 
+mod against;
 mod growth;
 mod others;
 mod ours;
@@ -34,18 +36,28 @@ const COUNTED: [(&str, fn() -> Row); 14] = [
     ("judge", rows::judging),
 ];
 
-fn counted(words: &[String]) {
+fn names() -> [&'static str; COUNTED.len()] {
+    COUNTED.map(|(name, _)| name)
+}
+
+fn row_of(call: &str) -> Row {
+    let (_, row) = COUNTED
+        .iter()
+        .find(|(name, _)| *name == call)
+        .expect("CALL");
+    row()
+}
+
+fn counted(words: &[&str]) {
     let [call, side, times] = words else {
-        let names = COUNTED.map(|(name, _)| name);
-        return println!("{}", names.join("\n"));
+        return println!("{}", names().join("\n"));
     };
-    let side = match side.as_str() {
+    let side = match *side {
         "ours" => Side::Ours,
         _ => Side::Same,
     };
     let times: usize = times.parse().expect("TIMES is a number");
-    let (_, row) = COUNTED.iter().find(|(name, _)| name == call).expect("CALL");
-    let row = row();
+    let row = row_of(call);
     for (of, mut make) in row.sides {
         if of == side {
             (0..times).for_each(|i| drop(black_box(make(i % row.inputs, false))));
@@ -55,8 +67,12 @@ fn counted(words: &[String]) {
 
 fn main() {
     let words: Vec<String> = std::env::args().skip(1).collect();
-    if words.first().is_some_and(|w| w == "--count") {
-        return counted(&words[1..]);
+    let words: Vec<&str> = words.iter().map(String::as_str).collect();
+    match words[..] {
+        ["--count", ..] => return counted(&words[1..]),
+        ["--serve", call] => return against::serve(row_of(call)),
+        ["--against", other] => return against::print_all(other, &names()),
+        _ => {}
     }
     println!("| Call | Size | Gives | Ours | Same algorithm in Rust | Straightforward | Others |");
     println!("|---|---|---|---|---|---|---|");

@@ -29,6 +29,10 @@ impl Repeats {
 pub struct Times(Vec<f64>);
 
 impl Times {
+    pub fn of(times: Vec<f64>) -> Times {
+        Times(times)
+    }
+
     pub fn median(&self) -> f64 {
         Repeats::new(self.0.clone()).median()
     }
@@ -86,20 +90,32 @@ fn batch(call: &mut dyn FnMut(usize), inputs: usize, count: usize) -> (Duration,
     (time, time.as_secs_f64() * 1e6 / count as f64)
 }
 
-/// The times of each side, called with the inputs in turn.
-pub fn times(sides: &mut [&mut dyn FnMut(usize)], inputs: usize) -> Vec<Times> {
-    let mut counts = Vec::new();
-    for side in sides.iter_mut() {
+/// Batches of calls that take at least BATCH each.
+pub struct Batches(usize);
+
+impl Batches {
+    pub fn of(call: &mut dyn FnMut(usize), inputs: usize) -> Batches {
         let mut count = 1;
-        while batch(side, inputs, count).0 < BATCH {
+        while batch(call, inputs, count).0 < BATCH {
             count *= 2;
         }
-        counts.push(count);
+        Batches(count)
     }
+
+    /// Makes a batch, and gives what a call of it takes, in microseconds.
+    pub fn time(&self, call: &mut dyn FnMut(usize), inputs: usize) -> f64 {
+        batch(call, inputs, self.0).1
+    }
+}
+
+/// The times of each side, called with the inputs in turn.
+pub fn times(sides: &mut [&mut dyn FnMut(usize)], inputs: usize) -> Vec<Times> {
+    let batches = sides.iter_mut().map(|side| Batches::of(side, inputs));
+    let batches: Vec<Batches> = batches.collect();
     let mut times: Vec<Vec<f64>> = vec![Vec::new(); sides.len()];
     for _ in 0..REPEATS {
-        for (side, (count, times)) in sides.iter_mut().zip(counts.iter().zip(&mut times)) {
-            times.push(batch(side, inputs, *count).1);
+        for (side, (batches, times)) in sides.iter_mut().zip(batches.iter().zip(&mut times)) {
+            times.push(batches.time(side, inputs));
         }
     }
     times.into_iter().map(Times).collect()
