@@ -29,7 +29,7 @@ use crossing::CStretch;
 use crossing::CWritten;
 use register::Register;
 
-// The set reader. Meets 1 to 10.
+// The set reader. Meets 1, 2, 3, 25 and 4 to 10: the set's numbers.
 #[no_mangle]
 pub extern "C" fn canceller_read_set(set: &[u8]) -> CSet
     ensures { λ r. ⌜ r ≡ setOf (setReply (now (set .entry))) (spreadBeside (now (set .entry))) ⌝ }
@@ -37,7 +37,7 @@ pub extern "C" fn canceller_read_set(set: &[u8]) -> CSet
     crossing::set_of(set_file::read_set(set))
 }
 
-// Where a slice's value row stands in the set. Meets 1 to 11.
+// Where a slice's value row stands in the set. Meets the set's numbers and 11.
 #[no_mangle]
 pub extern "C" fn canceller_value_row(set: &[u8], slice: u64) -> CStretch
     ensures { λ r. ⌜ r ≡ stretchOf (valueReply (now (set .entry)) slice) ⌝ }
@@ -45,7 +45,7 @@ pub extern "C" fn canceller_value_row(set: &[u8], slice: u64) -> CStretch
     crossing::stretch_of(slice_rows::value_place(set, slice))
 }
 
-// Where a slice's row of unknown marks stands in the set. Meets 1 to 11.
+// Where a slice's row of unknown marks stands in the set. Meets the set's numbers and 11.
 #[no_mangle]
 pub extern "C" fn canceller_mark_row(set: &[u8], slice: u64) -> CStretch
     ensures { λ r. ⌜ r ≡ stretchOf (markReply (now (set .entry)) slice) ⌝ }
@@ -53,39 +53,55 @@ pub extern "C" fn canceller_mark_row(set: &[u8], slice: u64) -> CStretch
     crossing::stretch_of(slice_rows::mark_place(set, slice))
 }
 
-// The set writer. Meets 2, 3, 4, 6, 7, 8, 9, 10 and 24; the file over the front of `out`.
+// The set writer. Meets 2, 3, 25, 4, 6, 7, 8, 9, 10 and 24; the file over the front of `out`.
 #[no_mangle]
 pub extern "C" fn canceller_write_set(
     m: u64,
     taps: u64,
+    inversion: u64,
     spread: &[u64],
     values: &[u8],
     marks: &[u8],
     s: u64,
     out: &mut [u8],
 ) -> CWritten
-    ensures answer { λ r. ⌜ r ≡ writtenOf (setWriteReply (setContent m taps (now (spread .entry)) (now (values .entry)) (now (marks .entry)) s) (length (now (out .entry)))) ⌝ }
-    ensures file { λ _. ⌜ now (out .exit) ≡ lent (setWriteReply (setContent m taps (now (spread .entry)) (now (values .entry)) (now (marks .entry)) s) (length (now (out .entry)))) (setBytes (setContent m taps (now (spread .entry)) (now (values .entry)) (now (marks .entry)) s)) (now (out .entry)) ⌝ }
+    ensures answer { λ r. ⌜ r ≡ writtenOf (setWriteReply (setContent m taps inversion (now (spread .entry)) (now (values .entry)) (now (marks .entry)) s) (length (now (out .entry)))) ⌝ }
+    ensures file { λ _. ⌜ now (out .exit) ≡ lent (setWriteReply (setContent m taps inversion (now (spread .entry)) (now (values .entry)) (now (marks .entry)) s) (length (now (out .entry)))) (setBytes (setContent m taps inversion (now (spread .entry)) (now (values .entry)) (now (marks .entry)) s)) (now (out .entry)) ⌝ }
 {
-    crossing::set_written_of(set_writer::write_set(m, taps, spread, values, marks, s, out))
+    crossing::set_written_of(set_writer::write_set(
+        m,
+        taps,
+        inversion,
+        spread,
+        values,
+        marks,
+        s,
+        out,
+    ))
 }
 
-// One clock of a register. Meets 2, 3, 4, 6, 8, 9 and 23; a refusal hands the state back as it came.
+// One clock of a register. Meets 2, 3, 25, 4, 6, 8, 9 and 23; a refusal hands the state back as it came.
 #[no_mangle]
 pub extern "C" fn canceller_clock(
     m: u64,
     taps: u64,
+    inversion: u64,
     state: u64,
     spread: &[u64],
     row: &[u8],
 ) -> CClocked
-    ensures { λ r. ⌜ r ≡ clockedOf (clockReply (registerOf m taps state) (now (spread .entry)) (now (row .entry))) state ⌝ }
+    ensures { λ r. ⌜ r ≡ clockedOf (clockReply (registerOf m taps inversion state) (now (spread .entry)) (now (row .entry))) state ⌝ }
 {
-    let register = Register { m, taps, state };
+    let register = Register {
+        m,
+        taps,
+        inversion,
+        state,
+    };
     crossing::clocked_of(register.clock(spread, row), state)
 }
 
-// A record's signature. Meets 1 to 10, 12 and 13.
+// A record's signature. Meets the set's numbers, 12 and 13.
 #[no_mangle]
 pub extern "C" fn canceller_sign(set: &[u8], record: &[u8]) -> CSigned
     ensures { λ r. ⌜ r ≡ signedOf (signReply (now (set .entry)) (now («record» .entry))) ⌝ }
@@ -93,7 +109,7 @@ pub extern "C" fn canceller_sign(set: &[u8], record: &[u8]) -> CSigned
     crossing::signed_of(signing::sign_record(set, record))
 }
 
-// The columns of a set. Meets 1 to 10 and 14; the columns over the front of the list.
+// The columns of a set. Meets the set's numbers and 14; the columns over the front of the list.
 #[no_mangle]
 pub extern "C" fn canceller_list_columns(set: &[u8], columns: &mut [u64]) -> CListed
     ensures answer { λ r. ⌜ r ≡ listedOf (listReply (now (set .entry)) (length (now (columns .entry)))) ⌝ }
@@ -111,7 +127,8 @@ pub extern "C" fn canceller_eliminate(m: u64, columns: &[u64], words: &mut [u64]
     crossing::eliminated_of(elimination::eliminate(m, columns, words))
 }
 
-// Planning. Meets 1 to 10, 14 and 16 to 18; the words over the front of their list; past 14 the columns over the front of theirs.
+// Planning. Meets the set's numbers, 14 and 16 to 18; the words over the front of their list; past 14 the columns over the front of
+// theirs.
 #[no_mangle]
 pub extern "C" fn canceller_plan(set: &[u8], columns: &mut [u64], words: &mut [u64]) -> CPlanned
     ensures answer { λ r. ⌜ r ≡ plannedOf (planReply (now (set .entry)) (length (now (columns .entry))) (length (now (words .entry)))) ⌝ }

@@ -4,7 +4,7 @@
 --   setOf r ws        the set reader's reply, with the 256 spread words beside it
 --   stretchOf r       a row call's reply: where the row stands in the caller's set
 --   writtenOf r       a writer's reply: the length of the file
---   registerOf m t s  the register of width m, tap word t and state s
+--   registerOf m t i s  the register of width m, tap word t, inversion word i and state s
 --   clockedOf r s     the clock's reply, for the state s that was handed in
 --   signedOf r        a record's signature
 --   listedOf r        the number of unknown cells
@@ -34,8 +34,8 @@ use Rattle.crossing.specs.declared.CPlanned.{CPlanned}
 use Rattle.crossing.specs.declared.CJudged.{CJudged}
 
 abbrev pub setOf : Reply SetParts → List ℕ → CSet
-setOf (answer p) ws = record { refusal = 0; m = p .m; taps = p .taps; n = p .n; s = p .s; spread = ws }
-setOf (refusal k) ws = record { refusal = k; m = 0; taps = 0; n = 0; s = 0; spread = ws }
+setOf (answer p) ws = record { refusal = 0; m = p .m; taps = p .taps; inversion = p .inversion; n = p .n; s = p .s; spread = ws }
+setOf (refusal k) ws = record { refusal = k; m = 0; taps = 0; inversion = 0; n = 0; s = 0; spread = ws }
 
 abbrev pub stretchOf : Reply Stretch → CStretch
 stretchOf (answer p) = record { refusal = 0; start = p .start; length = p .bytes }
@@ -45,8 +45,8 @@ abbrev pub writtenOf : Reply ℕ → CWritten
 writtenOf (answer k) = record { refusal = 0; length = k }
 writtenOf (refusal k) = record { refusal = k; length = 0 }
 
-abbrev pub registerOf : ℕ → ℕ → ℕ → Register
-registerOf w t s = record { m = w; taps = t; state = s }
+abbrev pub registerOf : ℕ → ℕ → ℕ → ℕ → Register
+registerOf w t i s = record { m = w; taps = t; inversion = i; state = s }
 
 abbrev pub clockedOf : Reply ℕ → ℕ → CClocked
 clockedOf (answer t) s = record { refusal = 0; state = t }

@@ -1,5 +1,5 @@
-// The powers of the register: words in the register while all cells are 0, one clock after the other or many at once. A clock with
-// all cells 0 is linear, so a word some clocks later is the XOR of the powers for its bits. It sees the register; it knows no file.
+// The powers of the register: words in the register while all cells are 0 and nothing is inverted, one clock after the other or many
+// at once. Such a clock is linear, so a word some clocks later is the XOR of the powers for its bits. It sees the register; it knows no file.
 // Every function is total.
 ghost use mathlib.Core.Path.{_≡_};
 ghost use mathlib.Core.List.{[], map};
@@ -10,7 +10,7 @@ ghost use Rattle.signatures.specs.Later.{later};
 ghost use Rattle.powers.specs.Powers.{fromPowers};
 use register::Register;
 
-// The state after this one, by a clock with all cells 0.
+// The state after this one, by a clock with all cells 0 and no inversion.
 fn next_state(register: Register, state: u64) -> u64
     ensures { λ r. ⌜ r ≡ advanced (min (register .m) 64) (register .taps) state ⌝ }
 {
@@ -18,7 +18,7 @@ fn next_state(register: Register, state: u64) -> u64
     next.state
 }
 
-// Advances each word by one clock with all cells 0.
+// Advances each word by one clock with all cells 0 and no inversion.
 pub fn advance_words(register: Register, words: &mut [u64])
     ensures { λ _. ⌜ now (words .exit) ≡ map (advanced (min (register .m) 64) (register .taps)) (now (words .entry)) ⌝ }
 {
@@ -37,7 +37,7 @@ fn no_powers() -> [u64; 576]
 
 // The powers of the register: the word 1 after 0 to 575 clocks, which is enough for 512 slices and a width of 64.
 pub fn powers(register: Register) -> [u64; 576]
-    ensures { λ r. ⌜ ((i : ℕ) → i < 576 → getD r i 0 ≡ later (circuit (min (register .m) 64) (register .taps) []) i 1) ⌝ }
+    ensures { λ r. ⌜ ((i : ℕ) → i < 576 → getD r i 0 ≡ later (circuit (min (register .m) 64) (register .taps) 0 []) i 1) ⌝ }
 {
     let mut table = no_powers();
     let mut power = 1u64;

@@ -16,6 +16,7 @@ use Rattle.chains.specs.Table.{HalfBytes, lookedUp}
 use Rattle.chains.proofs.TableLaws.{table-drives}
 use Rattle.register.specs.Clock.{registered, clockTests, clockReply}
 use Rattle.register.specs.declared.Register.{Register}
+use Rattle.word.proofs.Laws.{xor-assoc}
 use Rattle.word.proofs.WordLaws.{good-width}
 use Rattle.word.proofs.ReplyLaws.{none-applies, replied-refusal}
 
@@ -36,15 +37,15 @@ advanced-in-word m t s mask top feedback em et ef =
 
 -- ---- a clock by the table of half bytes
 
-module _ (m t s drive next : ℕ) (table row : List ℕ) (ed : drive ≡ lookedUp table row (min (length row) 32))
-    (es : next ≡ bitXor (advanced m t s) drive) where
-  pub by-table : next ≡ bitXor (advanced m t s) (lookedUp table row (min (length row) 32))
-  by-table = es ∙ ap (bitXor (advanced m t s)) ed
+module _ (m t v s drive next : ℕ) (table row : List ℕ) (ed : drive ≡ lookedUp table row (min (length row) 32))
+    (es : next ≡ bitXor (advanced m t s) (bitXor drive v)) where
+  pub by-table : next ≡ bitXor (bitXor (advanced m t s) (lookedUp table row (min (length row) 32))) v
+  by-table = es ∙ sym (xor-assoc (advanced m t s) drive v) ∙ ap (λ (d : ℕ). bitXor (bitXor (advanced m t s) d) v) ed
 
   pub clocked-by-table : ((i : ℕ) → getD row i 0 < 256) → (ws : List ℕ) → HalfBytes ws table
-      → next ≡ clocked (circuit m t (take 256 ws)) (cell row) s
+      → next ≡ clocked (circuit m t v (take 256 ws)) (cell row) s
   unfolding clocked
-  clocked-by-table byte ws right = by-table ∙ ap (bitXor (advanced m t s)) (table-drives ws table row right byte)
+  clocked-by-table byte ws right = by-table ∙ ap (λ (d : ℕ). bitXor (bitXor (advanced m t s) d) v) (table-drives ws table row right byte)
 
 -- ---- the clock's reply
 
@@ -65,8 +66,12 @@ module _ (r : Register) (ws x : List ℕ) where
       ∙ replied-refusal n (clocked (registered r ws) (cell x) (r .state)) h
 
   pub clock-done : (d s : ℕ) → firstOf (clockTests r ws x) ≡ 0 → d ≡ driven ws (cell x) (length ws)
-      → s ≡ bitXor (advanced (min (r .m) 64) (r .taps) (r .state)) d → clockReply r ws x ≡ answer s
+      → s ≡ bitXor (advanced (min (r .m) 64) (r .taps) (r .state)) (bitXor d (r .inversion)) → clockReply r ws x ≡ answer s
   unfolding clocked
   clock-done d s h ed es =
       let width : min (r .m) 64 ≡ r .m = omega (arith, good-width (r .m) (clock-width h) .1) in
-      clock-answers h ∙ ap answer (sym (es ∙ ap₂ (λ (k y : ℕ). bitXor (advanced k (r .taps) (r .state)) y) width ed))
+      clock-answers h
+      ∙ ap answer
+      (sym
+      (es ∙ sym (xor-assoc (advanced (min (r .m) 64) (r .taps) (r .state)) d (r .inversion))
+      ∙ ap₂ (λ (k y : ℕ). bitXor (bitXor (advanced k (r .taps) (r .state)) y) (r .inversion)) width ed))

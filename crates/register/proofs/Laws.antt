@@ -1,5 +1,5 @@
--- The laws of the clock that the crates above cite: it is linear, a tap word with bit 0 loses no state, a state stays
--- within the width. Assumes nothing.
+-- The laws of the clock that the crates above cite: two clocks of one register differ as a clock without inversion of what they differ
+-- in, a tap word with bit 0 loses no state, a state stays within the width. Assumes nothing.
 use mathlib.Core.Path.{_≡_, refl, sym, ap, ap₂, _∙_}
 use mathlib.Core.Bool.{Bool, false, cond, _||_}
 use mathlib.Core.Logic.{⊎-elim, dite}
@@ -23,7 +23,7 @@ use Rattle.word.proofs.BoolLaws.{or-false-left, or-false-right}
 use Rattle.rows.specs.Row.{Cells, cell}
 use Rattle.chains.specs.Driven.{chosen, driven}
 use Rattle.chains.proofs.Laws.{chosen-xor, chosen-lt, driven-ext, driven-zero, driven-lt, driven-xor}
-use Rattle.register.specs.Circuit.{Circuit, chains, advanced, clocked, badTaps}
+use Rattle.register.specs.Circuit.{Circuit, uninverted, chains, advanced, clocked, badTaps, badInversion}
 use Rattle.word.proofs.WordLaws.{xor-crosswise, xor-double, below-top, within}
 
 -- ---- a clock with all cells 0
@@ -78,25 +78,38 @@ advanced-one-to-one (suc k) t a b h odd ha hb e =
 
 pub clocked-ext : (k : Circuit) (x y : Cells) (s : ℕ) → ((c : ℕ) → c < chains k → x c ≡ y c) → clocked k x s ≡ clocked k y s
 unfolding clocked
-clocked-ext k x y s h = ap (bitXor (advanced (k .width) (k .taps) s)) (driven-ext (k .spread) x y (chains k) h)
+clocked-ext k x y s h =
+    ap (λ (d : ℕ). bitXor (bitXor (advanced (k .width) (k .taps) s) d) (k .inversion)) (driven-ext (k .spread) x y (chains k) h)
 
-pub clocked-zero : (k : Circuit) (s : ℕ) → clocked k (λ c. 0) s ≡ advanced (k .width) (k .taps) s
+-- without inversion a clock is the shift and what the chains drive
+pub clocked-uninverted : (k : Circuit) (x : Cells) (s : ℕ)
+    → clocked (uninverted k) x s ≡ bitXor (advanced (k .width) (k .taps) s) (driven (k .spread) x (chains k))
 unfolding clocked
+clocked-uninverted k x s = xor-zero-r (bitXor (advanced (k .width) (k .taps) s) (driven (k .spread) x (chains k)))
+
+pub clocked-zero : (k : Circuit) (s : ℕ) → clocked (uninverted k) (λ c. 0) s ≡ advanced (k .width) (k .taps) s
 clocked-zero k s =
-    ap (bitXor (advanced (k .width) (k .taps) s)) (driven-zero (k .spread) (chains k)) ∙ xor-zero-r (advanced (k .width) (k .taps) s)
+    clocked-uninverted k (λ c. 0) s ∙ ap (bitXor (advanced (k .width) (k .taps) s)) (driven-zero (k .spread) (chains k))
+    ∙ xor-zero-r (advanced (k .width) (k .taps) s)
 
 pub clocked-xor : (k : Circuit) (x y : Cells) (a b : ℕ) → ((c : ℕ) → x c < 2) → ((c : ℕ) → y c < 2)
-    → clocked k (λ c. (x c + y c) % 2) (bitXor a b) ≡ bitXor (clocked k x a) (clocked k y b)
+    → clocked k (λ c. (x c + y c) % 2) (bitXor a b) ≡ bitXor (clocked k x a) (clocked (uninverted k) y b)
 unfolding clocked
 clocked-xor k x y a b hx hy =
-    ap₂ bitXor (advanced-xor (k .width) (k .taps) a b) (driven-xor (k .spread) x y (chains k) hx hy)
-    ∙ xor-crosswise (advanced (k .width) (k .taps) a) (advanced (k .width) (k .taps) b) (driven (k .spread) x (chains k)) (driven (k .spread) y (chains k))
+    let xa = bitXor (advanced (k .width) (k .taps) a) (driven (k .spread) x (chains k)) in
+    let yb = bitXor (advanced (k .width) (k .taps) b) (driven (k .spread) y (chains k)) in
+    ap₂ bitXor
+    (ap₂ bitXor (advanced-xor (k .width) (k .taps) a b) (driven-xor (k .spread) x y (chains k) hx hy)
+    ∙ xor-crosswise (advanced (k .width) (k .taps) a) (advanced (k .width) (k .taps) b) (driven (k .spread) x (chains k)) (driven (k .spread) y (chains k)))
+    (sym (xor-zero-r (k .inversion)))
+    ∙ xor-crosswise xa yb (k .inversion) 0
 
-pub clocked-lt : (k : Circuit) (x : Cells) (s : ℕ) → k .taps < 2 ^ k .width → ((c : ℕ) → getD (k .spread) c 0 < 2 ^ k .width)
-    → clocked k x s < 2 ^ k .width
+pub clocked-lt : (k : Circuit) (x : Cells) (s : ℕ) → k .taps < 2 ^ k .width → k .inversion < 2 ^ k .width
+    → ((c : ℕ) → getD (k .spread) c 0 < 2 ^ k .width) → clocked k x s < 2 ^ k .width
 unfolding clocked
-clocked-lt k x s ht hw =
-    xor-lt (k .width) _ _ (advanced-lt (k .width) (k .taps) s ht) (driven-lt (k .width) (k .spread) x (chains k) hw)
+clocked-lt k x s ht hv hw =
+    xor-lt (k .width) _ _
+    (xor-lt (k .width) _ _ (advanced-lt (k .width) (k .taps) s ht) (driven-lt (k .width) (k .spread) x (chains k) hw)) hv
 
 -- document 01: "With bit 0 set a clock loses no state."
 pub clocked-one-to-one : (k : Circuit) (x : Cells) (a b : ℕ) → 1 ≤ k .width → digit 0 (k .taps) ≡ 1 → a < 2 ^ k .width
@@ -104,11 +117,14 @@ pub clocked-one-to-one : (k : Circuit) (x : Cells) (a b : ℕ) → 1 ≤ k .widt
 unfolding clocked
 clocked-one-to-one k x a b hm odd ha hb e =
     advanced-one-to-one (k .width) (k .taps) a b hm odd ha hb
-    (sym (xor-cancel-right (advanced (k .width) (k .taps) a) (driven (k .spread) x (chains k)))
-    ∙ ap (λ (y : ℕ). bitXor y (driven (k .spread) x (chains k))) e
-    ∙ xor-cancel-right (advanced (k .width) (k .taps) b) (driven (k .spread) x (chains k)))
+    (xor-same (advanced (k .width) (k .taps) a) (advanced (k .width) (k .taps) b) (driven (k .spread) x (chains k))
+    (xor-same (bitXor (advanced (k .width) (k .taps) a) (driven (k .spread) x (chains k)))
+    (bitXor (advanced (k .width) (k .taps) b) (driven (k .spread) x (chains k))) (k .inversion) e))
+  where
+    xor-same : (c d w : ℕ) → bitXor c w ≡ bitXor d w → c ≡ d
+    xor-same c d w p = sym (xor-cancel-right c w) ∙ ap (λ (y : ℕ). bitXor y w) p ∙ xor-cancel-right d w
 
--- ---- a tap word that is taken
+-- ---- a tap word and an inversion word that are taken
 
 pub good-taps : (m t : ℕ) → badTaps m t ≡ false → (digit 0 t ≡ 1) × (t < 2 ^ m)
 unfolding badTaps
@@ -117,3 +133,6 @@ good-taps m t h = (
       (λ (o : digit 0 t ≡ 1). o) (bit-cases (digit 0 t) (mod2-lt (t / 2 ^ 0))),
   within m t (or-false-right (eqb (digit 0 t) 0) (beyond m t) h),
 )
+
+pub good-inversion : (m v : ℕ) → badInversion m v ≡ false → v < 2 ^ m
+good-inversion m v h = within m v h

@@ -1,5 +1,6 @@
 -- The clock call. Document 01: "The clock takes a register (m, taps, state), the spread words and one row; it meets 2, 3, 4,
--- 6, 8 for a row not of B bytes, 9, and 23 for the state"; "a state handed in comes back from a refusal unchanged".
+-- 6, 8 for a row not of B bytes, 9, and 23 for the state"; "a state handed in comes back from a refusal unchanged"; "A word later
+-- added to the set's register section is [..] taken by [..] the clock." Document 02, No. 1: 25 is "checked after 3".
 --
 --   registered r ws    the circuit of a register and its chains' spread words
 --   clockTests r ws x  the numbers that the clock meets, in order
@@ -14,7 +15,7 @@ use lib.ListN.{length}
 use Rattle.word.specs.Word.{beyond, badWidth}
 use Rattle.word.specs.Reply.{Test, _when_, Reply, answer, refusal, reply}
 use Rattle.rows.specs.Row.{cell, rowBytes, spareSet}
-use Rattle.register.specs.Circuit.{Circuit, circuit, clocked, badTaps, badChains}
+use Rattle.register.specs.Circuit.{Circuit, circuit, clocked, badTaps, badInversion, badChains}
 use Rattle.chains.specs.Driven.{badSpread}
 use Rattle.register.specs.declared.Register.{Register}
 use Rattle.register.specs.declared.Clocking.{Clocking}
@@ -22,12 +23,13 @@ use Rattle.register.specs.declared.Clocking.the-variants.{Done, Refused}
 use Rattle.register.specs.declared.Clocked.{Clocked}
 
 abbrev pub registered : Register → List ℕ → Circuit
-registered r ws = circuit (r .m) (r .taps) ws
+registered r ws = circuit (r .m) (r .taps) (r .inversion) ws
 
 unfoldable pub clockTests : Register → List ℕ → List ℕ → List Test
 clockTests r ws x =
     2 when badWidth (r .m)
     ∷ 3 when badTaps (r .m) (r .taps)
+    ∷ 25 when badInversion (r .m) (r .inversion)
     ∷ 4 when badChains (length ws)
     ∷ 6 when badSpread (r .m) ws
     ∷ 8 when not (eqb (length x) (rowBytes (length ws)))

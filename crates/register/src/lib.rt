@@ -9,13 +9,14 @@ ghost use lib.ListN.{length, take};
 ghost use Rattle.word.specs.Reply.{firstOf};
 ghost use Rattle.rows.specs.Row.{cell, rowBytes};
 ghost use Rattle.chains.specs.Table.{HalfBytes, lookedUp};
-ghost use Rattle.register.specs.Circuit.{circuit, advanced, clocked, badTaps, badChains, tooManySlices};
+ghost use Rattle.register.specs.Circuit.{circuit, advanced, clocked, badTaps, badInversion, badChains, tooManySlices};
 ghost use Rattle.register.specs.Clock.{clockTests, clockReply, said, stateAfter};
 
-// The register: its width m, its tap word and its state.
+// The register: its width m, its tap word, its inversion word and its state.
 pub struct Register {
     pub m: u64,
     pub taps: u64,
+    pub inversion: u64,
     pub state: u64,
 }
 
@@ -36,6 +37,13 @@ pub fn is_bad_taps(m: u64, taps: u64) -> bool
     ensures { λ r. ⌜ r ≡ badTaps m taps ⌝ }
 {
     (taps % 2 == 0) | word::is_beyond(m, taps)
+}
+
+// Number 25: whether the inversion word has a bit at or above m.
+pub fn is_bad_inversion(m: u64, inversion: u64) -> bool
+    ensures { λ r. ⌜ r ≡ badInversion m inversion ⌝ }
+{
+    word::is_beyond(m, inversion)
 }
 
 // Number 4: whether n isn't 1 to 256.
@@ -116,6 +124,9 @@ fn first_refusal(register: Register, spread: &[u64], row: &[u8]) -> u64
     if is_bad_taps(register.m, register.taps) {
         return 3;
     }
+    if is_bad_inversion(register.m, register.inversion) {
+        return 25;
+    }
     if is_bad_chains(spread.len() as u64) {
         return 4;
     }
@@ -141,43 +152,51 @@ impl Register {
 
     pub const LARGEST_SLICES: u64 = 512;
 
-    // The fresh register: it starts at zero.
-    pub fn fresh(m: u64, taps: u64) -> Register
-        ensures { λ r. ⌜ (r .m ≡ m) × (r .taps ≡ taps) × (r .state ≡ 0) ⌝ }
+    // The fresh register: it starts at zero, whatever its inversion word is.
+    pub fn fresh(m: u64, taps: u64, inversion: u64) -> Register
+        ensures { λ r. ⌜ (r .m ≡ m) × (r .taps ≡ taps) × (r .inversion ≡ inversion) × (r .state ≡ 0) ⌝ }
     {
-        Register { m, taps, state: 0 }
+        Register {
+            m,
+            taps,
+            inversion,
+            state: 0,
+        }
     }
 
     // The same register with this state.
     pub fn holding(self, state: u64) -> Register
-        ensures { λ r. ⌜ (r .m ≡ self .m) × (r .taps ≡ self .taps) × (r .state ≡ state) ⌝ }
+        ensures { λ r. ⌜ (r .m ≡ self .m) × (r .taps ≡ self .taps) × (r .inversion ≡ self .inversion) × (r .state ≡ state) ⌝ }
     {
         Register {
             m: self.m,
             taps: self.taps,
+            inversion: self.inversion,
             state,
         }
     }
 
-    // The register after one clock in which the chains drive this word; its width and tap word stay. It meets no number:
+    // The register after one clock in which this word is XORed in: what the chains drive, and the inversion word where that counts.
+    // With 0 it is a clock with all cells 0 and without inversion. Its width, tap word and inversion word stay. It meets no number:
     // a width above 64 counts as 64, and at width 0 bit 0 counts as the old top bit.
     pub fn advance(self, drive: u64) -> Register
-        ensures { λ r. ⌜ (r .m ≡ self .m) × (r .taps ≡ self .taps) × (r .state ≡ bitXor (advanced (min (self .m) 64) (self .taps) (self .state)) drive) ⌝ }
+        ensures { λ r. ⌜ (r .m ≡ self .m) × (r .taps ≡ self .taps) × (r .inversion ≡ self .inversion) × (r .state ≡ bitXor (advanced (min (self .m) 64) (self .taps) (self .state)) drive) ⌝ }
     {
         let feedback = chains::chosen_word((self.state >> top_place(self.m)) % 2, self.taps);
         let shifted = (self.state << 1) & word::low_mask(self.m);
         Register {
             m: self.m,
             taps: self.taps,
+            inversion: self.inversion,
             state: shifted ^ feedback ^ drive,
         }
     }
 
-    // One clock with the cells of one row: the register with its next state. It meets 2, 3, 4, 6, 8 (a row not of B
+    // One clock with the cells of one row: the register with its next state. It meets 2, 3, 25, 4, 6, 8 (a row not of B
     // bytes), 9 and 23 (the state), in that order; a refusal hands the register back as it came.
     pub fn clock(self, spread: &[u64], row: &[u8]) -> Clocked
         ensures { λ r. ⌜ said r ≡ clockReply self (now (spread .entry)) (now (row .entry)) ⌝ }
-        ensures { λ r. ⌜ (r .register .m ≡ self .m) × (r .register .taps ≡ self .taps) × (r .register .state ≡ stateAfter (clockReply self (now (spread .entry)) (now (row .entry))) (self .state)) ⌝ }
+        ensures { λ r. ⌜ (r .register .m ≡ self .m) × (r .register .taps ≡ self .taps) × (r .register .inversion ≡ self .inversion) × (r .register .state ≡ stateAfter (clockReply self (now (spread .entry)) (now (row .entry))) (self .state)) ⌝ }
     {
         let number = first_refusal(self, spread, row);
         if number != 0 {
@@ -188,7 +207,7 @@ impl Register {
         }
         Clocked {
             answer: Clocking::Done,
-            register: self.advance(chains::driven_word(spread, row)),
+            register: self.advance(chains::driven_word(spread, row) ^ self.inversion),
         }
     }
 
@@ -196,10 +215,10 @@ impl Register {
     // chains' spread words (`chains::half_bytes`): the register with its next state, the same as by the clock for the first 256
     // chains. It meets no number: a width above 64 counts as 64, and a cell past the row's end is 0.
     pub fn clock_by_table(self, table: &[u64; 1024], row: &[u8]) -> Register
-        ensures kept { λ r. ⌜ (r .m ≡ self .m) × (r .taps ≡ self .taps) ⌝ }
-        ensures drive { λ r. ⌜ r .state ≡ bitXor (advanced (min (self .m) 64) (self .taps) (self .state)) (lookedUp (now (table .entry)) (now (row .entry)) (min (length (now (row .entry))) 32)) ⌝ }
-        ensures clocks { λ r. ⌜ ((ws : List ℕ) → HalfBytes ws (now (table .entry)) → r .state ≡ clocked (circuit (min (self .m) 64) (self .taps) (take 256 ws)) (cell (now (row .entry))) (self .state)) ⌝ }
+        ensures kept { λ r. ⌜ (r .m ≡ self .m) × (r .taps ≡ self .taps) × (r .inversion ≡ self .inversion) ⌝ }
+        ensures drive { λ r. ⌜ r .state ≡ bitXor (bitXor (advanced (min (self .m) 64) (self .taps) (self .state)) (lookedUp (now (table .entry)) (now (row .entry)) (min (length (now (row .entry))) 32))) (self .inversion) ⌝ }
+        ensures clocks { λ r. ⌜ ((ws : List ℕ) → HalfBytes ws (now (table .entry)) → r .state ≡ clocked (circuit (min (self .m) 64) (self .taps) (self .inversion) (take 256 ws)) (cell (now (row .entry))) (self .state)) ⌝ }
     {
-        self.advance(chains::looked_up(table, row))
+        self.advance(chains::looked_up(table, row) ^ self.inversion)
     }
 }

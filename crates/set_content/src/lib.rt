@@ -1,4 +1,4 @@
-// What the set writer is handed, and the numbers that it meets with it: 2, 3, 4, 6, 7, 8, 9, 10 and 24. It sees rows, the register's
+// What the set writer is handed, and the numbers that it meets with it: 2, 3, 25, 4, 6, 7, 8, 9, 10 and 24. It sees rows, the register's
 // limits and where the parts of a set stand; it writes nothing. Every function is total.
 ghost use mathlib.Core.Path.{_≡_};
 ghost use mathlib.Core.Bool.{not, _||_};
@@ -37,19 +37,23 @@ fn lacks_room(room: usize, n: u16, s: u16) -> bool
 pub fn write_refusal(
     m: u64,
     taps: u64,
+    inversion: u64,
     spread: &[u64],
     values: &[u8],
     marks: &[u8],
     s: u64,
     room: usize,
 ) -> u64
-    ensures { λ r. ⌜ r ≡ firstOf (setWriteTests (setContent m taps (now (spread .entry)) (now (values .entry)) (now (marks .entry)) s) room) ⌝ }
+    ensures { λ r. ⌜ r ≡ firstOf (setWriteTests (setContent m taps inversion (now (spread .entry)) (now (values .entry)) (now (marks .entry)) s) room) ⌝ }
 {
     if word::is_bad_width(m) {
         return 2;
     }
     if register::is_bad_taps(m, taps) {
         return 3;
+    }
+    if register::is_bad_inversion(m, inversion) {
+        return 25;
     }
     if register::is_bad_chains(spread.len() as u64) {
         return 4;

@@ -1,12 +1,13 @@
--- The set reader. Document 01: "The set reader answers with m, the tap word, n, s and 256 spread words, zero from n on";
--- "An array that belongs to an answer stands beside it and is all zero in a refusal"; the register "starts at zero".
+-- The set reader. Document 01: "The set reader answers with m, the tap word, n, s and 256 spread words, zero from n on"; "A word later
+-- added to the set's register section is answered by the set reader", the inversion word of document 02, No. 1, whose 25 is "checked
+-- after 3" and whose 1 "now means fewer than 18 bytes"; "An array that belongs to an answer stands beside it and is all zero in a refusal"; the register "starts at zero".
 --
 --   badSlices set        document 01, 7: the slice count is absent or above 512
 --   spareInRows set      document 01, 9: a row of the set has a spare bit set
 --   valuedInRows set     document 01, 10: an unknown cell has its value bit set
---   setTests set         the numbers 1 to 10, in order
+--   setTests set         the numbers 1, 2, 3, 25 and 4 to 10, in order
 --   SetParts             what the reader answers
---   setPartsOf set       .. of the set: m, the tap word, n and s
+--   setPartsOf set       .. of the set: m, the tap word, the inversion word, n and s
 --   setReply set         its reply
 --   spreadBeside set     the 256 words beside the reply: the spread words and zeros after an answer, zeros after a refusal
 --   said a               the paper's reading of what the reader hands back
@@ -20,9 +21,9 @@ use lib.ListN.{length, take}
 use Rattle.word.specs.Word.{badWidth}
 use Rattle.word.specs.Reply.{Test, _when_, Reply, answer, refusal, reply, lent}
 use Rattle.rows.specs.Lists.{spareIn, valuedUnknown}
-use Rattle.register.specs.Circuit.{Circuit, circuit, badTaps, badChains, tooManySlices}
+use Rattle.register.specs.Circuit.{Circuit, circuit, badTaps, badInversion, badChains, tooManySlices}
 use Rattle.chains.specs.Driven.{badSpread}
-use Rattle.set_layout.specs.Layout.{chainsAt, spreadAt, slicesAt, headLength, setLength, widthOf, tapsOf, chainsOf, spreadOf, slicesOf, valueRow, markRow, noWords}
+use Rattle.set_layout.specs.Layout.{chainsAt, spreadAt, slicesAt, headLength, setLength, widthOf, tapsOf, inversionOf, chainsOf, spreadOf, slicesOf, valueRow, markRow, noWords}
 use Rattle.set_file.specs.declared.SetAnswer.{SetAnswer}
 use Rattle.set_file.specs.declared.SetAnswer.the-variants.{Read, Refused}
 use Rattle.set_file.specs.declared.Taken.{Taken}
@@ -41,6 +42,7 @@ setTests set =
     1 when ltb (length set) chainsAt
     ∷ 2 when badWidth (widthOf set)
     ∷ 3 when badTaps (widthOf set) (tapsOf set)
+    ∷ 25 when badInversion (widthOf set) (inversionOf set)
     ∷ 4 when (ltb (length set) spreadAt || badChains (chainsOf set))
     ∷ 5 when ltb (length set) (slicesAt (chainsOf set))
     ∷ 6 when badSpread (widthOf set) (spreadOf set)
@@ -53,11 +55,12 @@ setTests set =
 pub record SetParts : Type 0 where
   pub m : ℕ
   pub taps : ℕ
+  pub inversion : ℕ
   pub n : ℕ
   pub s : ℕ
 
 abbrev pub setPartsOf : List ℕ → SetParts
-setPartsOf set = record { m = widthOf set; taps = tapsOf set; n = chainsOf set; s = slicesOf set }
+setPartsOf set = record { m = widthOf set; taps = tapsOf set; inversion = inversionOf set; n = chainsOf set; s = slicesOf set }
 
 unfoldable pub setReply : List ℕ → Reply SetParts
 setReply set = reply (setTests set) (setPartsOf set)
@@ -66,7 +69,7 @@ unfoldable pub spreadBeside : List ℕ → List ℕ
 spreadBeside set = lent (setReply set) (spreadOf set) noWords
 
 abbrev pub said : SetAnswer → Reply SetParts
-said (Read r k l) = answer (record { m = r .m; taps = r .taps; n = k; s = l })
+said (Read r k l) = answer (record { m = r .m; taps = r .taps; inversion = r .inversion; n = k; s = l })
 said (Refused n) = refusal n
 
 abbrev pub startOf : SetAnswer → ℕ
@@ -74,4 +77,4 @@ startOf (Read r k l) = r .state
 startOf (Refused n) = 0
 
 abbrev pub takenCircuit : Taken → Circuit
-takenCircuit k = circuit (min (k .register .m) 64) (k .register .taps) (take (k .n) (k .spread))
+takenCircuit k = circuit (min (k .register .m) 64) (k .register .taps) (k .register .inversion) (take (k .n) (k .spread))

@@ -1,4 +1,4 @@
-// The set file of document 01: the tests of its parts, 1 to 10, and its reader. It sees where the parts stand (`set_layout`); the
+// The set file of document 01: the tests of its parts, 1 to 10 and 25, and its reader. It sees where the parts stand (`set_layout`); the
 // rows of one slice and the writer are crates above it. Every function is total.
 ghost use mathlib.Core.Path.{_≡_};
 ghost use mathlib.Core.Bool.{false, not, _||_};
@@ -6,13 +6,14 @@ ghost use lib.Dec.{eqb, ltb};
 ghost use lib.ListN.{length};
 ghost use Rattle.word.specs.Word.{badWidth};
 ghost use Rattle.word.specs.Reply.{firstOf, numberOf};
-ghost use Rattle.register.specs.Circuit.{badTaps, badChains};
+ghost use Rattle.register.specs.Circuit.{badTaps, badInversion, badChains};
 ghost use Rattle.chains.specs.Driven.{badSpread};
-ghost use Rattle.set_layout.specs.Layout.{chainsAt, spreadAt, slicesAt, setLength, widthOf, tapsOf, chainsOf, spreadOf, slicesOf};
+ghost use Rattle.set_layout.specs.Layout.{chainsAt, spreadAt, slicesAt, setLength, widthOf, tapsOf, inversionOf, chainsOf, spreadOf, slicesOf};
 ghost use Rattle.set_file.specs.Reading.{badSlices, spareInRows, valuedInRows, setTests, setReply, spreadBeside, said, startOf};
 use register::Register;
 
-// What the set reader answers: the register of the set's width m and tap word, fresh, n and s, or the first number that applies.
+// What the set reader answers: the register of the set's width m, tap word and inversion word, fresh, n and s, or the first number
+// that applies.
 pub enum SetAnswer {
     Read { register: Register, n: u16, s: u16 },
     Refused { number: u64 },
@@ -51,6 +52,16 @@ fn has_bad_taps(set: &[u8]) -> bool
     ensures { λ r. ⌜ r ≡ badTaps (widthOf (now (set .entry))) (tapsOf (now (set .entry))) ⌝ }
 {
     register::is_bad_taps(set_layout::register_width(set), set_layout::tap_word(set))
+}
+
+// Number 25: whether the inversion word has a bit at or above m.
+fn has_bad_inversion(set: &[u8]) -> bool
+    ensures { λ r. ⌜ r ≡ badInversion (widthOf (now (set .entry))) (inversionOf (now (set .entry))) ⌝ }
+{
+    register::is_bad_inversion(
+        set_layout::register_width(set),
+        set_layout::inversion_word(set),
+    )
 }
 
 // Number 4: whether the chain count is absent or isn't 1 to 256.
@@ -154,6 +165,9 @@ pub fn set_refusal(set: &[u8]) -> u64
     if has_bad_taps(set) {
         return 3;
     }
+    if has_bad_inversion(set) {
+        return 25;
+    }
     if has_bad_chains(set) {
         return 4;
     }
@@ -178,8 +192,8 @@ pub fn set_refusal(set: &[u8]) -> u64
     0
 }
 
-// The set reader: the fresh register of m and the tap word, n, s and the spread words. It meets 1 to 10, in that order; the spread
-// words beside a refusal are all zero.
+// The set reader: the fresh register of m, the tap word and the inversion word, n, s and the spread words. It meets 1, 2, 3, 25 and
+// 4 to 10, in that order; the spread words beside a refusal are all zero.
 pub fn read_set(set: &[u8]) -> SetRead
     ensures answer { λ r. ⌜ said (r .answer) ≡ setReply (now (set .entry)) ⌝ }
     ensures spread { λ r. ⌜ r .spread ≡ spreadBeside (now (set .entry)) ⌝ }
@@ -192,7 +206,11 @@ pub fn read_set(set: &[u8]) -> SetRead
             spread: set_layout::no_words(),
         };
     }
-    let register = Register::fresh(set_layout::register_width(set), set_layout::tap_word(set));
+    let register = Register::fresh(
+        set_layout::register_width(set),
+        set_layout::tap_word(set),
+        set_layout::inversion_word(set),
+    );
     SetRead {
         answer: SetAnswer::Read {
             register,

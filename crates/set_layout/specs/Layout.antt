@@ -1,7 +1,9 @@
 -- The set file. Document 01, "Files": "Set: m, then the tap word; n, then n spread words; s, then s slices, each a value row
--- and a row of unknown marks. An unknown cell's value bit is 0."
+-- and a row of unknown marks. An unknown cell's value bit is 0." Document 02, No. 1: "The set's register section gets an inversion
+-- word after the tap word".
 --
 --   tapsAt              the place of the tap word; m stands at place 0
+--   inversionAt         the place of the inversion word
 --   chainsAt            the place of n
 --   spreadAt            the place of the first spread word
 --   slicesAt n          the place of the slice count, for n chains
@@ -12,6 +14,7 @@
 --   setLength n s       the bytes of a set of n chains and s slices
 --   widthOf set         document 01: m
 --   tapsOf set          the tap word
+--   inversionOf set     the inversion word
 --   chainsOf set        document 01: n
 --   spreadOf set        the n spread words
 --   slicesOf set        document 01: s
@@ -36,8 +39,11 @@ use Rattle.register.specs.Circuit.{Circuit, circuit}
 abbrev pub tapsAt : ℕ
 tapsAt = 2
 
+abbrev pub inversionAt : ℕ
+inversionAt = tapsAt + 8
+
 abbrev pub chainsAt : ℕ
-chainsAt = tapsAt + 8
+chainsAt = inversionAt + 8
 
 abbrev pub spreadAt : ℕ
 spreadAt = chainsAt + 2
@@ -68,6 +74,9 @@ widthOf set = countAt set 0
 abbrev pub tapsOf : List ℕ → ℕ
 tapsOf set = wordAt set tapsAt
 
+abbrev pub inversionOf : List ℕ → ℕ
+inversionOf set = wordAt set inversionAt
+
 abbrev pub chainsOf : List ℕ → ℕ
 chainsOf set = countAt set chainsAt
 
@@ -78,7 +87,7 @@ abbrev pub slicesOf : List ℕ → ℕ
 slicesOf set = countAt set (slicesAt (chainsOf set))
 
 abbrev pub circuitOf : List ℕ → Circuit
-circuitOf set = circuit (widthOf set) (tapsOf set) (spreadOf set)
+circuitOf set = circuit (widthOf set) (tapsOf set) (inversionOf set) (spreadOf set)
 
 unfoldable pub valueRow : List ℕ → ℕ → List ℕ
 valueRow set t = take (rowBytes (chainsOf set)) (drop (valueAt (chainsOf set) t) set)

@@ -6,14 +6,16 @@ ghost use Prim.Native.Nat.{_*_, _≤_};
 ghost use lib.ListN.{take};
 ghost use Rattle.word.specs.Reply.{front};
 ghost use Rattle.rows.specs.Row.{rowBytes};
-ghost use Rattle.set_layout.specs.Layout.{slicesAt, headLength, rowsAt, setLength, widthOf, tapsOf, chainsOf, spreadOf, slicesOf, valueAt, markAt, noWords};
+ghost use Rattle.set_layout.specs.Layout.{slicesAt, headLength, rowsAt, setLength, widthOf, tapsOf, inversionOf, chainsOf, spreadOf, slicesOf, valueAt, markAt, noWords};
 
-// The places of the tap word, of n and of the first spread word; m stands at place 0.
+// The places of the tap word, of the inversion word, of n and of the first spread word; m stands at place 0.
 pub const TAPS_AT: usize = 2;
 
-pub const CHAINS_AT: usize = 10;
+pub const INVERSION_AT: usize = 10;
 
-pub const SPREAD_AT: usize = 12;
+pub const CHAINS_AT: usize = 18;
+
+pub const SPREAD_AT: usize = 20;
 
 // The place of the slice count, for n chains.
 pub fn slices_at(n: u16) -> usize
@@ -71,6 +73,13 @@ pub fn tap_word(set: &[u8]) -> u64
     ensures { λ r. ⌜ r ≡ tapsOf (now (set .entry)) ⌝ }
 {
     numbers::read_word(set, TAPS_AT)
+}
+
+// The inversion word, as the set gives it.
+pub fn inversion_word(set: &[u8]) -> u64
+    ensures { λ r. ⌜ r ≡ inversionOf (now (set .entry)) ⌝ }
+{
+    numbers::read_word(set, INVERSION_AT)
 }
 
 // n, as the set gives it.

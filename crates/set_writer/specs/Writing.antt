@@ -1,7 +1,7 @@
 -- The set writer: it meets the numbers of its content (`set_content/specs/Content`, setWriteTests) and answers with the length of
 -- the file.
 --
---   headBytes m t ws s  the bytes before the rows: m and the tap word, n and the spread words, s
+--   headBytes m t i ws s   the bytes before the rows: m, the tap word and the inversion word, n and the spread words, s
 --   sliceBytes n v k t  slice t of the lists v and k of rows of n chains: its value row and its row of unknown marks
 --   setBytes k          the set file of the content k
 --   setWriteReply k room   the writer's reply for an output of `room` bytes: the length of the file
@@ -18,14 +18,14 @@ use Rattle.set_content.specs.Content.{SetContent, contentChains, setWriteTests}
 use Rattle.set_writer.specs.declared.Written.{Written}
 use Rattle.set_writer.specs.declared.Written.the-variants.{Done, Refused}
 
-unfoldable pub headBytes : ℕ → ℕ → List ℕ → ℕ → List ℕ
-headBytes m t ws s = bytesOf 2 m ++ (bytesOf 8 t ++ (bytesOf 2 (length ws) ++ (wordBytes ws ++ bytesOf 2 s)))
+unfoldable pub headBytes : ℕ → ℕ → ℕ → List ℕ → ℕ → List ℕ
+headBytes m t i ws s = bytesOf 2 m ++ (bytesOf 8 t ++ (bytesOf 8 i ++ (bytesOf 2 (length ws) ++ (wordBytes ws ++ bytesOf 2 s))))
 
 unfoldable pub sliceBytes : ℕ → List ℕ → List ℕ → ℕ → List ℕ
 sliceBytes n v k t = listRow n v t ++ listRow n k t
 
 unfoldable pub setBytes : SetContent → List ℕ
-setBytes k = headBytes (k .m) (k .taps) (k .spread) (k .s) ++ joined (sliceBytes (contentChains k) (k .values) (k .marks)) (k .s)
+setBytes k = headBytes (k .m) (k .taps) (k .inversion) (k .spread) (k .s) ++ joined (sliceBytes (contentChains k) (k .values) (k .marks)) (k .s)
 
 unfoldable pub setWriteReply : SetContent → ℕ → Reply ℕ
 setWriteReply k room = reply (setWriteTests k room) (setLength (contentChains k) (k .s))

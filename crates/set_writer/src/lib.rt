@@ -33,13 +33,14 @@ fn write_bytes(out: &mut [u8], at: usize, bytes: &[u8])
 }
 
 // What a set file has before its rows; nothing past the end of out.
-fn write_head(out: &mut [u8], m: u64, taps: u64, spread: &[u64], s: u64)
+fn write_head(out: &mut [u8], m: u64, taps: u64, inversion: u64, spread: &[u64], s: u64)
     requires { ⌜ length (now spread) < 65536 ⌝ }
-    ensures { λ _. ⌜ now (out .exit) ≡ sets (now (out .entry)) 0 (headBytes m taps (now (spread .entry)) s) ⌝ }
+    ensures { λ _. ⌜ now (out .exit) ≡ sets (now (out .entry)) 0 (headBytes m taps inversion (now (spread .entry)) s) ⌝ }
 {
     let n = spread.len();
     written_numbers::write_count(out, 0, m);
     written_numbers::write_word(out, set_layout::TAPS_AT, taps);
+    written_numbers::write_word(out, set_layout::INVERSION_AT, inversion);
     written_numbers::write_count(out, set_layout::CHAINS_AT, n as u64);
     written_numbers::write_words(out, set_layout::SPREAD_AT, spread);
     written_numbers::write_count(out, set_layout::slices_at(n as u16), s);
@@ -66,28 +67,38 @@ fn write_slices(out: &mut [u8], n: u16, s: u16, values: &[u8], marks: &[u8])
     }
 }
 
-// The set writer: the set file of this content, over the front of the output; the rest of it stays. It meets 2, 3, 4, 6, 7, 8
-// (the length of a list of rows), 9, 10 and 24, in that order, and answers with the length of the file; a refusal writes
+// The set writer: the set file of this content, over the front of the output; the rest of it stays. It meets 2, 3, 25, 4, 6, 7,
+// 8 (the length of a list of rows), 9, 10 and 24, in that order, and answers with the length of the file; a refusal writes
 // nothing.
 pub fn write_set(
     m: u64,
     taps: u64,
+    inversion: u64,
     spread: &[u64],
     values: &[u8],
     marks: &[u8],
     s: u64,
     out: &mut [u8],
 ) -> Written
-    ensures answer { λ r. ⌜ saidSetWritten r ≡ setWriteReply (setContent m taps (now (spread .entry)) (now (values .entry)) (now (marks .entry)) s) (length (now (out .entry))) ⌝ }
-    ensures file { λ _. ⌜ now (out .exit) ≡ lent (setWriteReply (setContent m taps (now (spread .entry)) (now (values .entry)) (now (marks .entry)) s) (length (now (out .entry)))) (setBytes (setContent m taps (now (spread .entry)) (now (values .entry)) (now (marks .entry)) s)) (now (out .entry)) ⌝ }
+    ensures answer { λ r. ⌜ saidSetWritten r ≡ setWriteReply (setContent m taps inversion (now (spread .entry)) (now (values .entry)) (now (marks .entry)) s) (length (now (out .entry))) ⌝ }
+    ensures file { λ _. ⌜ now (out .exit) ≡ lent (setWriteReply (setContent m taps inversion (now (spread .entry)) (now (values .entry)) (now (marks .entry)) s) (length (now (out .entry)))) (setBytes (setContent m taps inversion (now (spread .entry)) (now (values .entry)) (now (marks .entry)) s)) (now (out .entry)) ⌝ }
 {
-    let number = set_content::write_refusal(m, taps, spread, values, marks, s, out.len());
+    let number = set_content::write_refusal(
+        m,
+        taps,
+        inversion,
+        spread,
+        values,
+        marks,
+        s,
+        out.len(),
+    );
     if number != 0 {
         return Written::Refused { number };
     }
     let n = spread.len() as u16;
     let slices = s as u16;
-    write_head(out, m, taps, spread, s);
+    write_head(out, m, taps, inversion, spread, s);
     write_slices(out, n, slices, values, marks);
     Written::Done {
         length: set_layout::set_length(n, slices),

@@ -1,6 +1,6 @@
--- A word in the register while nothing drives it.
+-- A word in the register while nothing drives or inverts it.
 --
---   later k j w     the word w after j clocks of the circuit k with all cells 0
+--   later k j w     the word w after j clocks of the circuit k with all cells 0 and no inversion
 use Prim.Native.Nat.{ℕ, zero, suc}
 use Rattle.register.specs.Circuit.{Circuit, advanced}
 

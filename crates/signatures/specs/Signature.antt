@@ -1,17 +1,17 @@
 -- Responses, signatures and columns. Document 01: "A response has s slices, one cell per chain in each"; "The state after
 -- slice s − 1 is the signature"; "The column of an unknown cell is the signature of the response in which that cell is 1 and
--- all others 0."
+-- all others 0." Document 02, No. 1: "columns are still made without" the inversion word.
 --
 --   Response         the cells of a response: that of slice t and chain c is 0 or 1
 --   runs k x t       the register's state after the first t slices of the response x, from zero
 --   signature k x s  document 01: the signature of a response of s slices
 --   onlyCell t c     the response in which the cell of slice t and chain c is 1 and all others 0
---   column k s t c   document 01: the column of that cell
+--   column k s t c   document 01: the column of that cell, from the register without inversion
 use mathlib.Core.Bool.{cond, _&&_}
 use Prim.Native.Nat.{ℕ, zero, suc}
 use lib.Dec.{eqb}
 use Rattle.rows.specs.Row.{Cells}
-use Rattle.register.specs.Circuit.{Circuit, clocked}
+use Rattle.register.specs.Circuit.{Circuit, uninverted, clocked}
 
 abbrev pub Response : Type 0
 Response = ℕ → Cells
@@ -27,4 +27,4 @@ abbrev pub onlyCell : ℕ → ℕ → Response
 onlyCell t c = λ u d. cond (eqb u t && eqb d c) 1 0
 
 unfoldable pub column : Circuit → ℕ → ℕ → ℕ → ℕ
-column k s t c = signature k (onlyCell t c) s
+column k s t c = signature (uninverted k) (onlyCell t c) s

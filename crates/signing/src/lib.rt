@@ -29,7 +29,7 @@ pub fn sign_rows(taken: Taken, list: &[u8], rows: Rows) -> u64
     let table = chains::half_bytes(&spread[..chains]);
     let given = taken.register;
     let s = taken.s;
-    let mut register = Register::fresh(given.m, given.taps);
+    let mut register = Register::fresh(given.m, given.taps, given.inversion);
     let mut t: u16 = 0;
     while t < s {
         register = register.clock_by_table(&table, rows::row_of(list, rows, t));
@@ -58,7 +58,7 @@ fn record_rows(n: u16) -> Rows
     }
 }
 
-// The signature of a record: all its cells as recorded, those of unknown cells too. It meets the set's 1 to 10, then 12 and 13.
+// The signature of a record: all its cells as recorded, those of unknown cells too. It meets the set's numbers, then 12 and 13.
 pub fn sign_record(set: &[u8], record: &[u8]) -> Signed
     ensures { λ r. ⌜ saidSigned r ≡ signReply (now (set .entry)) (now («record» .entry)) ⌝ }
 {

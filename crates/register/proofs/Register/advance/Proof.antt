@@ -23,6 +23,7 @@ returns : tie.Need-returns
 returns c = (
   refl,
   refl,
+  refl,
   ap (λ (x : ℕ). bitXor x (c .before .before .before .before .before .args .drive))
       (advanced-in-word (c .before .before .before .before .before .args .self .m)
       (c .before .before .before .before .before .args .self .taps) (c .before .before .before .before .before .args .self .state)

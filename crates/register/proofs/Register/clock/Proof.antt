@@ -16,7 +16,7 @@ returns c =
     let e = clock-refused (c .before .before .before .before .args .self) (c .before .before .before .before .args .spread .now)
     (c .before .before .before .before .args .row .now) (c .before .first-refusal .result) (c .before .first-refusal .ensures)
     (c .if1 .taken) in
-    (sym e, (refl, refl, sym (ap (λ (q : Reply ℕ). stateAfter q (c .before .before .before .before .args .self .state)) e)))
+    (sym e, (refl, refl, refl, sym (ap (λ (q : Reply ℕ). stateAfter q (c .before .before .before .before .args .self .state)) e)))
 
 driven-word-requires : tie.Need-driven-word-requires
 driven-word-requires c κs = search needs
@@ -26,15 +26,16 @@ advance-requires c κs = search needs
 
 returns-2 : tie.Need-returns-2
 returns-2 c =
-    let e = clock-done (c .before .before .before .before .before .before .args .self)
-    (c .before .before .before .before .before .before .args .spread .now)
-    (c .before .before .before .before .before .before .args .row .now) (c .before .driven-word .result) (c .advance .result .state)
-    (cc) (c .before .driven-word .ensures) (c .advance .ensures .2) in (
+    let e = clock-done (c .before .before .before .before .before .before .before .args .self)
+    (c .before .before .before .before .before .before .before .args .spread .now)
+    (c .before .before .before .before .before .before .before .args .row .now) (c .before .before .driven-word .result) (c .advance .result .state)
+    (cc) (c .before .before .driven-word .ensures) (c .advance .ensures .3) in (
       sym e,
       (
         c .advance .ensures .0,
         c .advance .ensures .1,
-        sym (ap (λ (q : Reply ℕ). stateAfter q (c .before .before .before .before .before .before .args .self .state)) e),
+        c .advance .ensures .2,
+        sym (ap (λ (q : Reply ℕ). stateAfter q (c .before .before .before .before .before .before .before .args .self .state)) e),
       ),
     )
 

@@ -6,11 +6,11 @@ use Rattle.register.proofs.Register.clock_by_table.Tie as tie
 
 returns : tie.Need-returns
 returns c =
-    let drive = c .before .looked-up .ensures in
+    let drive = c .before .before .looked-up .ensures in
     let advanced = c .advance .ensures in
-    let byte = c .before .before .shared-slice-known .given in (
-      (advanced .0, advanced .1),
-      (by-table _ _ _ _ _ _ _ drive (advanced .2), clocked-by-table _ _ _ _ _ _ _ drive (advanced .2) (λ i. byte i .fits)),
+    let byte = c .before .before .before .shared-slice-known .given in (
+      (advanced .0, advanced .1, advanced .2),
+      (by-table _ _ _ _ _ _ _ _ drive (advanced .3), clocked-by-table _ _ _ _ _ _ _ _ drive (advanced .3) (λ i. byte i .fits)),
     )
 
 pub clock-by-table-spec : {M : Type 1} → statement M
