@@ -13,6 +13,7 @@ pub mod raw {
         pub refusal: u64,
         pub m: u64,
         pub taps: u64,
+        pub inversion: u64,
         pub n: u64,
         pub s: u64,
         pub spread: [u64; 256],
@@ -87,6 +88,7 @@ pub mod raw {
         pub fn canceller_write_set(
             m: u64,
             taps: u64,
+            inversion: u64,
             spread: *const u64,
             n: usize,
             values: *const u8,
@@ -100,6 +102,7 @@ pub mod raw {
         pub fn canceller_clock(
             m: u64,
             taps: u64,
+            inversion: u64,
             state: u64,
             spread: *const u64,
             n: usize,
@@ -152,7 +155,7 @@ pub mod raw {
 }
 
 /// Bytes of the longest set, plan and record, and the most unknown cells and words that there can be.
-pub const SET_MAX: usize = 34_830;
+pub const SET_MAX: usize = 34_838;
 pub const PLAN_MAX: usize = 526;
 pub const RECORD_MAX: usize = 16_384;
 pub const UNKNOWNS_MAX: usize = 131_072;
@@ -184,6 +187,8 @@ fn accepted<T>(refusal: u64, answer: T) -> Reply<T> {
 pub struct Set {
     pub m: u64,
     pub taps: u64,
+    /// XORed into the state at every clock; 0 where no register input is inverted.
+    pub inversion: u64,
     pub spread: Vec<u64>,
     pub s: u64,
 }
@@ -206,9 +211,14 @@ pub enum Verdict {
 /// The register, the chains and the number of slices of a set file.
 pub fn read_set(set: &[u8]) -> Reply<Set> {
     let read = unsafe { raw::canceller_read_set(set.as_ptr(), set.len()) };
-    let (m, taps, s) = (read.m, read.taps, read.s);
-    let spread = read.spread[..read.n as usize].to_vec();
-    accepted(read.refusal, Set { m, taps, spread, s })
+    let set = Set {
+        m: read.m,
+        taps: read.taps,
+        inversion: read.inversion,
+        spread: read.spread[..read.n as usize].to_vec(),
+        s: read.s,
+    };
+    accepted(read.refusal, set)
 }
 
 fn stretch(set: &[u8], at: raw::CStretch) -> Reply<&[u8]> {
@@ -237,6 +247,7 @@ pub fn write_set(set: &Set, values: &[u8], marks: &[u8]) -> Reply<Vec<u8>> {
         raw::canceller_write_set(
             set.m,
             set.taps,
+            set.inversion,
             set.spread.as_ptr(),
             set.spread.len(),
             values.as_ptr(),
@@ -253,10 +264,18 @@ pub fn write_set(set: &Set, values: &[u8], marks: &[u8]) -> Reply<Vec<u8>> {
 }
 
 /// The state after one clock with the cells of one row.
-pub fn clock(m: u64, taps: u64, state: u64, spread: &[u64], row: &[u8]) -> Reply<u64> {
+pub fn clock(
+    m: u64,
+    taps: u64,
+    inversion: u64,
+    state: u64,
+    spread: &[u64],
+    row: &[u8],
+) -> Reply<u64> {
     let (words, bytes) = (spread.as_ptr(), row.as_ptr());
+    let (n, row_len) = (spread.len(), row.len());
     let clocked =
-        unsafe { raw::canceller_clock(m, taps, state, words, spread.len(), bytes, row.len()) };
+        unsafe { raw::canceller_clock(m, taps, inversion, state, words, n, bytes, row_len) };
     accepted(clocked.refusal, clocked.state)
 }
 

@@ -4,8 +4,9 @@
 #include <stdio.h>
 #include <string.h>
 
-/* The register: its width, its tap word, and for each chain the word of the inputs that it drives. */
-static const uint64_t m = 3, taps = 3;
+/* The register: its width, its tap word, the word of the inputs that are inverted, and for each chain the word of those that it
+ * drives. */
+static const uint64_t m = 3, taps = 3, inversion = 0;
 static const uint64_t spread[] = {1, 4};
 
 /* The response: a line for each slice, the first one clocked in first; in it a cell for each chain, 0, 1 or X. */
@@ -30,7 +31,8 @@ int main(int argc, char **argv) {
             if (slices[t][c] == 'X') marks[B * t + c / 8] |= bit;
         }
     }
-    canceller_written w = canceller_write_set(m, taps, spread, N, values, sizeof values, marks, sizeof marks, S, out, sizeof out);
+    canceller_written w =
+        canceller_write_set(m, taps, inversion, spread, N, values, sizeof values, marks, sizeof marks, S, out, sizeof out);
     if (w.refusal) {
         fprintf(stderr, "refused: %d\n", (int)w.refusal);
         return 2;

@@ -7,11 +7,11 @@
  * Lent memory: success writes the front of each lent list or output and not the rest; a refusal writes nothing, but that
  * canceller_plan, once past 14, has filled the front of its column list, whether or not 16, 17 or 18 follows.
  * In what follows m is the register's bits, n the chains, s the slices, B the bytes of a row (n / 8 rounded up) and q the words, m
- * less the rank of the columns. README.md has the files byte by byte.
+ * less the rank of the columns. The set's numbers are 1, 2, 3, 25 and 4 to 10, in this order. README.md has the files byte by byte.
  * No call has a precondition beyond C's own. No call keeps anything between calls; calls on different memory may run at once.
  *
- * The numbers, in the order in which they are looked for:
- *    1 the set has fewer than 10 bytes                      13 the record has a spare bit set
+ * The numbers, in the order in which they are looked for, but that 25 is looked for after 3:
+ *    1 the set has fewer than 18 bytes                      13 the record has a spare bit set
  *    2 m isn't 1 to 64                                      14 the column list is shorter than the unknown cells are many
  *    3 the tap word has bit 0 clear or a bit at or above m  15 a column has a bit at or above m
  *    4 the chain count is absent or isn't 1 to 256          16 more than m independent columns
@@ -23,6 +23,7 @@
  *   10 an unknown cell has its value bit set                22 the second count, the length or a spare bit is wrong
  *   11 the slice number isn't below s                       23 a signature has a bit at or above m
  *   12 the record's length isn't s times B                  24 the output is shorter than the file to be written
+ *                                                           25 the inversion word has a bit at or above m
  */
 #ifndef CANCELLER_H
 #define CANCELLER_H
@@ -34,15 +35,15 @@
 extern "C" {
 #endif
 
-#define CANCELLER_VERSION "1.0.0"
+#define CANCELLER_VERSION "2.0.0"
 
 #define CANCELLER_WIDTH_MAX 64
 #define CANCELLER_CHAINS_MAX 256
 #define CANCELLER_SLICES_MAX 512
-#define CANCELLER_SET_MAX 34830   /* bytes of the longest set */
+#define CANCELLER_SET_MAX 34838   /* bytes of the longest set */
 #define CANCELLER_PLAN_MAX 526    /* bytes of the longest plan */
 
-typedef struct { uint64_t refusal, m, taps, n, s, spread[256]; } canceller_set;
+typedef struct { uint64_t refusal, m, taps, inversion, n, s, spread[256]; } canceller_set;
 typedef struct { uint64_t refusal, start, length; } canceller_stretch;   /* a part of the caller's set: offset and bytes */
 typedef struct { uint64_t refusal, length; } canceller_written;          /* bytes put at the front of the output */
 typedef struct { uint64_t refusal, state; } canceller_clocked;
@@ -52,34 +53,35 @@ typedef struct { uint64_t refusal, rank, q; } canceller_eliminated;
 typedef struct { uint64_t refusal, m, q, expected; } canceller_planned;
 typedef struct { uint64_t refusal, cancelled, failed, index; } canceller_judged; /* failed 0: passes, and index is 0; failed 1: fails at index */
 
-/* The set reader. Answers with m, the tap word, n, s and 256 spread words, zero from n on and all zero in a refusal.
- * Meets 1 to 10. Writes nothing. */
+/* The set reader. Answers with m, the tap word, the inversion word, n, s and 256 spread words, zero from n on and all zero in a
+ * refusal. Meets the set's numbers. Writes nothing. */
 canceller_set        canceller_read_set(const uint8_t *set, size_t set_len);
 
-/* The value row of one slice: where it stands in the caller's set, start and length in bytes. Meets 1 to 11, and then length
- * is 0. Writes nothing. */
+/* The value row of one slice: where it stands in the caller's set, start and length in bytes. Meets the set's numbers, 11, and
+ * then length is 0. Writes nothing. */
 canceller_stretch    canceller_value_row(const uint8_t *set, size_t set_len, uint64_t slice);
 
-/* The row of unknown marks of one slice, in the same way. Meets 1 to 11. Writes nothing. */
+/* The row of unknown marks of one slice, in the same way. Meets the set's numbers, 11. Writes nothing. */
 canceller_stretch    canceller_mark_row(const uint8_t *set, size_t set_len, uint64_t slice);
 
-/* The set writer. Takes the width, the tap word, n spread words, s value rows one after the other, s mark rows one after the
- * other, and s. Answers with the length of the file, and writes it over the front of out.
- * Meets 2, 3, 4, 6, 7, 8 (the length of a list of rows), 9, 10, 24. A refusal writes nothing. */
-canceller_written    canceller_write_set(uint64_t m, uint64_t taps, const uint64_t *spread, size_t n,
+/* The set writer. Takes the width, the tap word, the inversion word, n spread words, s value rows one after the other, s mark rows
+ * one after the other, and s. Answers with the length of the file, and writes it over the front of out.
+ * Meets 2, 3, 25, 4, 6, 7, 8 (the length of a list of rows), 9, 10, 24. A refusal writes nothing. */
+canceller_written    canceller_write_set(uint64_t m, uint64_t taps, uint64_t inversion, const uint64_t *spread, size_t n,
                                          const uint8_t *values, size_t values_len, const uint8_t *marks, size_t marks_len,
                                          uint64_t s, uint8_t *out, size_t out_len);
 
-/* One clock of a register with the cells of one row. Answers with the next state. A fresh register has state 0.
- * Meets 2, 3, 4, 6, 8 (a row not of B bytes), 9, 23 (the state); a refusal hands the state back. Writes nothing. */
-canceller_clocked    canceller_clock(uint64_t m, uint64_t taps, uint64_t state, const uint64_t *spread, size_t n,
-                                     const uint8_t *row, size_t row_len);
+/* One clock of a register with the cells of one row; the inversion word is XORed in at every clock. Answers with the next state. A
+ * fresh register has state 0, whatever the inversion word is.
+ * Meets 2, 3, 25, 4, 6, 8 (a row not of B bytes), 9, 23 (the state); a refusal hands the state back. Writes nothing. */
+canceller_clocked    canceller_clock(uint64_t m, uint64_t taps, uint64_t inversion, uint64_t state,
+                                     const uint64_t *spread, size_t n, const uint8_t *row, size_t row_len);
 
-/* The signature of a record, unknown cells as recorded too. Meets 1 to 10, 12, 13. Writes nothing. */
+/* The signature of a record, unknown cells as recorded too. Meets the set's numbers, 12, 13. Writes nothing. */
 canceller_signed     canceller_sign(const uint8_t *set, size_t set_len, const uint8_t *record, size_t record_len);
 
-/* The columns of a set's unknown cells, by slice and then by chain, over the front of the list. Answers with how many there
- * are. Meets 1 to 10, 14. A refusal writes nothing. */
+/* The columns of a set's unknown cells, by slice and then by chain, over the front of the list; the inversion word doesn't change
+ * them. Answers with how many there are. Meets the set's numbers, 14. A refusal writes nothing. */
 canceller_listed     canceller_list_columns(const uint8_t *set, size_t set_len, uint64_t *columns, size_t columns_len);
 
 /* The elimination: the reduced list of X-free words of these columns over the front of the word list. Answers with the rank of
@@ -87,8 +89,8 @@ canceller_listed     canceller_list_columns(const uint8_t *set, size_t set_len, 
 canceller_eliminated canceller_eliminate(uint64_t m, const uint64_t *columns, size_t columns_len, uint64_t *words, size_t words_len);
 
 /* Planning: columns over the front of the column list, words over the front of the word list. Answers with m, q and the
- * expected bits as one word, bit i for word i. Meets 1 to 10, 14, 16, 17, 18. Past 14 the front of the column list holds the
- * columns whatever follows; a refusal writes nothing else. */
+ * expected bits as one word, bit i for word i. Meets the set's numbers, 14, 16, 17, 18. Past 14 the front of the column list holds
+ * the columns whatever follows; a refusal writes nothing else. */
 canceller_planned    canceller_plan(const uint8_t *set, size_t set_len, uint64_t *columns, size_t columns_len,
                                     uint64_t *words, size_t words_len);
 
