@@ -1,5 +1,5 @@
 -- The laws that the crates above cite: what an accepted set knows, and what the reader's reply says of its set. A set is
--- accepted where none of the numbers 1 to 10 applies to it. Assumes nothing.
+-- accepted where none of the set's numbers applies to it. Assumes nothing.
 use mathlib.Core.Path.{_≡_, refl, sym}
 use mathlib.Core.Bool.{true, false, not, _&&_, _||_}
 use mathlib.Core.List.{List}
@@ -17,9 +17,9 @@ use Rattle.word.proofs.BoolLaws.{or-false-right}
 use Rattle.word.proofs.ReplyLaws.{replied-answered, refused-reply}
 use Rattle.word.proofs.TestLaws.{none-and-rest, numbered, replied-answer, replied-number}
 use Rattle.rows.specs.Row.{rowBytes, spareSet}
-use Rattle.register.specs.Circuit.{badTaps, badChains}
+use Rattle.register.specs.Circuit.{badTaps, badInversion, badChains}
 use Rattle.chains.specs.Driven.{badSpread}
-use Rattle.set_layout.specs.Layout.{chainsAt, spreadAt, slicesAt, headLength, setLength, widthOf, tapsOf, chainsOf, spreadOf, slicesOf, valueRow, markRow, values, marks}
+use Rattle.set_layout.specs.Layout.{chainsAt, spreadAt, slicesAt, headLength, setLength, widthOf, tapsOf, inversionOf, chainsOf, spreadOf, slicesOf, valueRow, markRow, values, marks}
 use Rattle.set_file.specs.Reading.{badSlices, spareInRows, valuedInRows, setTests, SetParts, setPartsOf, setReply}
 use Rattle.set_layout.proofs.LayoutLaws.{good-chains}
 use Rattle.set_layout.proofs.SliceLaws as slices
@@ -57,6 +57,7 @@ set-refusal-first set k h = replied-number (firstOf (setTests set)) (setPartsOf 
 pub record Accepted (set : List ℕ) : Type 0 where
   pub width : badWidth (widthOf set) ≡ false
   pub taps : badTaps (widthOf set) (tapsOf set) ≡ false
+  pub inversion : badInversion (widthOf set) (inversionOf set) ≡ false
   pub chains : badChains (chainsOf set) ≡ false
   pub spread : badSpread (widthOf set) (spreadOf set) ≡ false
   pub slices : slicesOf set ≤ 512
@@ -70,7 +71,8 @@ accepted set h =
     let p1 = none-and-rest (ltb (length set) chainsAt) 0 _ h in
     let p2 = none-and-rest (badWidth (widthOf set)) 1 _ (p1 .1) in
     let p3 = none-and-rest (badTaps (widthOf set) (tapsOf set)) 2 _ (p2 .1) in
-    let p4 = none-and-rest (ltb (length set) spreadAt || badChains (chainsOf set)) 3 _ (p3 .1) in
+    let p25 = none-and-rest (badInversion (widthOf set) (inversionOf set)) 24 _ (p3 .1) in
+    let p4 = none-and-rest (ltb (length set) spreadAt || badChains (chainsOf set)) 3 _ (p25 .1) in
     let p5 = none-and-rest (ltb (length set) (slicesAt (chainsOf set))) 4 _ (p4 .1) in
     let p6 = none-and-rest (badSpread (widthOf set) (spreadOf set)) 5 _ (p5 .1) in
     let p7 = none-and-rest (badSlices set) 6 _ (p6 .1) in
@@ -80,6 +82,7 @@ accepted set h =
     record {
       width = p2 .0;
       taps = p3 .0;
+      inversion = p25 .0;
       chains = or-false-right (ltb (length set) spreadAt) (badChains (chainsOf set)) (p4 .0);
       spread = p6 .0;
       slices = ltb-false 512 (slicesOf set) (or-false-right (ltb (length set) (headLength (chainsOf set))) (ltb 512 (slicesOf set)) (p7 .0));
@@ -129,4 +132,4 @@ accepted-back set a =
     let b7 : ltb (length set) (headLength n) ≡ false = le-ltb (length set) (headLength n) (omega (arith, a .long)) in
     let few : ltb 512 (slicesOf set) ≡ false = le-ltb 512 (slicesOf set) (a .slices) in
     let b8 = eq-eqb (length set) (setLength n (slicesOf set)) (a .long) in
-    rw (b1, a .width, a .taps, b4, a .chains, b5, a .spread, b7, few, b8, a .clean, a .unvalued)
+    rw (b1, a .width, a .taps, a .inversion, b4, a .chains, b5, a .spread, b7, few, b8, a .clean, a .unvalued)

@@ -15,7 +15,7 @@ use Rattle.word.proofs.ReplyLaws.{refused-leaves, answered-writes}
 use Rattle.word.proofs.TestLaws.{replied-not-zero}
 use Rattle.register.specs.Circuit.{circuit}
 use Rattle.register.specs.declared.Register.{Register}
-use Rattle.set_layout.specs.Layout.{widthOf, tapsOf, chainsOf, spreadOf, slicesOf, circuitOf, noWords}
+use Rattle.set_layout.specs.Layout.{widthOf, tapsOf, inversionOf, chainsOf, spreadOf, slicesOf, circuitOf, noWords}
 use Rattle.set_layout.proofs.LayoutLaws.{spread-length}
 use Rattle.set_file.specs.Reading.{SetParts, setTests, setPartsOf, setReply, spreadBeside, said, startOf, takenCircuit}
 use Rattle.set_file.specs.declared.SetAnswer.{SetAnswer}
@@ -33,18 +33,18 @@ reads-refused set ws n e h w =
     let out = refused-leaves (firstOf (setTests set)) n (setPartsOf set) (spreadOf set) noWords e h in
     (out .0, (w ∙ out .1, refl))
 
-pub reads-answer : (set ws : List ℕ) (n m t k s : ℕ) (r : Register) → n ≡ firstOf (setTests set) → n ≡ 0 → m ≡ widthOf set → t ≡ tapsOf set
-    → (r .m ≡ m) × (r .taps ≡ t) × (r .state ≡ 0) → k ≡ chainsOf set → s ≡ slicesOf set
+pub reads-answer : (set ws : List ℕ) (n m t i k s : ℕ) (r : Register) → n ≡ firstOf (setTests set) → n ≡ 0 → m ≡ widthOf set → t ≡ tapsOf set
+    → i ≡ inversionOf set → (r .m ≡ m) × (r .taps ≡ t) × (r .inversion ≡ i) × (r .state ≡ 0) → k ≡ chainsOf set → s ≡ slicesOf set
     → (chainsOf set ≤ 256 → ws ≡ front (spreadOf set) noWords) → Reads set (Read r k s) ws
 unfolding spreadBeside setReply
-reads-answer set ws n m t k s r e z em et er ek es w =
+reads-answer set ws n m t i k s r e z em et ei er ek es w =
     let none : firstOf (setTests set) ≡ 0 = sym e ∙ z in
-    let parts : record { m = r .m; taps = r .taps; n = k; s = s } ≡ setPartsOf set = rw (er .0 ∙ em, er .1 ∙ et, ek, es) in
+    let parts : record { m = r .m; taps = r .taps; inversion = r .inversion; n = k; s = s } ≡ setPartsOf set = rw (er .0 ∙ em, er .1 ∙ et, er .2 ∙ ei, ek, es) in
     let out =
-    answered-writes (firstOf (setTests set)) n (setPartsOf set) (record { m = r .m; taps = r .taps; n = k; s = s }) (spreadOf set) noWords ws e z parts
+    answered-writes (firstOf (setTests set)) n (setPartsOf set) (record { m = r .m; taps = r .taps; inversion = r .inversion; n = k; s = s }) (spreadOf set) noWords ws e z parts
     (w (accepted-chains set (accepted set none) .1))
     in
-    (out .0, (out .1, er .2))
+    (out .0, (out .1, er .3))
 
 -- ---- a refused set
 
@@ -65,6 +65,7 @@ pub record TakenFrom (set : List ℕ) (k : Taken) : Type 0 where
   pub none : firstOf (setTests set) ≡ 0
   pub width : k .register .m ≡ widthOf set
   pub taps : k .register .taps ≡ tapsOf set
+  pub inversion : k .register .inversion ≡ inversionOf set
   pub start : k .register .state ≡ 0
   pub chains : k .n ≡ chainsOf set
   pub slices : k .s ≡ slicesOf set
@@ -75,11 +76,12 @@ pub taken-set : (set ws : List ℕ) (a : SetAnswer) (r : Register) (n s : ℕ) �
     → TakenFrom set (record { register = r; n = n; s = s; spread = ws })
 unfolding spreadBeside front
 taken-set set ws a r n s reads e =
-    let said-parts : setReply set ≡ answer (record { m = r .m; taps = r .taps; n = n; s = s }) = sym (reads .0) ∙ ap said e in
+    let said-parts : setReply set ≡ answer (record { m = r .m; taps = r .taps; inversion = r .inversion; n = n; s = s }) = sym (reads .0) ∙ ap said e in
     let none : firstOf (setTests set) ≡ 0 = set-answer-none set _ said-parts in
-    let parts : record { m = r .m; taps = r .taps; n = n; s = s } ≡ setPartsOf set = set-answer-parts set _ said-parts in
+    let parts : record { m = r .m; taps = r .taps; inversion = r .inversion; n = n; s = s } ≡ setPartsOf set = set-answer-parts set _ said-parts in
     let width : r .m ≡ widthOf set = ap (λ (p : SetParts). p .m) parts in
     let taps : r .taps ≡ tapsOf set = ap (λ (p : SetParts). p .taps) parts in
+    let inversion : r .inversion ≡ inversionOf set = ap (λ (p : SetParts). p .inversion) parts in
     let chains : n ≡ chainsOf set = ap (λ (p : SetParts). p .n) parts in
     let beside : ws ≡ front (spreadOf set) noWords =
     reads .1 .0 ∙ ap (λ (x : Reply SetParts). lent x (spreadOf set) noWords) (set-answers set none)
@@ -92,9 +94,10 @@ taken-set set ws a r n s reads e =
       none = none;
       width = width;
       taps = taps;
+      inversion = inversion;
       start = sym (ap startOf e) ∙ reads .1 .1;
       chains = chains;
       slices = ap (λ (p : SetParts). p .s) parts;
       spread = words;
-      circuit = rw (few, taps, words);
+      circuit = rw (few, taps, inversion, words);
     }

@@ -11,8 +11,8 @@ returns c = reads-refused _ _ _ (c .before .before .set-refusal .ensures) (c .be
 returns-2 : tie.Need-returns-2
 returns-2 c =
     let fresh = c .before .before .before in
-    reads-answer _ _ _ _ _ _ _ _ (fresh .before .before .before .before .set-refusal .ensures) (search needs) (fresh .before .before .register-width .ensures)
-    (fresh .before .tap-word .ensures) (fresh .fresh .ensures) (c .before .before .chain-count .ensures) (c .before .slice-count .ensures)
+    reads-answer _ _ _ _ _ _ _ _ _ (fresh .before .before .before .before .before .set-refusal .ensures) (search needs)
+    (fresh .before .before .before .register-width .ensures) (fresh .before .before .tap-word .ensures) (fresh .before .inversion-word .ensures) (fresh .fresh .ensures) (c .before .before .chain-count .ensures) (c .before .slice-count .ensures)
     (spread-whole _ _ (c .spread-words .ensures))
 
 pub read-set-spec : {M : Type 1} → statement M
@@ -22,6 +22,7 @@ read-set-spec =
     (λ c κs. search needs)
     (λ c κs. search needs)
     returns
+    (λ c κs. search needs)
     (λ c κs. search needs)
     (λ c κs. search needs)
     (λ c κs. search needs)

@@ -9,114 +9,90 @@ use borrow.Author.Needs.{needs}
 use Rattle.set_file.proofs.set_refusal.Statement.{statement}
 use Rattle.set_file.proofs.set_refusal.Tie as tie
 
-is-short-requires : tie.Need-is-short-requires
-is-short-requires c κs = search needs
-
 returns : tie.Need-returns
 unfolding setTests
 returns c = search refusals depth 24 fits 40000
-
-has-bad-width-requires : tie.Need-has-bad-width-requires
-has-bad-width-requires c κs = search needs
 
 returns-2 : tie.Need-returns-2
 unfolding setTests
 returns-2 c = search refusals depth 24 fits 40000
 
-has-bad-taps-requires : tie.Need-has-bad-taps-requires
-has-bad-taps-requires c κs = search needs
-
 returns-3 : tie.Need-returns-3
 unfolding setTests
 returns-3 c = search refusals depth 24 fits 40000
-
-has-bad-chains-requires : tie.Need-has-bad-chains-requires
-has-bad-chains-requires c κs = search needs
 
 returns-4 : tie.Need-returns-4
 unfolding setTests
 returns-4 c = search refusals depth 24 fits 40000
 
-ends-in-spread-requires : tie.Need-ends-in-spread-requires
-ends-in-spread-requires c κs = search needs
-
 returns-5 : tie.Need-returns-5
 unfolding setTests
 returns-5 c = search refusals depth 24 fits 40000
-
-has-bad-spread-requires : tie.Need-has-bad-spread-requires
-has-bad-spread-requires c κs = search needs
 
 returns-6 : tie.Need-returns-6
 unfolding setTests
 returns-6 c = search refusals depth 24 fits 40000
 
-has-bad-slices-requires : tie.Need-has-bad-slices-requires
-has-bad-slices-requires c κs = search needs
-
 returns-7 : tie.Need-returns-7
 unfolding setTests
 returns-7 c = search refusals depth 24 fits 40000
-
-has-wrong-length-requires : tie.Need-has-wrong-length-requires
-has-wrong-length-requires c κs = search needs
 
 returns-8 : tie.Need-returns-8
 unfolding setTests
 returns-8 c = search refusals depth 24 fits 40000
 
-has-spare-bits-requires : tie.Need-has-spare-bits-requires
-has-spare-bits-requires c κs = search needs
-
 returns-9 : tie.Need-returns-9
 unfolding setTests
 returns-9 c = search refusals depth 24 fits 40000
 
-has-valued-unknown-requires : tie.Need-has-valued-unknown-requires
-has-valued-unknown-requires c κs = search needs
+returns-10 : tie.Need-returns-10
+unfolding setTests
+returns-10 c = search refusals depth 24 fits 40000
 
 -- the set, where its last test has been made
 abbrev tested : tie.After-has-valued-unknown → List ℕ
-tested c = c .before .before .before .before .before .before .before .before .before .before .before .before .before .before .before .before .before .before .before .before .args .set .now
+tested c = c .before .before .before .before .before .before .before .before .before .before .before .before .before .before .before .before .before .before .before .before .before .before .args .set .now
 
 -- number 10, once 8 and 9 don't apply
 valued : (c : tie.After-has-valued-unknown) → c .has-valued-unknown .result ≡ valuedInRows (tested c)
 valued c =
     let clean = c .before in
     let fits = clean .before .before in
-    c .has-valued-unknown .ensures (length-fits _ _ (fits .before .has-wrong-length .ensures) (fits .if8 .left))
-    (sym (clean .before .has-spare-bits .ensures) ∙ clean .if9 .left)
-
-returns-10 : tie.Need-returns-10
-unfolding setTests
-returns-10 c = let unknown = valued (c .before) in search refusals depth 24 fits 40000
+    c .has-valued-unknown .ensures (length-fits _ _ (fits .before .has-wrong-length .ensures) (fits .if9 .left))
+    (sym (clean .before .has-spare-bits .ensures) ∙ clean .if10 .left)
 
 returns-11 : tie.Need-returns-11
 unfolding setTests
 returns-11 c = let unknown = valued (c .before) in search refusals depth 24 fits 40000
 
+returns-12 : tie.Need-returns-12
+unfolding setTests
+returns-12 c = let unknown = valued (c .before) in search refusals depth 24 fits 40000
+
 pub set-refusal-spec : {M : Type 1} → statement M
 set-refusal-spec =
     tie.close
     (tie.spec
-    is-short-requires
+    (λ c κs. search needs)
     returns
-    has-bad-width-requires
+    (λ c κs. search needs)
     returns-2
-    has-bad-taps-requires
+    (λ c κs. search needs)
     returns-3
-    has-bad-chains-requires
+    (λ c κs. search needs)
     returns-4
-    ends-in-spread-requires
+    (λ c κs. search needs)
     returns-5
-    has-bad-spread-requires
+    (λ c κs. search needs)
     returns-6
-    has-bad-slices-requires
+    (λ c κs. search needs)
     returns-7
-    has-wrong-length-requires
+    (λ c κs. search needs)
     returns-8
-    has-spare-bits-requires
+    (λ c κs. search needs)
     returns-9
-    has-valued-unknown-requires
+    (λ c κs. search needs)
     returns-10
-    returns-11)
+    (λ c κs. search needs)
+    returns-11
+    returns-12)
