@@ -19,7 +19,7 @@ use Rattle.word.proofs.TestLaws.{none-and-rest}
 use Rattle.rows.specs.Row.{rowBytes}
 use Rattle.rows.specs.Lists.{listRow, sharesBit, spareIn, valuedUnknown}
 use Rattle.rows.proofs.ListLaws.{valued-lists}
-use Rattle.register.specs.Circuit.{badTaps, badChains, tooManySlices}
+use Rattle.register.specs.Circuit.{badTaps, badInversion, badChains, tooManySlices}
 use Rattle.chains.specs.Driven.{badSpread}
 use Rattle.set_layout.specs.Layout.{setLength}
 use Rattle.set_layout.proofs.LayoutLaws.{good-chains}
@@ -64,6 +64,7 @@ module _ (k : SetContent) (rows : badRows k ≡ false) where
 pub record Writable (k : SetContent) (room : ℕ) : Type 0 where
   pub width : badWidth (k .m) ≡ false
   pub taps : badTaps (k .m) (k .taps) ≡ false
+  pub inversion : badInversion (k .m) (k .inversion) ≡ false
   pub chains : badChains (contentChains k) ≡ false
   pub spread : badSpread (k .m) (k .spread) ≡ false
   pub slices : k .s ≤ 512
@@ -77,7 +78,8 @@ unfolding setWriteTests
 writable k room h =
     let p2 = none-and-rest (badWidth (k .m)) 1 _ h in
     let p3 = none-and-rest (badTaps (k .m) (k .taps)) 2 _ (p2 .1) in
-    let p4 = none-and-rest (badChains (contentChains k)) 3 _ (p3 .1) in
+    let p25 = none-and-rest (badInversion (k .m) (k .inversion)) 24 _ (p3 .1) in
+    let p4 = none-and-rest (badChains (contentChains k)) 3 _ (p25 .1) in
     let p6 = none-and-rest (badSpread (k .m) (k .spread)) 5 _ (p4 .1) in
     let p7 = none-and-rest (tooManySlices (k .s)) 6 _ (p6 .1) in
     let p8 = none-and-rest (badRows k) 7 _ (p7 .1) in
@@ -87,6 +89,7 @@ writable k room h =
     record {
       width = p2 .0;
       taps = p3 .0;
+      inversion = p25 .0;
       chains = p4 .0;
       spread = p6 .0;
       slices = ltb-false 512 (k .s) (p7 .0);
@@ -102,4 +105,4 @@ unfolding setWriteTests
 writable-back k room w =
     let few : tooManySlices (k .s) ≡ false = le-ltb 512 (k .s) (w .slices) in
     let last : ltb room (setLength (contentChains k) (k .s)) ≡ false = le-ltb room (setLength (contentChains k) (k .s)) (w .fits) in
-    rw (w .width, w .taps, w .chains, w .spread, few, w .rows, w .clean, w .unvalued, last)
+    rw (w .width, w .taps, w .inversion, w .chains, w .spread, few, w .rows, w .clean, w .unvalued, last)

@@ -13,7 +13,7 @@ use Rattle.numbers.specs.Joined.{joined}
 use Rattle.numbers.proofs.ByteLaws.{bytes-of-length, length-word-bytes}
 use Rattle.numbers.proofs.FileLaws.{sets-parts, front-sets}
 use Rattle.rows.specs.Row.{rowBytes}
-use Rattle.set_layout.specs.Layout.{tapsAt, chainsAt, spreadAt, slicesAt, headLength, rowsAt, setLength}
+use Rattle.set_layout.specs.Layout.{tapsAt, inversionAt, chainsAt, spreadAt, slicesAt, headLength, rowsAt, setLength}
 use Rattle.set_content.specs.Content.{SetContent, contentChains, badRows, setWriteTests}
 use Rattle.set_content.proofs.ContentLaws.{Writable, writable, chains-small, values-length, marks-length}
 use Rattle.set_writer.specs.Writing.{headBytes, sliceBytes, setBytes, setWriteReply, saidSetWritten}
@@ -23,22 +23,22 @@ use Rattle.set_writer.proofs.WriteLaws.{slices-length}
 
 -- ---- how long the file is
 
-module _ (m taps : ℕ) (ws : List ℕ) (s : ℕ) where
-  pub head-length : length (headBytes m taps ws s) ≡ headLength (length ws)
+module _ (m taps inversion : ℕ) (ws : List ℕ) (s : ℕ) where
+  pub head-length : length (headBytes m taps inversion ws s) ≡ headLength (length ws)
   unfolding headBytes
   head-length =
       simp length-append
       (omega
-      (arith, bytes-of-length 2 m, bytes-of-length 8 taps, bytes-of-length 2 (length ws), length-word-bytes ws, bytes-of-length 2 s))
+      (arith, bytes-of-length 2 m, bytes-of-length 8 taps, bytes-of-length 8 inversion, bytes-of-length 2 (length ws), length-word-bytes ws, bytes-of-length 2 s))
 
 module _ (k : SetContent) (rows : badRows k ≡ false) where
   pub set-bytes-length : length (setBytes k) ≡ setLength (contentChains k) (k .s)
   unfolding setBytes
   set-bytes-length =
-      length-append (headBytes (k .m) (k .taps) (k .spread) (k .s)) (joined (sliceBytes (contentChains k) (k .values) (k .marks)) (k .s))
+      length-append (headBytes (k .m) (k .taps) (k .inversion) (k .spread) (k .s)) (joined (sliceBytes (contentChains k) (k .values) (k .marks)) (k .s))
       ∙ omega (
         arith,
-        head-length (k .m) (k .taps) (k .spread) (k .s),
+        head-length (k .m) (k .taps) (k .inversion) (k .spread) (k .s),
         slices-length (contentChains k) (k .values) (k .marks) (k .s) (omega (arith, values-length k rows)) (omega (arith, marks-length k rows)),
       )
 
@@ -48,38 +48,43 @@ write-answers k room h = replied-answered (firstOf (setWriteTests k room)) (setL
 
 -- ---- the bytes before the rows
 
-module _ (m taps : ℕ) (ws : List ℕ) (s : ℕ) where
-  pub head-written : (n : ℕ) (l l₁ l₂ l₃ l₄ l₅ : List ℕ) → l₁ ≡ sets l 0 (bytesOf 2 m) → l₂ ≡ sets l₁ tapsAt (bytesOf 8 taps)
-      → l₃ ≡ sets l₂ chainsAt (bytesOf 2 (length ws)) → l₄ ≡ sets l₃ spreadAt (wordBytes ws) → n ≡ slicesAt (length ws)
-      → l₅ ≡ sets l₄ n (bytesOf 2 s) → l₅ ≡ sets l 0 (headBytes m taps ws s)
+module _ (m taps inversion : ℕ) (ws : List ℕ) (s : ℕ) where
+  pub head-written : (n : ℕ) (l l₁ l₂ lᵢ l₃ l₄ l₅ : List ℕ) → l₁ ≡ sets l 0 (bytesOf 2 m) → l₂ ≡ sets l₁ tapsAt (bytesOf 8 taps)
+      → lᵢ ≡ sets l₂ inversionAt (bytesOf 8 inversion) → l₃ ≡ sets lᵢ chainsAt (bytesOf 2 (length ws)) → l₄ ≡ sets l₃ spreadAt (wordBytes ws)
+      → n ≡ slicesAt (length ws) → l₅ ≡ sets l₄ n (bytesOf 2 s) → l₅ ≡ sets l 0 (headBytes m taps inversion ws s)
   unfolding headBytes
-  head-written n l l₁ l₂ l₃ l₄ l₅ e₁ e₂ e₃ e₄ en e₅ =
+  head-written n l l₁ l₂ lᵢ l₃ l₄ l₅ e₁ e₂ eᵢ e₃ e₄ en e₅ =
       let a = bytesOf 2 m in
       let b = bytesOf 8 taps in
+      let i = bytesOf 8 inversion in
       let c = bytesOf 2 (length ws) in
       let d = wordBytes ws in
       let e = bytesOf 2 s in
       let at = slicesAt (length ws) in
       let p₁ : 0 + length a ≡ tapsAt = omega (arith, bytes-of-length 2 m) in
-      let p₂ : tapsAt + length b ≡ chainsAt = omega (arith, bytes-of-length 8 taps) in
+      let p₂ : tapsAt + length b ≡ inversionAt = omega (arith, bytes-of-length 8 taps) in
+      let pᵢ : inversionAt + length i ≡ chainsAt = omega (arith, bytes-of-length 8 inversion) in
       let p₃ : chainsAt + length c ≡ spreadAt = omega (arith, bytes-of-length 2 (length ws)) in
       let p₄ : spreadAt + length d ≡ at = ap (λ (x : ℕ). spreadAt + x) (length-word-bytes ws) in
-      e₅ ∙ ap₂ (λ (x : List ℕ) (i : ℕ). sets x i e) e₄ en ∙ sym (sets-parts d e l₃ spreadAt at p₄)
-      ∙ ap (λ (x : List ℕ). sets x spreadAt (d ++ e)) e₃ ∙ sym (sets-parts c (d ++ e) l₂ chainsAt spreadAt p₃)
-      ∙ ap (λ (x : List ℕ). sets x chainsAt (c ++ (d ++ e))) e₂ ∙ sym (sets-parts b (c ++ (d ++ e)) l₁ tapsAt chainsAt p₂)
-      ∙ ap (λ (x : List ℕ). sets x tapsAt (b ++ (c ++ (d ++ e)))) e₁ ∙ sym (sets-parts a (b ++ (c ++ (d ++ e))) l 0 tapsAt p₁)
+      e₅ ∙ ap₂ (λ (x : List ℕ) (j : ℕ). sets x j e) e₄ en ∙ sym (sets-parts d e l₃ spreadAt at p₄)
+      ∙ ap (λ (x : List ℕ). sets x spreadAt (d ++ e)) e₃ ∙ sym (sets-parts c (d ++ e) lᵢ chainsAt spreadAt p₃)
+      ∙ ap (λ (x : List ℕ). sets x chainsAt (c ++ (d ++ e))) eᵢ ∙ sym (sets-parts i (c ++ (d ++ e)) l₂ inversionAt chainsAt pᵢ)
+      ∙ ap (λ (x : List ℕ). sets x inversionAt (i ++ (c ++ (d ++ e)))) e₂
+      ∙ sym (sets-parts b (i ++ (c ++ (d ++ e))) l₁ tapsAt inversionAt p₂)
+      ∙ ap (λ (x : List ℕ). sets x tapsAt (b ++ (i ++ (c ++ (d ++ e))))) e₁
+      ∙ sym (sets-parts a (b ++ (i ++ (c ++ (d ++ e)))) l 0 tapsAt p₁)
 
 -- the head and then the rows are the file
-file-written : (k : SetContent) (l l₁ l₂ : List ℕ) → Writable k (length l) → l₁ ≡ sets l 0 (headBytes (k .m) (k .taps) (k .spread) (k .s))
+file-written : (k : SetContent) (l l₁ l₂ : List ℕ) → Writable k (length l) → l₁ ≡ sets l 0 (headBytes (k .m) (k .taps) (k .inversion) (k .spread) (k .s))
     → l₂ ≡ sets l₁ (rowsAt (contentChains k)) (joined (sliceBytes (contentChains k) (k .values) (k .marks)) (k .s))
     → l₂ ≡ front (setBytes k) l
 unfolding setBytes
 file-written k l l₁ l₂ w e₁ e₂ =
-    let head = headBytes (k .m) (k .taps) (k .spread) (k .s) in
+    let head = headBytes (k .m) (k .taps) (k .inversion) (k .spread) (k .s) in
     let slices = joined (sliceBytes (contentChains k) (k .values) (k .marks)) (k .s) in
     e₂
     ∙ ap (λ (x : List ℕ). sets x (rowsAt (contentChains k)) slices) e₁
-    ∙ sym (sets-parts head slices l 0 (rowsAt (contentChains k)) (omega (arith, head-length (k .m) (k .taps) (k .spread) (k .s))))
+    ∙ sym (sets-parts head slices l 0 (rowsAt (contentChains k)) (omega (arith, head-length (k .m) (k .taps) (k .inversion) (k .spread) (k .s))))
     ∙ front-sets (setBytes k) l (omega (arith, set-bytes-length k (w .rows), w .fits))
 
 -- ---- the two ways out of the call
@@ -103,7 +108,7 @@ module _ (k : SetContent) (l : List ℕ) (n : ℕ) (e : n ≡ firstOf (setWriteT
   written-slices = omega (arith, written .slices)
 
   pub writes-done : (c : ℕ) (l₁ l₂ : List ℕ) → c ≡ setLength (contentChains k) (k .s)
-      → l₁ ≡ sets l 0 (headBytes (k .m) (k .taps) (k .spread) (k .s))
+      → l₁ ≡ sets l 0 (headBytes (k .m) (k .taps) (k .inversion) (k .spread) (k .s))
       → (length (k .values) ≡ rowBytes (contentChains k) * k .s → length (k .marks) ≡ rowBytes (contentChains k) * k .s
       → l₂ ≡ sets l₁ (rowsAt (contentChains k)) (joined (sliceBytes (contentChains k) (k .values) (k .marks)) (k .s)))
       → Writes k l (Done c) l₂

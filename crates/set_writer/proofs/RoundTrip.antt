@@ -1,6 +1,6 @@
 -- What the set writer writes the set reader and the row calls read back, and a set that is accepted is the file of its content:
 --
---   Holds k set        the set file `set` gives m, the tap word, the spread words, s and the rows of the content k
+--   Holds k set        the set file `set` gives m, the tap word, the inversion word, the spread words, s and the rows of the content k
 --   written-holds      .. as the file that the writer makes of k does
 --   ReadBack k         what the set reader and the row calls answer of that file
 --   written-set        .. so they give back what the writer was handed
@@ -9,7 +9,7 @@
 --   file-of-content    an accepted set that gives the content k is the file of k
 --   set-of-content     .. and so it is the file of its own content
 --   content-written    the writer takes the content of an accepted set, where the output has room for it
---   one-file           two accepted sets with the same m, tap word, spread words, s and rows are the same file
+--   one-file           two accepted sets with the same m, tap word, inversion word, spread words, s and rows are the same file
 -- .. and at the height of the calls, with the whole content as one value:
 --   content-back       the content of the file that the writer makes of k is k
 --   output-back        .. so the output's front, as long as the writer answers, is an accepted set with the content k
@@ -40,11 +40,11 @@ use Rattle.rows.specs.Row.{rowBytes}
 use Rattle.rows.specs.Lists.{listRow, spareIn, valuedUnknown}
 use Rattle.rows.proofs.CellLaws.{row-step, list-row-length}
 use Rattle.rows.proofs.ListLaws.{spare-in-ext, valued-ext}
-use Rattle.register.specs.Circuit.{badTaps, badChains}
+use Rattle.register.specs.Circuit.{badTaps, badInversion, badChains}
 use Rattle.chains.specs.Driven.{badSpread}
-use Rattle.register.proofs.Laws.{good-taps}
+use Rattle.register.proofs.Laws.{good-taps, good-inversion}
 use Rattle.chains.proofs.Laws.{good-spread}
-use Rattle.set_layout.specs.Layout.{tapsAt, chainsAt, spreadAt, slicesAt, rowsAt, setLength, widthOf, tapsOf, chainsOf, spreadOf, slicesOf, valueRow, markRow, valuesOf, marksOf, noWords}
+use Rattle.set_layout.specs.Layout.{tapsAt, inversionAt, chainsAt, spreadAt, slicesAt, rowsAt, setLength, widthOf, tapsOf, inversionOf, chainsOf, spreadOf, slicesOf, valueRow, markRow, valuesOf, marksOf, noWords}
 use Rattle.set_layout.proofs.LayoutLaws.{spread-length}
 use Rattle.set_layout.proofs.SliceLaws.{rowsOf}
 use Rattle.set_layout.proofs.SliceLaws as slices
@@ -63,6 +63,7 @@ use Rattle.set_writer.proofs.FileLaws.{head-length, set-bytes-length, w
 pub record Holds (k : SetContent) (set : List ℕ) : Type 0 where
   pub width : widthOf set ≡ k .m
   pub taps : tapsOf set ≡ k .taps
+  pub inversion : inversionOf set ≡ k .inversion
   pub spread : spreadOf set ≡ k .spread
   pub slices : slicesOf set ≡ k .s
   pub value-rows : (t : ℕ) → t < k .s → valueRow set t ≡ listRow (contentChains k) (k .values) t
@@ -93,7 +94,7 @@ same-parts a b c d n ea ec e =
 file-parts : (k : SetContent)
     → setBytes k
     ≡ bytesOf 2 (k .m)
-    ++ (bytesOf 8 (k .taps) ++ (bytesOf 2 (contentChains k) ++ (wordBytes (k .spread) ++ (bytesOf 2 (k .s) ++ joined (sliceBytes (contentChains k) (k .values) (k .marks)) (k .s)))))
+    ++ (bytesOf 8 (k .taps) ++ (bytesOf 8 (k .inversion) ++ (bytesOf 2 (contentChains k) ++ (wordBytes (k .spread) ++ (bytesOf 2 (k .s) ++ joined (sliceBytes (contentChains k) (k .values) (k .marks)) (k .s))))))
 unfolding setBytes headBytes
 file-parts k = simp append-assoc
 
@@ -102,8 +103,11 @@ module _ (k : SetContent) (room : ℕ) (w : Writable k room) where
   n = contentChains k
 
   -- the parts of the head, and the rows
+  abbrev width-taps : List ℕ
+  width-taps = bytesOf 2 (k .m) ++ bytesOf 8 (k .taps)
+
   abbrev start : List ℕ
-  start = bytesOf 2 (k .m) ++ bytesOf 8 (k .taps)
+  start = width-taps ++ bytesOf 8 (k .inversion)
 
   abbrev rows : List ℕ
   rows = joined (sliceBytes n (k .values) (k .marks)) (k .s)
@@ -114,9 +118,12 @@ module _ (k : SetContent) (room : ℕ) (w : Writable k room) where
   chains-fit : n < 256 ^ 2
   chains-fit = omega (arith, chains-small n false (sym (w .chains)) refl)
 
-  start-long : length start ≡ chainsAt
-  start-long =
+  taps-long : length width-taps ≡ inversionAt
+  taps-long =
       length-append (bytesOf 2 (k .m)) (bytesOf 8 (k .taps)) ∙ omega (arith, bytes-of-length 2 (k .m), bytes-of-length 8 (k .taps))
+
+  start-long : length start ≡ chainsAt
+  start-long = length-append width-taps (bytesOf 8 (k .inversion)) ∙ omega (arith, taps-long, bytes-of-length 8 (k .inversion))
 
   count-long : length (start ++ bytesOf 2 n) ≡ spreadAt
   count-long = length-append start (bytesOf 2 n) ∙ omega (arith, start-long, bytes-of-length 2 n)
@@ -124,9 +131,12 @@ module _ (k : SetContent) (room : ℕ) (w : Writable k room) where
   spread-long : length (start ++ bytesOf 2 n ++ wordBytes (k .spread)) ≡ slicesAt n
   spread-long = length-append (start ++ bytesOf 2 n) (wordBytes (k .spread)) ∙ omega (arith, count-long, length-word-bytes (k .spread))
 
-  -- the file from n, from its spread words and from s on
+  -- the file from its inversion word, from n, from its spread words and from s on
+  from-inversion : setBytes k ≡ width-taps ++ (bytesOf 8 (k .inversion) ++ (bytesOf 2 n ++ (wordBytes (k .spread) ++ (bytesOf 2 (k .s) ++ rows))))
+  from-inversion = file-parts k ∙ sym (append-assoc (bytesOf 2 (k .m)) (bytesOf 8 (k .taps)) _)
+
   from-chains : setBytes k ≡ start ++ (bytesOf 2 n ++ (wordBytes (k .spread) ++ (bytesOf 2 (k .s) ++ rows)))
-  from-chains = file-parts k ∙ sym (append-assoc (bytesOf 2 (k .m)) (bytesOf 8 (k .taps)) _)
+  from-chains = from-inversion ∙ sym (append-assoc width-taps (bytesOf 8 (k .inversion)) _)
 
   from-spread : setBytes k ≡ start ++ bytesOf 2 n ++ (wordBytes (k .spread) ++ (bytesOf 2 (k .s) ++ rows))
   from-spread = from-chains ∙ sym (append-assoc start (bytesOf 2 n) _)
@@ -182,6 +192,10 @@ module _ (k : SetContent) (room : ℕ) (w : Writable k room) where
         ap (λ (s : List ℕ). wordAt s tapsAt) (file-parts k)
         ∙ number-back 8 (k .taps) (bytesOf 2 (k .m)) _ tapsAt (bytes-of-length 2 (k .m))
         (lt-of-lt-of-le (good-taps (k .m) (k .taps) (w .taps) .1) (pow-mono most-width));
+    inversion =
+        ap (λ (s : List ℕ). wordAt s inversionAt) from-inversion
+        ∙ number-back 8 (k .inversion) width-taps _ inversionAt taps-long
+        (lt-of-lt-of-le (good-inversion (k .m) (k .inversion) (w .inversion)) (pow-mono most-width));
     spread = written-spread;
     slices = written-slices;
     value-rows = λ t l. written-slice t l .0;
@@ -202,9 +216,10 @@ module _ (k : SetContent) (room : ℕ) (w : Writable k room) where
       let marks : marksOf (setBytes k) ≡ k .marks =
       ap (joined (markRow (setBytes k))) written-slices ∙ list-back (k .marks) (markRow (setBytes k)) (marks-length k (w .rows)) (h .mark-rows)
       in
-      ap₂ (λ (x y : List ℕ). setContent (widthOf (setBytes k)) (tapsOf (setBytes k)) (spreadOf (setBytes k)) x y (slicesOf (setBytes k))) values marks
-      ∙ ap₂ (λ (x y : ℕ). setContent x y (spreadOf (setBytes k)) (k .values) (k .marks) (slicesOf (setBytes k))) (h .width) (h .taps)
-      ∙ ap₂ (λ (x : List ℕ) (y : ℕ). setContent (k .m) (k .taps) x (k .values) (k .marks) y) (h .spread) (h .slices)
+      ap₂ (λ (x y : List ℕ). setContent (widthOf (setBytes k)) (tapsOf (setBytes k)) (inversionOf (setBytes k)) (spreadOf (setBytes k)) x y (slicesOf (setBytes k))) values marks
+      ∙ ap₂ (λ (x y : ℕ). setContent x y (inversionOf (setBytes k)) (spreadOf (setBytes k)) (k .values) (k .marks) (slicesOf (setBytes k))) (h .width) (h .taps)
+      ∙ ap (λ (x : ℕ). setContent (k .m) (k .taps) x (spreadOf (setBytes k)) (k .values) (k .marks) (slicesOf (setBytes k))) (h .inversion)
+      ∙ ap₂ (λ (x : List ℕ) (y : ℕ). setContent (k .m) (k .taps) (k .inversion) x (k .values) (k .marks) y) (h .spread) (h .slices)
 
   pub written-accepted : Accepted (setBytes k)
   written-accepted =
@@ -212,6 +227,7 @@ module _ (k : SetContent) (room : ℕ) (w : Writable k room) where
       record {
         width = ap badWidth (h .width) ∙ w .width;
         taps = ap₂ badTaps (h .width) (h .taps) ∙ w .taps;
+        inversion = ap₂ badInversion (h .width) (h .inversion) ∙ w .inversion;
         chains = ap badChains written-chains ∙ w .chains;
         spread = ap₂ badSpread (h .width) (h .spread) ∙ w .spread;
         slices = omega (arith, written-slices, w .slices);
@@ -223,7 +239,7 @@ module _ (k : SetContent) (room : ℕ) (w : Writable k room) where
 -- ---- what the set reader and the row calls answer of it
 
 pub record ReadBack (k : SetContent) : Type 0 where
-  pub reply : setReply (setBytes k) ≡ answer (record { m = k .m; taps = k .taps; n = contentChains k; s = k .s })
+  pub reply : setReply (setBytes k) ≡ answer (record { m = k .m; taps = k .taps; inversion = k .inversion; n = contentChains k; s = k .s })
   pub spread : spreadOf (setBytes k) ≡ k .spread
   pub beside : spreadBeside (setBytes k) ≡ front (k .spread) noWords
   pub long : length (setBytes k) ≡ setLength (contentChains k) (k .s)
@@ -239,8 +255,8 @@ written-set k room none =
     let w : Writable k room = writable k room none in
     let h : Holds k (setBytes k) = written-holds k room w in
     let taken : firstOf (setTests (setBytes k)) ≡ 0 = accepted-back (setBytes k) (written-accepted k room w) in
-    let parts : setReply (setBytes k) ≡ answer (record { m = k .m; taps = k .taps; n = contentChains k; s = k .s }) =
-    set-answers (setBytes k) taken ∙ rw (h .slices, h .width, h .taps, same-chains k (setBytes k) h)
+    let parts : setReply (setBytes k) ≡ answer (record { m = k .m; taps = k .taps; inversion = k .inversion; n = contentChains k; s = k .s }) =
+    set-answers (setBytes k) taken ∙ rw (h .slices, h .width, h .taps, h .inversion, same-chains k (setBytes k) h)
     in
     record {
       reply = parts;
@@ -274,6 +290,7 @@ module _ (set : List ℕ) (a : Accepted set) where
   content-holds = record {
     width = refl;
     taps = refl;
+    inversion = refl;
     spread = refl;
     slices = refl;
     value-rows =
@@ -301,6 +318,7 @@ module _ (set : List ℕ) (a : Accepted set) where
   content-writable room fits = record {
     width = a .width;
     taps = a .taps;
+    inversion = a .inversion;
     chains = ap badChains (spread-length set) ∙ a .chains;
     spread = a .spread;
     slices = a .slices;
@@ -326,6 +344,9 @@ file-of-content set k small none h =
     let long : length set ≡ setLength n (slicesOf set) = a .long in
     let p1 : bytesOf 2 (k .m) ≡ take 2 (drop 0 set) = ap (bytesOf 2) (sym (h .width)) ∙ number-bytes set small 2 0 (omega arith) in
     let p2 : bytesOf 8 (k .taps) ≡ take 8 (drop tapsAt set) = ap (bytesOf 8) (sym (h .taps)) ∙ number-bytes set small 8 tapsAt (omega arith) in
+    let pi : bytesOf 8 (k .inversion) ≡ take 8 (drop inversionAt set) =
+    ap (bytesOf 8) (sym (h .inversion)) ∙ number-bytes set small 8 inversionAt (omega arith)
+    in
     let p3 : bytesOf 2 (contentChains k) ≡ take 2 (drop chainsAt set) = ap (bytesOf 2) c ∙ number-bytes set small 2 chainsAt (omega arith) in
     let p4 : wordBytes (k .spread) ≡ take (8 * n) (drop spreadAt set) =
     ap wordBytes (sym (h .spread)) ∙ words-bytes set small n spreadAt (omega arith)
@@ -344,25 +365,27 @@ file-of-content set k small none h =
     part-joins set spreadAt (8 * n) (slicesAt n) (omega arith)
     in
     let j3 : take 2 (drop chainsAt set) ++ drop spreadAt set ≡ drop chainsAt set = part-joins set chainsAt 2 spreadAt (omega arith) in
-    let j2 : take 8 (drop tapsAt set) ++ drop chainsAt set ≡ drop tapsAt set = part-joins set tapsAt 8 chainsAt (omega arith) in
+    let ji : take 8 (drop inversionAt set) ++ drop chainsAt set ≡ drop inversionAt set = part-joins set inversionAt 8 chainsAt (omega arith) in
+    let j2 : take 8 (drop tapsAt set) ++ drop inversionAt set ≡ drop tapsAt set = part-joins set tapsAt 8 inversionAt (omega arith) in
     let j1 : take 2 (drop 0 set) ++ drop tapsAt set ≡ drop 0 set = part-joins set 0 2 tapsAt (omega arith) in
-    file-parts k ∙ ap₂ _++_ p1 (ap₂ _++_ p2 (ap₂ _++_ p3 (ap₂ _++_ p4 (ap₂ _++_ p5 p6 ∙ j5) ∙ j4) ∙ j3) ∙ j2) ∙ j1
+    file-parts k ∙ ap₂ _++_ p1 (ap₂ _++_ p2 (ap₂ _++_ pi (ap₂ _++_ p3 (ap₂ _++_ p4 (ap₂ _++_ p5 p6 ∙ j5) ∙ j4) ∙ j3) ∙ ji) ∙ j2) ∙ j1
 
 pub set-of-content : (set : List ℕ) → ((i : ℕ) → getD set i 0 < 256) → firstOf (setTests set) ≡ 0 → setBytes (contentIn set) ≡ set
 set-of-content set small none = file-of-content set (contentIn set) small none (content-holds set (accepted set none))
 
 pub one-file : (one other : List ℕ) → ((i : ℕ) → getD one i 0 < 256) → ((i : ℕ) → getD other i 0 < 256)
     → firstOf (setTests one) ≡ 0 → firstOf (setTests other) ≡ 0
-    → widthOf one ≡ widthOf other → tapsOf one ≡ tapsOf other → spreadOf one ≡ spreadOf other → slicesOf one ≡ slicesOf other
+    → widthOf one ≡ widthOf other → tapsOf one ≡ tapsOf other → inversionOf one ≡ inversionOf other → spreadOf one ≡ spreadOf other → slicesOf one ≡ slicesOf other
     → ((t : ℕ) → t < slicesOf other → valueRow one t ≡ valueRow other t)
     → ((t : ℕ) → t < slicesOf other → markRow one t ≡ markRow other t)
     → one ≡ other
-one-file one other small small′ none none′ width taps spread slices rows rows′ =
+one-file one other small small′ none none′ width taps inversion spread slices rows rows′ =
     let own : Holds (contentIn other) other = content-holds other (accepted other none′) in
     let same : Holds (contentIn other) one =
     record {
       width = width;
       taps = taps;
+      inversion = inversion;
       spread = spread;
       slices = slices;
       value-rows = λ t l. rows t l ∙ own .value-rows t l;

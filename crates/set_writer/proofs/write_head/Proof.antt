@@ -9,7 +9,7 @@ returns c =
     let spread = c .before .before .before .before .before .before .before in
     let word = spread .before .before .before .before .before .before .before .before in
     let entry = word .before .before .before .before .before .before .before .before .args in
-    head-written (entry .m) (entry .taps) (entry .spread .now) (entry .s) _ _ _ _ _ _ _ (word .before .before .before .before .write-count .ensures) (word .write-word .ensures)
+    head-written (entry .m) (entry .taps) (entry .inversion) (entry .spread .now) (entry .s) _ _ _ _ _ _ _ (word .before .before .before .before .write-count .ensures) (word .write-word .ensures)
     (spread .before .before .before .before .write-count2 .ensures) (spread .write-words .ensures) (c .before .before .before .slices-at .ensures) (c .before .before .write-count3 .ensures)
 
 pub write-head-spec : {M : Type 1} → statement M

@@ -10,7 +10,7 @@ use Rattle.set_writer.proofs.write_set.Tie as tie
 abbrev content : tie.Else1 → SetContent
 content c =
     let entry = c .before .before .before .before .before .before .args in
-    setContent (entry .m) (entry .taps) (entry .spread .now) (entry .values .now) (entry .marks .now) (entry .s)
+    setContent (entry .m) (entry .taps) (entry .inversion) (entry .spread .now) (entry .values .now) (entry .marks .now) (entry .s)
 
 few-chains : (c : tie.Else1) → contentChains (content c) < 65536
 few-chains c = written-chains (content c) (c .before .before .before .before .before .before .args .out .now) _ (c .before .write-refusal .ensures) (search needs)
@@ -18,7 +18,7 @@ few-chains c = written-chains (content c) (c .before .before .before .before .be
 returns : tie.Need-returns
 returns c =
     let entry = c .before .before .before .before .before .before .args in
-    writes-refused (setContent (entry .m) (entry .taps) (entry .spread .now) (entry .values .now) (entry .marks .now) (entry .s)) _ _
+    writes-refused (setContent (entry .m) (entry .taps) (entry .inversion) (entry .spread .now) (entry .values .now) (entry .marks .now) (entry .s)) _ _
     (c .before .write-refusal .ensures) (c .if1 .taken)
 
 cast-n : tie.Need-cast-n
@@ -33,7 +33,7 @@ write-head-requires c κs = few-chains (c .before)
 returns-2 : tie.Need-returns-2
 returns-2 c =
     let entry = c .before .before .before .before .before .before .before .before .before .before .before .before .before .before .before .args in
-    writes-done (setContent (entry .m) (entry .taps) (entry .spread .now) (entry .values .now) (entry .marks .now) (entry .s)) _ _
+    writes-done (setContent (entry .m) (entry .taps) (entry .inversion) (entry .spread .now) (entry .values .now) (entry .marks .now) (entry .s)) _ _
     (c .before .before .before .before .before .before .before .before .before .before .write-refusal .ensures) (search needs) _ _ _ (c .set-length .ensures) (c .before .before .before .before .before .before .before .write-head .ensures) (c .before .before .before .write-slices .ensures)
 
 pub write-set-spec : {M : Type 1} → statement M
