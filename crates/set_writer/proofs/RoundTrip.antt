@@ -167,7 +167,7 @@ module _ (k : SetContent) (room : ℕ) (w : Writable k room) where
   unfolding setBytes
   written-rows =
       ap (λ (c : ℕ). drop (rowsAt c) (setBytes k)) written-chains
-      ∙ drop-at (headBytes (k .m) (k .taps) (k .spread) (k .s)) rows (rowsAt n) (head-length (k .m) (k .taps) (k .spread) (k .s))
+      ∙ drop-at (headBytes (k .m) (k .taps) (k .inversion) (k .spread) (k .s)) rows (rowsAt n) (head-length (k .m) (k .taps) (k .inversion) (k .spread) (k .s))
 
   slice-long : (t : ℕ) → t < k .s → length (sliceBytes n (k .values) (k .marks) t) ≡ 2 * rowBytes n
   slice-long t l =

@@ -1,5 +1,5 @@
--- The laws of columns: the column of a cell is its chain's spread word, advanced once for each later slice; there are as many
--- as unknown cells, and none leaves the width. Assumes nothing.
+-- The laws of columns: the column of a cell is its chain's spread word, advanced once for each later slice, whatever the inversion word
+-- is; there are as many as unknown cells, and none leaves the width. Assumes nothing.
 use mathlib.Core.Path.{_≡_, refl, sym, ap, ap₂, _∙_}
 use mathlib.Core.Bool.{Bool, false, true, cond, _&&_}
 use mathlib.Core.Logic.{⊎-elim}
@@ -11,6 +11,7 @@ use borrow.Author.Tests.{eq-eqb, ne-eqb}
 use lib.Bits.{bitXor}
 use lib.Dec.{eqb}
 use lib.ListN.{length, getD, length-append}
+use lib.Pow.{pow-pos}
 use Rattle.word.specs.Word.{beyond}
 use Rattle.word.specs.Some.{anyOf}
 use Rattle.word.proofs.BoolLaws.{or-false, and-none}
@@ -18,8 +19,8 @@ use Rattle.word.proofs.SomeLaws.{any-of-append}
 use Rattle.word.proofs.WordLaws.{not-beyond}
 use Rattle.rows.specs.Marks.{listed, total}
 use Rattle.rows.proofs.MarkLaws.{length-listed}
-use Rattle.register.specs.Circuit.{Circuit, chains, advanced, clocked}
-use Rattle.register.proofs.Laws.{clocked-ext, clocked-zero, advanced-zero}
+use Rattle.register.specs.Circuit.{Circuit, uninverted, chains, advanced}
+use Rattle.register.proofs.Laws.{clocked-ext, clocked-uninverted, clocked-zero, advanced-zero}
 use Rattle.chains.proofs.Laws.{driven-ext, driven-unit}
 use Rattle.signatures.specs.Signature.{Response, runs, signature, onlyCell, column}
 use Rattle.signatures.specs.Later.{later}
@@ -50,26 +51,34 @@ only-cell-same t c = rw (eq-eqb t t refl, eq-eqb c c refl)
 -- ---- a column
 
 module _ (k : Circuit) (t c : ℕ) where
+  -- the register without inversion, which columns are made with
+  abbrev plain : Circuit
+  plain = uninverted k
+
   -- before its slice the one cell leaves the register at zero
-  before : (s : ℕ) → s ≤ t → signature k (onlyCell t c) s ≡ 0
+  before : (s : ℕ) → s ≤ t → signature plain (onlyCell t c) s ≡ 0
   before s h =
-      signature-ext k (onlyCell t c) (λ u d. 0) s (λ u d l m. only-cell-other-slice t c u d (λ (e : u ≡ t). omega arith))
+      signature-ext plain (onlyCell t c) (λ u d. 0) s (λ u d l m. only-cell-other-slice t c u d (λ (e : u ≡ t). omega arith))
       ∙ signature-zero k s
 
-  at-its-slice : c < chains k → signature k (onlyCell t c) (suc t) ≡ getD (k .spread) c 0
-  unfolding clocked
+  at-its-slice : c < chains k → signature plain (onlyCell t c) (suc t) ≡ getD (k .spread) c 0
   at-its-slice h =
-      runs-suc k (onlyCell t c) t
+      runs-suc plain (onlyCell t c) t ∙ clocked-uninverted k (onlyCell t c t) (runs plain (onlyCell t c) t)
       ∙ ap₂ bitXor (ap (advanced (k .width) (k .taps)) (before t (omega arith)) ∙ advanced-zero (k .width) (k .taps))
       (driven-ext (k .spread) (onlyCell t c t) (λ d. cond (eqb d c) 1 0) (chains k) (λ d l. only-cell-here t c d)
       ∙ driven-unit (k .spread) c (chains k) h)
 
-  after : (s : ℕ) → t < s → signature k (onlyCell t c) (suc s) ≡ advanced (k .width) (k .taps) (signature k (onlyCell t c) s)
+  after : (s : ℕ) → t < s → signature plain (onlyCell t c) (suc s) ≡ advanced (k .width) (k .taps) (signature plain (onlyCell t c) s)
   after s h =
-      runs-suc k (onlyCell t c) s
-      ∙ clocked-ext k (onlyCell t c s) (λ d. 0) (runs k (onlyCell t c) s)
+      runs-suc plain (onlyCell t c) s
+      ∙ clocked-ext plain (onlyCell t c s) (λ d. 0) (runs plain (onlyCell t c) s)
       (λ d l. only-cell-other-slice t c s d (λ (e : s ≡ t). omega arith))
-      ∙ clocked-zero k (runs k (onlyCell t c) s)
+      ∙ clocked-zero k (runs plain (onlyCell t c) s)
+
+  -- the inversion word changes no column
+  pub column-uninverted : (s : ℕ) → column k s t c ≡ column (uninverted k) s t c
+  unfolding column
+  column-uninverted s = refl
 
   -- one more slice behind it advances a column once
   pub column-next : (s : ℕ) → t < s → column k (suc s) t c ≡ advanced (k .width) (k .taps) (column k s t c)
@@ -100,7 +109,7 @@ column-closed k (suc s) t c h hc =
 pub column-lt : (k : Circuit) (s t c : ℕ) → k .taps < 2 ^ k .width → ((d : ℕ) → getD (k .spread) d 0 < 2 ^ k .width)
     → column k s t c < 2 ^ k .width
 unfolding column
-column-lt k s t c ht hw = signature-lt k (onlyCell t c) s ht hw
+column-lt k s t c ht hw = signature-lt (uninverted k) (onlyCell t c) s ht (pow-pos (k .width)) hw
 
 -- ---- how many columns
 

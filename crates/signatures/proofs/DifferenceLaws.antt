@@ -1,8 +1,9 @@
--- How signatures differ. Flipping one cell of a response XORs its signature with that cell's column, whatever the other cells hold.
+-- How signatures differ. Flipping one cell of a response XORs its signature with that cell's column, whatever the other cells hold
+-- and whatever the inversion word is: it is XORed into both signatures, and so it is in no column.
 -- So responses that differ only in unknown cells have signatures that differ by an XOR of columns, and each XOR of columns is such a
 -- difference.
 --
---   flip-column       flipping a cell XORs the signature with its column
+--   flip-column       flipping a cell XORs the signature with its column, inversion or not
 --   alike-differ      responses that are alike in every known cell differ by an XOR of columns
 --   each-difference   each XOR of columns takes a response to one that is alike in every known cell
 -- Assumes nothing.

@@ -15,9 +15,9 @@ use Rattle.rows.proofs.MarkLaws.{total-ext, row-total}
 use Rattle.rows.specs.Row.{cell}
 use Rattle.rows.specs.Marks.{total}
 use Rattle.register.specs.Circuit.{chains}
-use Rattle.register.proofs.Laws.{good-taps}
+use Rattle.register.proofs.Laws.{good-taps, good-inversion}
 use Rattle.chains.proofs.Laws.{good-spread}
-use Rattle.set_layout.specs.Layout.{widthOf, tapsOf, chainsOf, spreadOf, slicesOf, circuitOf, valueRow, markRow, values, marks}
+use Rattle.set_layout.specs.Layout.{widthOf, tapsOf, inversionOf, chainsOf, spreadOf, slicesOf, circuitOf, valueRow, markRow, values, marks}
 use Rattle.set_layout.proofs.LayoutLaws.{spread-length}
 use Rattle.set_file.proofs.Laws.{Accepted, accepted-chains, mark-row-length, mark-row-clean, unknown-unvalued}
 use Rattle.signatures.specs.Signature.{Response, signature}
@@ -49,7 +49,7 @@ module _ (set : List ℕ) (a : Accepted set) where
   pub signature-within : (x : Response) → signature (circuitOf set) x (slicesOf set) < 2 ^ widthOf set
   signature-within x =
       signature-lt (circuitOf set) x (slicesOf set) (good-taps (widthOf set) (tapsOf set) (a .taps) .1)
-      (good-spread (widthOf set) (spreadOf set) (a .spread))
+      (good-inversion (widthOf set) (inversionOf set) (a .inversion)) (good-spread (widthOf set) (spreadOf set) (a .spread))
 
   -- the value rows as they stand give the signature for all unknowns 0: an unknown cell's value bit is 0
   pub zero-of-values : zeroSignature set ≡ signature (circuitOf set) (values set) (slicesOf set)
