@@ -126,11 +126,11 @@ module _ (k : Circuit) where
         getD-take (k .width) (drop j ps) i 0 l ∙ getD-drop j ps i 0 ∙ right (j + i) (omega arith) ∙ ap (λ (x : ℕ). later k x 1) sum),
   )
 
--- the spread words don't matter to a word that nothing drives
-pub later-same : (m t : ℕ) (ws : List ℕ) (j w : ℕ) → later (circuit m t []) j w ≡ later (circuit m t ws) j w
+-- neither the inversion word nor the spread words matter to a word that nothing drives or inverts
+pub later-same : (m t v : ℕ) (ws : List ℕ) (j w : ℕ) → later (circuit m t 0 []) j w ≡ later (circuit m t v ws) j w
 unfolding later
-later-same m t ws zero w = refl
-later-same m t ws (suc j) w = ap (advanced m t) (later-same m t ws j w)
+later-same m t v ws zero w = refl
+later-same m t v ws (suc j) w = ap (advanced m t) (later-same m t v ws j w)
 
 -- ---- the loop over the bits of a word
 

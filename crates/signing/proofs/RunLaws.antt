@@ -18,40 +18,47 @@ use Rattle.signatures.specs.Sets.{recordCells}
 use Rattle.signatures.proofs.SignatureLaws.{runs-none, runs-suc, signature-ext}
 use Rattle.signing.specs.Signing.{valueCells}
 
-module _ (m t : ℕ) (ws l : List ℕ) (r : Rows) where
+-- what a register's circuit gives is given by that of a register with the same width, tap word and inversion word
+same-circuit : (f : Circuit → ℕ) (m t v m′ t′ v′ : ℕ) (ws : List ℕ) → (m′ ≡ m) × (t′ ≡ t) × (v′ ≡ v)
+    → f (circuit (min m′ 64) t′ v′ ws) ≡ f (circuit (min m 64) t v ws)
+same-circuit f m t v m′ t′ v′ ws e =
+    ap₂ (λ (x y : ℕ). f (circuit (min x 64) y v′ ws)) (e .0) (e .1) ∙ ap (λ (x : ℕ). f (circuit (min m 64) t x ws)) (e .2)
+
+module _ (m t v : ℕ) (ws l : List ℕ) (r : Rows) where
   -- what the loop knows: the register is as given, and holds the state after the first c rows
-  pub Running : ℕ → ℕ → ℕ → ℕ → Type 0
-  Running m′ t′ state c = (m′ ≡ m) × (t′ ≡ t) × (state ≡ runs (circuit (min m 64) t ws) (cellsOf l r) c)
+  pub Running : ℕ → ℕ → ℕ → ℕ → ℕ → Type 0
+  Running m′ t′ v′ state c = (m′ ≡ m) × (t′ ≡ t) × (v′ ≡ v) × (state ≡ runs (circuit (min m 64) t v ws) (cellsOf l r) c)
 
-  pub running-starts : (m′ t′ state : ℕ) → (m′ ≡ m) × (t′ ≡ t) × (state ≡ 0) → Running m′ t′ state 0
+  pub running-starts : (m′ t′ v′ state : ℕ) → (m′ ≡ m) × (t′ ≡ t) × (v′ ≡ v) × (state ≡ 0) → Running m′ t′ v′ state 0
   unfolding Running
-  running-starts m′ t′ state e = (e .0, e .1, e .2 ∙ sym (runs-none (circuit (min m 64) t ws) (cellsOf l r)))
+  running-starts m′ t′ v′ state e = (e .0, e .1, e .2, e .3 ∙ sym (runs-none (circuit (min m 64) t v ws) (cellsOf l r)))
 
-  pub running-turns : (m′ t′ state m″ t″ next c : ℕ) (row : List ℕ) → Running m′ t′ state c → (m″ ≡ m′) × (t″ ≡ t′)
-      → next ≡ clocked (circuit (min m′ 64) t′ ws) (cell row) state → row ≡ rowOf l r c → Running m″ t″ next (c + 1)
+  pub running-turns : (m′ t′ v′ state m″ t″ v″ next c : ℕ) (row : List ℕ) → Running m′ t′ v′ state c → (m″ ≡ m′) × (t″ ≡ t′) × (v″ ≡ v′)
+      → next ≡ clocked (circuit (min m′ 64) t′ v′ ws) (cell row) state → row ≡ rowOf l r c → Running m″ t″ v″ next (c + 1)
   unfolding Running
-  running-turns m′ t′ state m″ t″ next c row k kept e er = (
+  running-turns m′ t′ v′ state m″ t″ v″ next c row k kept e er = (
     kept .0 ∙ k .0,
     kept .1 ∙ k .1,
-    e ∙ ap₂ (λ (x y : ℕ). clocked (circuit (min x 64) y ws) (cell row) state) (k .0) (k .1)
-        ∙ ap₂ (λ (x : List ℕ) (y : ℕ). clocked (circuit (min m 64) t ws) (cell x) y) er (k .2)
-        ∙ sym (runs-suc (circuit (min m 64) t ws) (cellsOf l r) c) ∙ ap (runs (circuit (min m 64) t ws) (cellsOf l r)) (sym (add-one c)),
+    kept .2 ∙ k .2,
+    e ∙ same-circuit (λ (x : Circuit). clocked x (cell row) state) m t v m′ t′ v′ ws (k .0, k .1, k .2)
+        ∙ ap₂ (λ (x : List ℕ) (y : ℕ). clocked (circuit (min m 64) t v ws) (cell x) y) er (k .3)
+        ∙ sym (runs-suc (circuit (min m 64) t v ws) (cellsOf l r) c) ∙ ap (runs (circuit (min m 64) t v ws) (cellsOf l r)) (sym (add-one c)),
   )
 
-  pub running-ends : (m′ t′ state c s : ℕ) → Running m′ t′ state c → c ≡ s → state ≡ signature (circuit (min m 64) t ws) (cellsOf l r) s
+  pub running-ends : (m′ t′ v′ state c s : ℕ) → Running m′ t′ v′ state c → c ≡ s → state ≡ signature (circuit (min m 64) t v ws) (cellsOf l r) s
   unfolding Running
-  running-ends m′ t′ state c s k e = k .2 ∙ ap (runs (circuit (min m 64) t ws) (cellsOf l r)) e
+  running-ends m′ t′ v′ state c s k e = k .3 ∙ ap (runs (circuit (min m 64) t v ws) (cellsOf l r)) e
 
 -- the limit on chains, where the words are 256
-pub signed-limited : (m t n m′ t′ chains y s : ℕ) (spread words l : List ℕ) (r : Rows)
-    → y ≡ signature (circuit (min m′ 64) t′ (take 256 (take chains words))) (cellsOf l r) s → (m′ ≡ m) × (t′ ≡ t) → chains ≡ min n 256
-    → (words ≡ spread) × (length words ≡ 256) → y ≡ signature (circuit (min m 64) t (take n spread)) (cellsOf l r) s
-signed-limited m t n m′ t′ chains y s spread words l r ey er ec ew =
+pub signed-limited : (m t v n m′ t′ v′ chains y s : ℕ) (spread words l : List ℕ) (r : Rows)
+    → y ≡ signature (circuit (min m′ 64) t′ v′ (take 256 (take chains words))) (cellsOf l r) s → (m′ ≡ m) × (t′ ≡ t) × (v′ ≡ v)
+    → chains ≡ min n 256 → (words ≡ spread) × (length words ≡ 256) → y ≡ signature (circuit (min m 64) t v (take n spread)) (cellsOf l r) s
+signed-limited m t v n m′ t′ v′ chains y s spread words l r ey er ec ew =
     ey
-    ∙ ap (λ (ws : List ℕ). signature (circuit (min m′ 64) t′ ws) (cellsOf l r) s)
+    ∙ ap (λ (ws : List ℕ). signature (circuit (min m′ 64) t′ v′ ws) (cellsOf l r) s)
     (take-all 256 (take chains words) (omega (arith, length-take chains words)) ∙ take-limit words n chains (ec ∙ ap (min n) (sym (ew .1))))
-    ∙ ap₂ (λ (x y : ℕ). signature (circuit (min x 64) y (take n words)) (cellsOf l r) s) (er .0) (er .1)
-    ∙ ap (λ (ws : List ℕ). signature (circuit (min m 64) t (take n ws)) (cellsOf l r) s) (ew .0)
+    ∙ same-circuit (λ (x : Circuit). signature x (cellsOf l r) s) m t v m′ t′ v′ (take n words) er
+    ∙ ap (λ (ws : List ℕ). signature (circuit (min m 64) t v (take n ws)) (cellsOf l r) s) (ew .0)
 
 -- ---- rows of a set, and of a record
 

@@ -151,7 +151,7 @@ module _ (k : Circuit) (s : ℕ) (u : Response) where
 
 -- the table has the powers of a register of width m and tap word taps
 abbrev pub PowersIn : ℕ → ℕ → List ℕ → Type 0
-PowersIn m taps table = (i : ℕ) → i < 576 → getD table i 0 ≡ later (circuit m taps []) i 1
+PowersIn m taps table = (i : ℕ) → i < 576 → getD table i 0 ≡ later (circuit m taps 0 []) i 1
 
 -- the spread words of a taken set, with the limits on width and chains
 pub good-limited : (m n width chains : ℕ) (spread words : List ℕ) → width ≡ min m 64 → chains ≡ min n 256 → (words ≡ spread) × (length words ≡ 256)
@@ -160,21 +160,21 @@ good-limited m n width chains spread words ew ec e =
     ap₂ badSpread ew (take-limit words n chains (ec ∙ ap (min n) (sym (e .1))) ∙ ap (take n) (e .0))
 
 -- a turn with the powers that stand in a table of 576 words
-module _ (m taps : ℕ) (ws : List ℕ) (s : ℕ) (u : Response) (table : List ℕ) (many : length table ≡ 576)
-    (right : (i : ℕ) → i < 576 → getD table i 0 ≡ later (circuit m taps []) i 1) (good : badSpread m ws ≡ false) where
+module _ (m taps inversion : ℕ) (ws : List ℕ) (s : ℕ) (u : Response) (table : List ℕ) (many : length table ≡ 576)
+    (right : (i : ℕ) → i < 576 → getD table i 0 ≡ later (circuit m taps 0 []) i 1) (good : badSpread m ws ≡ false) where
   pub sparse-steps : (l₀ l l₁ vs l₂ row : List ℕ) (place start t width : ℕ) → m ≤ 64 → s ≤ 512 → 0 < t → width ≡ m
-      → Sparse (circuit m taps ws) s u l₀ l place t → cell row ≡ u (t - 1)
+      → Sparse (circuit m taps inversion ws) s u l₀ l place t → cell row ≡ u (t - 1)
       → start ≡ length (take place l) - length (markedWords ws (cell row) (length ws))
       → l₁ ≡ back (markedWords ws (cell row) (length ws)) (take place l) ++ drop place l
       → vs ≡ map (fromPowers (take (s - 1 - (t - 1) + width - (s - 1 - (t - 1))) (drop (s - 1 - (t - 1)) table))) (take (place - start) (drop start l₁))
-      → l₂ ≡ take start l₁ ++ (vs ++ drop (place - start) (drop start l₁)) → Sparse (circuit m taps ws) s u l₀ l₂ start (t - 1)
+      → l₂ ≡ take start l₁ ++ (vs ++ drop (place - start) (drop start l₁)) → Sparse (circuit m taps inversion ws) s u l₀ l₂ start (t - 1)
   sparse-steps l₀ l l₁ vs l₂ row place start t width hm hs h ew f er es e₁ ev e₂ =
-      sparse-turns (circuit m taps ws) s u (take m (drop (s - t) table)) (s - t) (part .0) (part .1) good row l₀ l l₁ vs l₂ place start t h refl f er
+      sparse-turns (circuit m taps inversion ws) s u (take m (drop (s - t) table)) (s - t) (part .0) (part .1) good row l₀ l l₁ vs l₂ place start t h refl f er
       es e₁ (ev ∙ ap₂ (λ (x y : ℕ). map (fromPowers (take x (drop y table))) (take (place - start) (drop start l₁))) wide later-by)
       (e₂ ∙ sym (append-assoc (take start l₁) vs (drop (place - start) (drop start l₁))) ∙ ap (λ (x : List ℕ). take start l₁ ++ vs ++ x) after)
     where
-      part : (length (take m (drop (s - t) table)) ≡ m) × ((i : ℕ) → i < m → getD (take m (drop (s - t) table)) i 0 ≡ later (circuit m taps ws) (i + (s - t)) 1)
-      part = powers-part (circuit m taps ws) table (s - t) many (λ i l. right i l ∙ later-same m taps ws i 1) (omega arith)
+      part : (length (take m (drop (s - t) table)) ≡ m) × ((i : ℕ) → i < m → getD (take m (drop (s - t) table)) i 0 ≡ later (circuit m taps inversion ws) (i + (s - t)) 1)
+      part = powers-part (circuit m taps inversion ws) table (s - t) many (λ i l. right i l ∙ later-same m taps inversion ws i 1) (omega arith)
 
       after : drop (place - start) (drop start l₁) ≡ drop place l₁
       after =

@@ -154,10 +154,10 @@ module _ (f : ℕ → ℕ) (vs ws : List ℕ) (n : ℕ) (h : n ≤ length ws) (e
   part-through-length = length-append vs (drop n ws) ∙ omega (arith, part-length, length-drop n ws)
 
 -- the limits on chains and slices, where the words are 256
-pub columns-limited : (m taps n s chains slices : ℕ) (spread words l : List ℕ) (u : Response) → chains ≡ min n 256 → slices ≡ min s 512
+pub columns-limited : (m taps inversion n s chains slices : ℕ) (spread words l : List ℕ) (u : Response) → chains ≡ min n 256 → slices ≡ min s 512
     → (words ≡ spread) × (length words ≡ 256)
-    → back (columnsBelow (circuit m taps (take chains words)) slices u slices) l
-    ≡ back (columnsBelow (circuit m taps (take n spread)) (min s 512) u (min s 512)) l
-columns-limited m taps n s chains slices spread words l u ec es ew =
-    ap₂ (λ (x : List ℕ) (y : ℕ). back (columnsBelow (circuit m taps x) y u y) l)
+    → back (columnsBelow (circuit m taps inversion (take chains words)) slices u slices) l
+    ≡ back (columnsBelow (circuit m taps inversion (take n spread)) (min s 512) u (min s 512)) l
+columns-limited m taps inversion n s chains slices spread words l u ec es ew =
+    ap₂ (λ (x : List ℕ) (y : ℕ). back (columnsBelow (circuit m taps inversion x) y u y) l)
     (take-limit words n chains (ec ∙ ap (min n) (sym (ew .1))) ∙ ap (take n) (ew .0)) es

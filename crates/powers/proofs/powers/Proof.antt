@@ -12,7 +12,7 @@ use Rattle.powers.proofs.powers.Statement.{statement}
 use Rattle.powers.proofs.powers.Tie as tie
 
 abbrev Inv-loop : tie.InvT-loop
-Inv-loop register table₀ power₀ i₀ table power i = (i ≤ 576) × (length table ≡ 576) × Powered (circuit (min (register .m) 64) (register .taps) []) table i × (power ≡ later (circuit (min (register .m) 64) (register .taps) []) i 1)
+Inv-loop register table₀ power₀ i₀ table power i = (i ≤ 576) × (length table ≡ 576) × Powered (circuit (min (register .m) 64) (register .taps) 0 []) table i × (power ≡ later (circuit (min (register .m) 64) (register .taps) 0 []) i 1)
 
 abbrev μ-loop : tie.MeasureT-loop
 μ-loop register table₀ power₀ i₀ table power i = 576 - i

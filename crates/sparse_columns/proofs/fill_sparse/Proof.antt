@@ -24,13 +24,13 @@ Inv-loop list marks columns₀ width chains spread slices table place₀ t₀ co
     (t ≤ slices)
     × (place ≤ length columns)
     × (length columns ≡ length columns₀)
-    × ((taps : ℕ) → PowersIn width taps table → Sparse (circuit width taps (take chains spread)) slices (cellsOf list marks) columns₀ columns place t)
+    × ((taps inversion : ℕ) → PowersIn width taps table → Sparse (circuit width taps inversion (take chains spread)) slices (cellsOf list marks) columns₀ columns place t)
 
 abbrev μ-loop : tie.MeasureT-loop
 μ-loop list marks columns₀ width chains spread slices table place₀ t₀ columns place t = t
 
 loop-holds : tie.Need-loop-holds Inv-loop μ-loop
-loop-holds c = (search needs, search needs, refl, (λ taps h. sparse-starts _ _ _ _ _ refl))
+loop-holds c = (search needs, search needs, refl, (λ taps inversion h. sparse-starts _ _ _ _ _ refl))
 
 slice-aggregate-list-row : tie.Need-slice-aggregate-list-row Inv-loop μ-loop
 slice-aggregate-list-row c = sym (length-take-le _ _ (search needs))
@@ -76,21 +76,21 @@ loop-again c =
     (chains .ensures) (words .ensures)
     ∙ c .before .before .before .before .before .before .before .before .before .before .before .before .before .before .before .before .before .before .before .before .before .before .before .pre in
     let right : PowersIn (width .result) (args .taken .register .taps) (table .result) =
-    λ i h. table .ensures i h ∙ ap (λ (m : ℕ). later (circuit m (args .taken .register .taps) []) i 1) (sym (width .ensures)) in
+    λ i h. table .ensures i h ∙ ap (λ (m : ℕ). later (circuit m (args .taken .register .taps) 0 []) i 1) (sym (width .ensures)) in
     let room =
     sparse-room _ _ _ _ _ _ _
-    (sparse-steps (width .result) (args .taken .register .taps) (take (chains .result) (words .result)) (slices .result) (cellsOf (args .list .now) (args .marks)) (table .result) (search needs) right good
+    (sparse-steps (width .result) (args .taken .register .taps) (args .taken .register .inversion) (take (chains .result) (words .result)) (slices .result) (cellsOf (args .list .now) (args .marks)) (table .result) (search needs) right good
     _ _ _ _ _ (row .result .now) _ _ _ (width .result) (omega (arith, width .ensures)) (omega (arith, slices .ensures)) (c .before .before .before .before .before .before .before .before .before .before .before .before .loop-test .taken) refl
-    (at .inv .3 (args .taken .register .taps) right) (ap cell (row .ensures)) (listed .ensures .0)
+    (at .inv .3 (args .taken .register .taps) (args .taken .register .inversion) right) (ap cell (row .ensures)) (listed .ensures .0)
     (ap (λ (x : List ℕ). x ++ drop (at .place) (at .columns)) (listed .ensures .1))
     (c .before .before .power-words .ensures) refl) in (
       search needs,
       room .1,
       room .0,
-      (λ taps given.
-          sparse-steps (width .result) taps (take (chains .result) (words .result)) (slices .result) (cellsOf (args .list .now) (args .marks)) (table .result) (search needs) given good
+      (λ taps inversion given.
+          sparse-steps (width .result) taps inversion (take (chains .result) (words .result)) (slices .result) (cellsOf (args .list .now) (args .marks)) (table .result) (search needs) given good
           _ _ _ _ _ (row .result .now) _ _ _ (width .result) (omega (arith, width .ensures)) (omega (arith, slices .ensures)) (c .before .before .before .before .before .before .before .before .before .before .before .before .loop-test .taken) refl
-          (at .inv .3 taps given) (ap cell (row .ensures)) (listed .ensures .0)
+          (at .inv .3 taps inversion given) (ap cell (row .ensures)) (listed .ensures .0)
           (ap (λ (x : List ℕ). x ++ drop (at .place) (at .columns)) (listed .ensures .1))
           (c .before .before .power-words .ensures) refl),
     )
@@ -103,10 +103,10 @@ returns c =
     let args = c .before .before .before .before .before .before .before .before .before .before .before .args in
     let width = c .before .before .before .before .before .before .before .width-limit in
     let right : PowersIn (width .result) (args .taken .register .taps) (c .before .before .powers .result) =
-    λ i h. c .before .before .powers .ensures i h ∙ ap (λ (m : ℕ). later (circuit m (args .taken .register .taps) []) i 1) (sym (width .ensures)) in
-    sparse-ends _ _ _ _ _ _ _ (c .before .loop .inv .3 (args .taken .register .taps) right) (omega arith)
-    ∙ ap (λ (m : ℕ). back (columnsBelow (circuit m (args .taken .register .taps) (take (c .before .before .before .before .before .before .chain-limit .result) (c .before .before .before .before .all-words .result))) (c .before .before .before .slice-limit .result) (cellsOf (args .list .now) (args .marks)) (c .before .before .before .slice-limit .result)) (args .columns .now)) (width .ensures)
-    ∙ columns-limited _ _ _ _ _ _ _ _ _ _ (c .before .before .before .before .before .before .chain-limit .ensures) (c .before .before .before .slice-limit .ensures) (c .before .before .before .before .all-words .ensures)
+    λ i h. c .before .before .powers .ensures i h ∙ ap (λ (m : ℕ). later (circuit m (args .taken .register .taps) 0 []) i 1) (sym (width .ensures)) in
+    sparse-ends _ _ _ _ _ _ _ (c .before .loop .inv .3 (args .taken .register .taps) (args .taken .register .inversion) right) (omega arith)
+    ∙ ap (λ (m : ℕ). back (columnsBelow (circuit m (args .taken .register .taps) (args .taken .register .inversion) (take (c .before .before .before .before .before .before .chain-limit .result) (c .before .before .before .before .all-words .result))) (c .before .before .before .slice-limit .result) (cellsOf (args .list .now) (args .marks)) (c .before .before .before .slice-limit .result)) (args .columns .now)) (width .ensures)
+    ∙ columns-limited _ _ _ _ _ _ _ _ _ _ _ (c .before .before .before .before .before .before .chain-limit .ensures) (c .before .before .before .slice-limit .ensures) (c .before .before .before .before .all-words .ensures)
 
 pub fill-sparse-spec : {M : Type 1} → statement M
 fill-sparse-spec =

@@ -19,7 +19,7 @@ Inv-loop list marks columns₀ register chains words₀ place₀ t₀ columns wo
     (t ≤ t₀)
     × (place ≤ length columns)
     × (length words ≡ 256)
-    × Filled (circuit (min (register .m) 64) (register .taps) (take chains words₀)) t₀ (cellsOf list marks) columns₀ columns place t (take chains words)
+    × Filled (circuit (min (register .m) 64) (register .taps) (register .inversion) (take chains words₀)) t₀ (cellsOf list marks) columns₀ columns place t (take chains words)
 
 abbrev μ-loop : tie.MeasureT-loop
 μ-loop list marks columns₀ register chains words₀ place₀ t₀ columns words place t = t
