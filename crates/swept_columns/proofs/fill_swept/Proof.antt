@@ -54,7 +54,7 @@ same-length c = filled-room _ _ _ _ _ _ _ _ (c .before .loop .inv .3) .0
 returns : tie.Need-returns Inv-loop μ-loop
 returns c =
     filled-ends _ _ _ _ _ _ _ _ (c .before .loop .inv .3) (omega arith)
-    ∙ columns-limited _ _ _ _ _ _ _ _ _ _ (c .before .before .before .before .before .chain-limit .ensures) (c .before .before .slice-limit .ensures)
+    ∙ columns-limited _ _ _ _ _ _ _ _ _ _ _ (c .before .before .before .before .before .chain-limit .ensures) (c .before .before .slice-limit .ensures)
     (c .before .before .before .all-words .ensures)
 
 pub fill-swept-spec : {M : Type 1} → statement M
