@@ -62,14 +62,14 @@ abbrev indexIn : Reply Finding → List ℕ
 indexIn (answer f) = indexOf (f .outcome)
 indexIn (refusal n) = n ∷ n ∷ []
 
--- m 3, taps 3, with this state
+-- m 3, taps 3, no inversion, with this state
 abbrev holding : ℕ → Register
-holding s = record { m = 3; taps = 3; state = s }
+holding s = record { m = 3; taps = 3; inversion = 0; state = s }
 
--- the sample of document 01, 34 bytes
+-- the sample of document 01 with the eight zero bytes of document 02, No. 1: 42 bytes
 sample : List ℕ
 sample =
-    3 ∷ 0 ∷ 3 ∷ 0 ∷ 0 ∷ 0 ∷ 0 ∷ 0 ∷ 0 ∷ 0 ∷ 2 ∷ 0 ∷ 1 ∷ 0 ∷ 0 ∷ 0 ∷ 0 ∷ 0 ∷ 0 ∷ 0 ∷ 4 ∷ 0 ∷ 0 ∷ 0 ∷ 0 ∷ 0 ∷ 0 ∷ 0 ∷ 2 ∷ 0 ∷ 1 ∷ 2 ∷ 1
+    3 ∷ 0 ∷ 3 ∷ 0 ∷ 0 ∷ 0 ∷ 0 ∷ 0 ∷ 0 ∷ 0 ∷ 0 ∷ 0 ∷ 0 ∷ 0 ∷ 0 ∷ 0 ∷ 0 ∷ 0 ∷ 2 ∷ 0 ∷ 1 ∷ 0 ∷ 0 ∷ 0 ∷ 0 ∷ 0 ∷ 0 ∷ 0 ∷ 4 ∷ 0 ∷ 0 ∷ 0 ∷ 0 ∷ 0 ∷ 0 ∷ 0 ∷ 2 ∷ 0 ∷ 1 ∷ 2 ∷ 1
     ∷ 0 ∷ []
 
 -- what judging gives for the plan made of it and the signature y

@@ -1,14 +1,15 @@
 -- How much of its input the plan printer has to read. Document 01: "An input longer than any set counts as a set of the wrong
--- length." The longest set has 34,830 bytes, and an input that is longer prints what its first 34,831 bytes print:
+-- length." The longest set has 34,838 bytes, and an input that is longer prints what its first 34,839 bytes print:
 --
---   longest-set       a set that meets none of 1 to 10 has no more
+--   longest-set       a set that meets none of its numbers has no more
 --   long-refused      a longer input prints its first number
---   long-number       .. which is 8 or an earlier one
+--   long-number       .. which is 8 or an earlier one: one of 1 to 8, or 25
 --   long-input        .. and so do its bytes up to the first too many, for any column places and word places
 --   long-printed      .. so the plan printer, which reads no more of them, writes the text of the whole input
 -- Assumes nothing.
 use mathlib.Core.Path.{_≡_, refl, sym, ap, ap₂, _∙_}
 use mathlib.Core.Bool.{Bool, true, false, cond, not, _||_}
+use mathlib.Core.Logic.{_⊎_, inl, inr}
 use mathlib.Core.List.{List}
 use Prim.Native.Nat.{ℕ, suc, _*_, _<_, _≤_}
 use native.Mathlib.Nat.{mul-le-mul-right}
@@ -22,11 +23,11 @@ use Rattle.numbers.specs.Bytes.{numberAt, wordsAt}
 use Rattle.word.specs.Reply.{firstOf}
 use Rattle.word.proofs.BoolLaws.{or-false-right}
 use Rattle.numbers.proofs.ByteLaws.{number-at-take, words-at-take}
-use Rattle.word.proofs.TestLaws.{first-sooner, cond-most}
+use Rattle.word.proofs.TestLaws.{first-sooner}
 use Rattle.rows.specs.Row.{rowBytes}
-use Rattle.register.specs.Circuit.{badTaps, badChains, tooManySlices}
+use Rattle.register.specs.Circuit.{badTaps, badInversion, badChains, tooManySlices}
 use Rattle.chains.specs.Driven.{badSpread}
-use Rattle.set_layout.specs.Layout.{tapsAt, chainsAt, spreadAt, slicesAt, headLength, setLength, widthOf, tapsOf, chainsOf, spreadOf, slicesOf}
+use Rattle.set_layout.specs.Layout.{tapsAt, inversionAt, chainsAt, spreadAt, slicesAt, headLength, setLength, widthOf, tapsOf, inversionOf, chainsOf, spreadOf, slicesOf}
 use Rattle.set_layout.proofs.LayoutLaws.{good-chains}
 use Rattle.set_file.specs.Reading.{badSlices, setTests}
 use Rattle.set_file.proofs.Laws.{Accepted, accepted, accepted-chains}
@@ -54,8 +55,16 @@ alike b false n x y e h = ap (λ (d : Bool). cond d n x) e ∙ h refl
 stops : (b : Bool) (n x : ℕ) → b ≡ true → cond b n x ≡ n
 stops b n x e = ap (λ (d : Bool). cond d n x) e
 
-at-last : (b : Bool) (n x : ℕ) → n ≤ 8 → b ≡ true → cond b n x ≤ 8
-at-last b n x l e = omega (arith, stops b n x e)
+-- 8, or a number that is looked for before it
+abbrev pub UpToLength : ℕ → Type 0
+UpToLength n = (n ≤ 8) ⊎ (n ≡ 25)
+
+sooner : (b : Bool) (n x : ℕ) → UpToLength n → (b ≡ false → UpToLength x) → UpToLength (cond b n x)
+sooner true n x l h = l
+sooner false n x l h = h refl
+
+at-last : (b : Bool) (n x : ℕ) → n ≤ 8 → b ≡ true → UpToLength (cond b n x)
+at-last b n x l e = inl (omega (arith, stops b n x e))
 
 module _ (set : List ℕ) (h : longest < length set) where
   abbrev front : List ℕ
@@ -73,6 +82,9 @@ module _ (set : List ℕ) (h : longest < length set) where
 
   same-taps : tapsOf front ≡ tapsOf set
   same-taps = number-at-take 8 set (suc longest) tapsAt (omega arith)
+
+  same-inversion : inversionOf front ≡ inversionOf set
+  same-inversion = number-at-take 8 set (suc longest) inversionAt (omega arith)
 
   same-chains : chainsOf front ≡ chainsOf set
   same-chains = number-at-take 2 set (suc longest) chainsAt (omega arith)
@@ -117,6 +129,8 @@ module _ (set : List ℕ) (h : longest < length set) where
       (λ e2.
       alike _ _ 3 _ _ (ap₂ badTaps same-width same-taps)
       (λ e3.
+      alike _ _ 25 _ _ (ap₂ badInversion same-width same-inversion)
+      (λ e25.
       alike _ _ 4 _ _ (ap₂ (λ (b : Bool) (c : ℕ). b || badChains c) (neither-ends spreadAt (omega arith)) same-chains)
       (λ e4.
       let n : chainsOf set ≤ 256 = few-chains e4 in
@@ -126,31 +140,33 @@ module _ (set : List ℕ) (h : longest < length set) where
       (λ e6.
       alike _ _ 7 _ _ (same-bad-slices n)
       (λ e7.
-      stops _ 8 _ (front-too-long n (few-slices n e7)) ∙ sym (stops _ 8 _ (too-long n (length set) h (few-slices n e7))))))))))
+      stops _ 8 _ (front-too-long n (few-slices n e7)) ∙ sym (stops _ 8 _ (too-long n (length set) h (few-slices n e7)))))))))))
 
   -- the number is 8, for the wrong length, or an earlier one
-  pub long-number : firstOf (setTests set) ≤ 8
+  pub long-number : UpToLength (firstOf (setTests set))
   unfolding setTests
   long-number =
-      cond-most (ltb (length set) chainsAt) 8 1 _ (omega arith)
+      sooner (ltb (length set) chainsAt) 1 _ (inl (omega arith))
       (λ e1.
-      cond-most (badWidth (widthOf set)) 8 2 _ (omega arith)
+      sooner (badWidth (widthOf set)) 2 _ (inl (omega arith))
       (λ e2.
-      cond-most (badTaps (widthOf set) (tapsOf set)) 8 3 _ (omega arith)
+      sooner (badTaps (widthOf set) (tapsOf set)) 3 _ (inl (omega arith))
       (λ e3.
-      cond-most (ltb (length set) spreadAt || badChains (chainsOf set)) 8 4 _ (omega arith)
+      sooner (badInversion (widthOf set) (inversionOf set)) 25 _ (inr refl)
+      (λ e25.
+      sooner (ltb (length set) spreadAt || badChains (chainsOf set)) 4 _ (inl (omega arith))
       (λ e4.
-      cond-most (ltb (length set) (slicesAt (chainsOf set))) 8 5 _ (omega arith)
+      sooner (ltb (length set) (slicesAt (chainsOf set))) 5 _ (inl (omega arith))
       (λ e5.
-      cond-most (badSpread (widthOf set) (spreadOf set)) 8 6 _ (omega arith)
+      sooner (badSpread (widthOf set) (spreadOf set)) 6 _ (inl (omega arith))
       (λ e6.
-      cond-most (badSlices set) 8 7 _ (omega arith)
-      (λ e7. at-last _ 8 _ (omega arith) (too-long (few-chains e4) (length set) h (few-slices (few-chains e4) e7)))))))))
+      sooner (badSlices set) 7 _ (inl (omega arith))
+      (λ e7. at-last _ 8 _ (omega arith) (too-long (few-chains e4) (length set) h (few-slices (few-chains e4) e7))))))))))
 
   some-number : firstOf (setTests set) ≡ 0 → ⊥
   some-number z = let l : length set ≤ longest = longest-set set (accepted set z) in omega arith
 
--- a set that meets one of 1 to 10 prints it
+-- a set that meets one of its numbers prints it
 number-printed : (set : List ℕ) (k l : ℕ) → (firstOf (setTests set) ≡ 0 → ⊥) → planText set k l ≡ refusedLine (firstOf (setTests set))
 unfolding listTests
 number-printed set k l h = listed-printed set k l (firstOf (setTests set)) (first-sooner (setTests set) _ _ refl h) h

@@ -1,8 +1,8 @@
 -- What the text of a refusal says.
 --
 --   refused-text     the text is the line of the refusal n, a number of at most 20 digits, exactly when planning's reply is that refusal
---   listed-printed   a number that listing the columns meets, 1 to 10 or 14, is printed
---   more-unknowns    a set that meets none of 1 to 10 and has more unknown cells than there are column places prints 14
+--   listed-printed   a number that listing the columns meets, the set's or 14, is printed
+--   more-unknowns    a set that meets none of its numbers and has more unknown cells than there are column places prints 14
 -- Assumes nothing.
 use mathlib.Core.Path.{_≡_, refl, sym, ap, _∙_}
 use mathlib.Core.List.{List}
@@ -21,12 +21,12 @@ use Rattle.plan_lines.specs.Lines.{refusedLine}
 use Rattle.plan_lines.proofs.LineLaws.{refused-line-same, set-line-no-refusal}
 use Rattle.plan_text.specs.PlanText.{textOf, planText}
 
-few-numbers : (set : List ℕ) (k l : ℕ) → firstOf (planTests set k l) ≤ 18
+few-numbers : (set : List ℕ) (k l : ℕ) → firstOf (planTests set k l) ≤ 25
 unfolding planTests earlierTests listTests setTests
-few-numbers set k l = first-of-most 18 (planTests set k l) refl
+few-numbers set k l = first-of-most 25 (planTests set k l) refl
 
 -- the text of a reply whose first number is j; 0 stands for none
-number-told : (set : List ℕ) (j n : ℕ) → j ≤ 18 → n < 10 ^ 20 → textOf (replied j (partsOf set)) set ≡ refusedLine n → replied j (partsOf set) ≡ refusal n
+number-told : (set : List ℕ) (j n : ℕ) → j ≤ 25 → n < 10 ^ 20 → textOf (replied j (partsOf set)) set ≡ refusedLine n → replied j (partsOf set) ≡ refusal n
 number-told set zero n hj hn h = absurd (set-line-no-refusal _ _ _ _ _ _ n h)
 number-told set (suc j) n hj hn h = ap refusal (refused-line-same (suc j) n (omega arith) hn h)
 
