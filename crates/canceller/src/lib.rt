@@ -68,16 +68,8 @@ pub extern "C" fn canceller_write_set(
     ensures answer { λ r. ⌜ r ≡ writtenOf (setWriteReply (setContent m taps inversion (now (spread .entry)) (now (values .entry)) (now (marks .entry)) s) (length (now (out .entry)))) ⌝ }
     ensures file { λ _. ⌜ now (out .exit) ≡ lent (setWriteReply (setContent m taps inversion (now (spread .entry)) (now (values .entry)) (now (marks .entry)) s) (length (now (out .entry)))) (setBytes (setContent m taps inversion (now (spread .entry)) (now (values .entry)) (now (marks .entry)) s)) (now (out .entry)) ⌝ }
 {
-    crossing::set_written_of(set_writer::write_set(
-        m,
-        taps,
-        inversion,
-        spread,
-        values,
-        marks,
-        s,
-        out,
-    ))
+    let written = set_writer::write_set(m, taps, inversion, spread, values, marks, s, out);
+    crossing::set_written_of(written)
 }
 
 // One clock of a register. Meets 2, 3, 25, 4, 6, 8, 9 and 23; a refusal hands the state back as it came.

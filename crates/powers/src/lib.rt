@@ -14,7 +14,8 @@ use register::Register;
 fn next_state(register: Register, state: u64) -> u64
     ensures { λ r. ⌜ r ≡ advanced (min (register .m) 64) (register .taps) state ⌝ }
 {
-    let next = register.holding(state).advance(0);
+    let drive = 0;
+    let next = register.holding(state).advance(drive);
     next.state
 }
 

@@ -184,12 +184,7 @@ impl Register {
     {
         let feedback = chains::chosen_word((self.state >> top_place(self.m)) % 2, self.taps);
         let shifted = (self.state << 1) & word::low_mask(self.m);
-        Register {
-            m: self.m,
-            taps: self.taps,
-            inversion: self.inversion,
-            state: shifted ^ feedback ^ drive,
-        }
+        self.holding(shifted ^ feedback ^ drive)
     }
 
     // One clock with the cells of one row: the register with its next state. It meets 2, 3, 25, 4, 6, 8 (a row not of B

@@ -1,5 +1,5 @@
 -- `Register::advance` meets its contract: one shift within a word, the tap word by the old top bit, and the chains' word.
-use mathlib.Core.Path.{refl, ap}
+use mathlib.Core.Path.{ap, _∙_}
 use Prim.Native.Nat.{ℕ}
 use borrow.Author.Needs.{needs}
 use lib.Bits.{bitXor}
@@ -20,18 +20,22 @@ low-mask-requires : tie.Need-low-mask-requires
 low-mask-requires c κs = search needs
 
 returns : tie.Need-returns
-returns c = (
-  refl,
-  refl,
-  refl,
-  ap (λ (x : ℕ). bitXor x (c .before .before .before .before .before .args .drive))
-      (advanced-in-word (c .before .before .before .before .before .args .self .m)
-      (c .before .before .before .before .before .args .self .taps) (c .before .before .before .before .before .args .self .state)
-      (c .low-mask .result) (c .before .before .before .before .top-place .result) (c .before .before .chosen-word .result)
-      (c .low-mask .ensures) (c .before .before .before .before .top-place .ensures) (c .before .before .chosen-word .ensures)),
-)
+returns c =
+    let held = c .holding .ensures in
+    let mask = c .before .low-mask in
+    let feedback = c .before .before .before .chosen-word in
+    let top = c .before .before .before .before .before .top-place in
+    let args = c .before .before .before .before .before .before .args in (
+      held .0,
+      held .1,
+      held .2,
+      held .3
+          ∙ ap (λ (x : ℕ). bitXor x (args .drive))
+          (advanced-in-word (args .self .m) (args .self .taps) (args .self .state) (mask .result) (top .result) (feedback .result) (mask .ensures)
+          (top .ensures) (feedback .ensures)),
+    )
 
 pub advance-spec : {M : Type 1} → statement M
 advance-spec =
     tie.close
-    (tie.spec top-place-requires shr-chosen-word chosen-word-requires low-mask-requires returns)
+    (tie.spec top-place-requires shr-chosen-word chosen-word-requires low-mask-requires (λ c κs. search needs) returns)
