@@ -1,8 +1,8 @@
 //! What the refusal numbers mean, and what to do. A test holds this table to README.md's.
 
 /// For each number, from 1 on: why a call declines, and what to do.
-const ALL: [(&str, &str); 24] = [
-    ("the set has fewer than 10 bytes", "the file is empty or cut off"),
+const ALL: [(&str, &str); 25] = [
+    ("the set has fewer than 18 bytes", "the file is empty or cut off"),
     ("m isn't 1 to 64", "mend the register's width"),
     ("the tap word has bit 0 clear or a bit at or above m", "mend the taps: bit 0 is always set"),
     ("the chain count is absent or isn't 1 to 256", "mend the chain count"),
@@ -25,7 +25,8 @@ const ALL: [(&str, &str); 24] = [
     ("the plan's words aren't a reduced list for m", "the plan was changed by hand, or is damaged"),
     ("the second count, the length or a spare bit of the plan is wrong", "the plan is damaged"),
     ("a signature has a bit at or above m", "the signature is of another register"),
-    ("the output is shorter than the file to be written", "lend more bytes: 34,830 for a set, 526 for a plan always do"),
+    ("the output is shorter than the file to be written", "lend more bytes: 34,838 for a set, 526 for a plan always do"),
+    ("the inversion word has a bit at or above m", "mend the inversion word: all its bits are below m. A set of version 1 has no inversion word: make it again"),
 ];
 
 /// The sentence of a number that the library gave.

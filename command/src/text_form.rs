@@ -2,6 +2,7 @@
 //!
 //!     width 3
 //!     taps 3             a word: decimal, 0x.., or `bits` and the numbers of its bits
+//!     inversion 0        a word too; without this line it is 0
 //!     chains 2
 //!     spread 0 1         for each chain its number and its spread word
 //!     spread 1 bits 2
@@ -16,6 +17,9 @@ use std::fmt::Write;
 
 /// No text of a set is longer than this.
 pub const TEXT_MAX: usize = 16 * 1024 * 1024;
+
+/// The one setting that may be left out.
+const INVERSION: &str = "inversion";
 
 /// What the set writer is handed.
 pub struct Form {
@@ -34,6 +38,13 @@ struct Token<'a> {
 struct Line<'a> {
     number: usize,
     text: &'a [u8],
+}
+
+/// A line that starts with the name of a setting, and its words behind the name.
+struct Setting<'a> {
+    name: &'static str,
+    line: Line<'a>,
+    words: Vec<Token<'a>>,
 }
 
 fn is_blank(byte: &u8) -> bool {
@@ -121,25 +132,37 @@ impl<'a> Text<'a> {
         }
     }
 
-    /// The line of this setting: its words behind the name.
-    fn setting(&mut self, name: &str) -> Outcome<(Line<'a>, Vec<Token<'a>>)> {
-        let expected = format!("'{name} ..'");
+    /// The line of one of these settings.
+    fn one_of(&mut self, names: &[&'static str]) -> Outcome<Setting<'a>> {
+        let quoted: Vec<String> = names.iter().map(|name| format!("'{name} ..'")).collect();
+        let expected = quoted.join(" or ");
         let line = self.next(&expected)?;
         let line = Line { ..*line };
         let mut tokens = line.tokens();
-        match tokens.next() {
-            Some(token) if token.text == name.as_bytes() => {
-                let rest = tokens.collect();
-                Ok((line, rest))
+        let first = tokens.next();
+        let is_first = |name: &&&str| first.as_ref().is_some_and(|t| t.text == name.as_bytes());
+        match names.iter().find(is_first) {
+            Some(name) => {
+                let words = tokens.collect();
+                Ok(Setting { name, line, words })
             }
-            token => self.wrong_token(&line, token, &expected),
+            None => self.wrong_token(&line, first, &expected),
         }
     }
 
+    fn setting(&mut self, name: &'static str) -> Outcome<Setting<'a>> {
+        self.one_of(&[name])
+    }
+
     /// A setting that is one number.
-    fn number(&mut self, name: &str) -> Outcome<u64> {
-        let (line, tokens) = self.setting(name)?;
-        let mut tokens = tokens.into_iter();
+    fn number(&mut self, name: &'static str) -> Outcome<u64> {
+        let setting = self.setting(name)?;
+        self.number_of(setting)
+    }
+
+    fn number_of(&self, setting: Setting<'a>) -> Outcome<u64> {
+        let Setting { line, words, .. } = setting;
+        let mut tokens = words.into_iter();
         let number = self.one_number(&line, tokens.next())?;
         self.ended(&line, tokens.next())?;
         Ok(number)
@@ -197,8 +220,8 @@ impl<'a> Text<'a> {
         while (all.len() as u64) < chains {
             let chain = all.len();
             let name = format!("{chain}");
-            let (line, tokens) = self.setting("spread")?;
-            let mut tokens = tokens.into_iter();
+            let Setting { line, words, .. } = self.setting("spread")?;
+            let mut tokens = words.into_iter();
             match tokens.next() {
                 Some(token) if numbers::word(token.text) == Some(chain as u64) => {}
                 token => return self.wrong_token(&line, token, &format!("chain {name}")),
@@ -264,9 +287,15 @@ pub fn parse(file: &str, bytes: &[u8]) -> Outcome<Form> {
     }
     let mut text = Text::new(file, bytes);
     let m = text.number("width")?;
-    let (line, tokens) = text.setting("taps")?;
-    let taps = text.word(&line, tokens.into_iter())?;
-    let chains = text.number("chains")?;
+    let Setting { line, words, .. } = text.setting("taps")?;
+    let taps = text.word(&line, words.into_iter())?;
+    let mut next = text.one_of(&[INVERSION, "chains"])?;
+    let mut inversion = 0;
+    if next.name == INVERSION {
+        inversion = text.word(&next.line, next.words.into_iter())?;
+        next = text.setting("chains")?;
+    }
+    let chains = text.number_of(next)?;
     let spread = text.spread(chains)?;
     let s = text.number("slices")?;
     let (values, marks) = text.rows(s, spread.len())?;
@@ -275,11 +304,17 @@ pub fn parse(file: &str, bytes: &[u8]) -> Outcome<Form> {
         let expected = format!("the end of the file behind {s} slices");
         return text.wrong_token(line, line.tokens().next(), &expected);
     }
-    let set = Set { m, taps, spread, s };
+    let set = Set {
+        m,
+        taps,
+        inversion,
+        spread,
+        s,
+    };
     Ok(Form { set, values, marks })
 }
 
-/// The text of a set: words in hexadecimal with a digit for each four bits of the register.
+/// The text of a set: words in hexadecimal with a digit for each four bits of the register, the inversion word where it isn't 0.
 pub fn print(file: &[u8]) -> Reply<String> {
     let set = canceller::read_set(file)?;
     let digits = set.m.div_ceil(4) as usize;
@@ -287,6 +322,9 @@ pub fn print(file: &[u8]) -> Reply<String> {
     let mut line = |l: std::fmt::Arguments| writeln!(text, "{l}").expect("a string grows");
     line(format_args!("width {}", set.m));
     line(format_args!("taps 0x{:0digits$x}", set.taps));
+    if set.inversion != 0 {
+        line(format_args!("{INVERSION} 0x{:0digits$x}", set.inversion));
+    }
     line(format_args!("chains {}", set.spread.len()));
     for (chain, word) in set.spread.iter().enumerate() {
         line(format_args!("spread {chain} 0x{word:0digits$x}"));

@@ -4,12 +4,13 @@ mod common;
 #[path = "common/xml.rs"]
 mod xml;
 
-use common::{sample, Folder};
+use common::{inversion_of, sample, with_inversion, Folder};
 use reference::random::{content, file_of, small_content, Random};
 use reference::second::elimination::rank;
 use reference::second::plan::{judge, Plan};
 use reference::second::planning::plan;
 use reference::second::set::read_set;
+use reference::second::word_of;
 use std::collections::BTreeMap;
 use xml::Element;
 
@@ -91,6 +92,18 @@ fn holds(folder: &Folder, file: &[u8], name: &str) -> String {
     }
     let columns = set.columns();
     let (m, rank) = (set.circuit.m, rank(&columns));
+    let many = |n: usize, what: &str| format!("{n} {what}{}", if n == 1 { "" } else { "s" });
+    let inversion = match inversion_of(file) {
+        0 => String::new(),
+        word => format!("inversion {word}, "),
+    };
+    let register = format!(
+        "m {m}, taps {}, {inversion}{}, {}",
+        word_of(&set.circuit.taps),
+        many(set.n(), "chain"),
+        many(set.s(), "slice")
+    );
+    assert!(texts.contains(&register), "{name}: {register} in {texts:?}");
     let head = format!(
         "{} unknown {}, rank {rank}, q {}",
         columns.len(),
@@ -134,9 +147,31 @@ fn responses_of_random_sets() {
     let folder = Folder::new("pictures");
     for seed in 0..60 {
         let mut r = Random::new(seed);
-        let file = file_of(&small_content(&mut r, 64, 40, 30));
+        let content = small_content(&mut r, 64, 40, 30);
+        let inversion = match r.below(2) {
+            0 => 0,
+            _ => r.some_within(content.m as usize),
+        };
+        let file = with_inversion(&file_of(&content), inversion);
         holds(&folder, &file, &format!("seed {seed}"));
     }
+}
+
+#[test]
+fn a_picture_says_the_inversion_word_beside_the_taps_only_where_it_is_not_0() {
+    let folder = Folder::new("inversion_drawn");
+    let set = sample("sample.set");
+    let plain = holds(&folder, &set, "no inverters");
+    assert!(plain.contains(">m 3, taps 3, 2 chains, 2 slices<"));
+    let inverted = holds(&folder, &with_inversion(&set, 5), "two inverters");
+    assert!(inverted.contains(">m 3, taps 3, inversion 5, 2 chains, 2 slices<"));
+    // the longest word has room in the picture
+    let largest = with_inversion(&sample("width-64.set"), u64::MAX);
+    let picture = xml::parse(&holds(&folder, &largest, "64 inverters"));
+    let texts = picture.texts();
+    let heading = texts.iter().find(|t| t.contains("inversion")).unwrap();
+    let wide: f64 = picture.attribute("width").parse().unwrap();
+    assert!(24.0 + heading.chars().count() as f64 * 7.224 <= wide);
 }
 
 #[test]

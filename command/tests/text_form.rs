@@ -2,31 +2,38 @@
 
 mod common;
 
-use common::{sample, Folder};
+use common::{inversion_of, sample, stored, with_inversion, Folder};
 use reference::random::{file_of, small_content, Random};
 use reference::second::set::{read_set, Set};
 
-/// A text of a set, written by this test: with blanks, comments and words in every form.
-fn text_of(set: &Set, r: &mut Random) -> String {
-    let number = |bits: &[bool]| reference::second::word_of(bits);
-    let mut word = |bits: &[bool]| {
-        let value = number(bits);
-        match r.below(3) {
-            0 => format!("{value}"),
-            1 => format!("0x{value:X}"),
-            _ => {
-                let set = (0..64).filter(|i| value >> i & 1 == 1);
-                let bits: Vec<String> = set.map(|i| i.to_string()).collect();
-                format!("bits {}", bits.join("  "))
-            }
+/// A word in one of the forms that it has; 0 is no list of bits.
+fn word_text(value: u64, r: &mut Random) -> String {
+    match r.below(if value == 0 { 2 } else { 3 }) {
+        0 => format!("{value}"),
+        1 => format!("0x{value:X}"),
+        _ => {
+            let set = (0..64).filter(|i| value >> i & 1 == 1);
+            let bits: Vec<String> = set.map(|i| i.to_string()).collect();
+            format!("bits {}", bits.join("  "))
         }
-    };
+    }
+}
+
+/// A text of a set, written by this test: with blanks, comments and words in every form.
+fn text_of(set: &Set, inversion: u64, r: &mut Random) -> String {
+    let number = |bits: &[bool]| reference::second::word_of(bits);
     let circuit = &set.circuit;
     let mut text = format!("# a set\n\nwidth  {}\r\n", circuit.m);
-    text += &format!("\ttaps {} # the taps\n", word(&circuit.taps));
+    let taps = word_text(number(&circuit.taps), r);
+    text += &format!("\ttaps {taps} # the taps\n");
+    if inversion != 0 || r.one_in(2) {
+        let word = word_text(inversion, r);
+        text += &format!("inversion\t{word}  # the inputs that are inverted\r\n");
+    }
     text += &format!("chains {}\n", set.n());
     for (chain, bits) in circuit.spread.iter().enumerate() {
-        text += &format!("spread {chain} {}\n", word(bits));
+        let word = word_text(number(bits), r);
+        text += &format!("spread {chain} {word}\n");
     }
     text += &format!("slices {}\n", set.s());
     for (values, marks) in set.values.iter().zip(&set.marks) {
@@ -43,20 +50,24 @@ fn text_of(set: &Set, r: &mut Random) -> String {
 }
 
 #[test]
-fn random_sets_there_and_back() {
+fn random_sets_there_and_back_with_and_without_an_inversion_word() {
     let folder = Folder::new("round_trips");
     for seed in 0..150 {
         let mut r = Random::new(seed);
-        let file = file_of(&small_content(&mut r, 64, 40, 20));
-        folder.put("a.set", &file);
-        let shown = folder.done(&["show", "a.set"]);
-        folder.put("a.txt", &shown);
-        folder.done(&["pack", "a.txt", "-o", "b.set"]);
-        assert_eq!(folder.get("b.set"), file, "seed {seed}:\n{shown}");
-        // and a text that a person could have written
-        let text = text_of(&read_set(&file).unwrap(), &mut r);
-        let packed = folder.run_with(&["pack", "-"], text.as_bytes());
-        assert_eq!(packed.out, file, "seed {seed}: {}\n{text}", packed.err);
+        let content = small_content(&mut r, 64, 40, 20);
+        let m = content.m as usize;
+        for inversion in [0, r.some_within(m), 1 << (m - 1)] {
+            let file = with_inversion(&file_of(&content), inversion);
+            folder.put("a.set", &file);
+            let shown = folder.done(&["show", "a.set"]);
+            folder.put("a.txt", &shown);
+            folder.done(&["pack", "a.txt", "-o", "b.set"]);
+            assert_eq!(folder.get("b.set"), file, "seed {seed}:\n{shown}");
+            // and a text that a person could have written
+            let text = text_of(&read_set(&file).unwrap(), inversion, &mut r);
+            let packed = folder.run_with(&["pack", "-"], text.as_bytes());
+            assert_eq!(packed.out, file, "seed {seed}: {}\n{text}", packed.err);
+        }
     }
 }
 
@@ -81,11 +92,49 @@ fn every_sample_that_is_a_set_there_and_back() {
 
 const SAMPLE: &str = "width 3\ntaps 3\nchains 2\nspread 0 1\nspread 1 4\nslices 2\n1X\n10\n";
 
-/// The sample's text with its line replaced.
+/// The sample's text with its line replaced, by one or more.
 fn with_line(line: usize, text: &str) -> String {
     let mut lines: Vec<&str> = SAMPLE.lines().collect();
     lines[line - 1] = text;
     lines.join("\n") + "\n"
+}
+
+#[test]
+fn an_inversion_word_in_each_form_of_a_word_makes_the_same_bytes() {
+    let folder = Folder::new("inversion_forms");
+    let set = sample("sample.set");
+    for (line, word) in [
+        ("inversion 5", 5),
+        ("inversion 0x5", 5),
+        ("inversion 0X05", 5),
+        ("inversion bits 0 2", 5),
+        (" inversion  bits 2 0 # two inverters", 5),
+        ("inversion 7", 7),
+        ("inversion 0", 0),
+        ("inversion 0x0", 0),
+        ("# no inverters", 0),
+    ] {
+        let text = with_line(2, &format!("taps 3\n{line}"));
+        let packed = folder.run_with(&["pack", "-"], text.as_bytes());
+        assert_eq!((packed.status, packed.err.as_str()), (0, ""), "{line}");
+        assert_eq!(packed.out, with_inversion(&set, word), "{line}");
+        assert_eq!(inversion_of(&packed.out), word, "{line}");
+    }
+}
+
+#[test]
+fn show_prints_the_inversion_word_only_where_it_is_not_0() {
+    let folder = Folder::new("inversion_shown");
+    let set = sample("sample.set");
+    folder.put("a.set", &set);
+    assert_eq!(folder.done(&["show", "a.set"]), stored("show.txt"));
+    folder.put("a.set", with_inversion(&set, 5));
+    let with_line = stored("show.txt").replace("taps 0x3\n", "taps 0x3\ninversion 0x5\n");
+    assert_eq!(folder.done(&["show", "a.set"]), with_line);
+    // as many digits as the register's other words have
+    folder.put("a.set", with_inversion(&sample("width-64.set"), 5));
+    let shown = folder.done(&["show", "a.set"]);
+    assert_eq!(shown.lines().nth(2), Some("inversion 0x0000000000000005"));
 }
 
 #[test]
@@ -140,11 +189,55 @@ fn broken_texts_and_the_place_in_the_message() {
         ),
         (
             with_line(3, "# no chains"),
-            "4:1: expected 'chains ..', found 'spread'".into(),
+            "4:1: expected 'inversion ..' or 'chains ..', found 'spread'".into(),
         ),
         (
             with_line(3, "taps 3"),
-            "3:1: expected 'chains ..', found 'taps'".into(),
+            "3:1: expected 'inversion ..' or 'chains ..', found 'taps'".into(),
+        ),
+        (
+            with_line(3, "inversions 5"),
+            "3:1: expected 'inversion ..' or 'chains ..', found 'inversions'".into(),
+        ),
+        (
+            "width 3\ntaps 3\n".into(),
+            "3:1: expected 'inversion ..' or 'chains ..', found the end of the file".into(),
+        ),
+        (
+            with_line(3, "inversion 5"),
+            "4:1: expected 'chains ..', found 'spread'".into(),
+        ),
+        (
+            with_line(3, "inversion 5\ninversion 5"),
+            "4:1: expected 'chains ..', found 'inversion'".into(),
+        ),
+        (
+            with_line(2, "inversion 5\ntaps 3"),
+            "2:1: expected 'taps ..', found 'inversion'".into(),
+        ),
+        (
+            with_line(3, "chains 2\ninversion 5"),
+            "4:1: expected 'spread ..', found 'inversion'".into(),
+        ),
+        (
+            with_line(3, "inversion\nchains 2"),
+            format!("3:10: expected {word}, found the end of the line"),
+        ),
+        (
+            with_line(3, "inversion -5\nchains 2"),
+            format!("3:11: expected {word}, found '-5'"),
+        ),
+        (
+            with_line(3, "inversion 5 2\nchains 2"),
+            "3:13: expected the end of the line, found '2'".into(),
+        ),
+        (
+            with_line(3, "inversion bits\nchains 2"),
+            "3:15: expected a bit from 0 to 63, found the end of the line".into(),
+        ),
+        (
+            with_line(3, "inversion bits 0 64\nchains 2"),
+            "3:18: expected a bit from 0 to 63, found '64'".into(),
         ),
         (
             with_line(4, "spread 1 1"),
@@ -251,12 +344,24 @@ fn what_the_set_writer_refuses() {
     let slices = |s: usize| {
         format!("width 3\ntaps 3\nchains 1\nspread 0 1\nslices {s}\n") + &"0\n".repeat(s)
     };
+    let inverted = |m: u64, word: &str| {
+        format!("width {m}\ntaps 1\ninversion {word}\nchains 1\nspread 0 1\nslices 0\n")
+    };
     let cases = [
         (with_line(1, "width 0"), 2),
         (with_line(1, "width 65"), 2),
         (with_line(1, "width 18446744073709551615"), 2),
         (with_line(2, "taps 2"), 3),
         (with_line(2, "taps 9"), 3),
+        (inverted(3, "8"), 25),
+        (inverted(3, "0x10"), 25),
+        (inverted(3, "bits 0 63"), 25),
+        (inverted(1, "2"), 25),
+        (inverted(63, "bits 63"), 25),
+        // the width and the taps are looked at before it, the chains after it
+        (inverted(65, "bits 63"), 2),
+        (with_line(2, "taps 2\ninversion 8"), 3),
+        (chains(0).replace("taps 3\n", "taps 3\ninversion 8\n"), 25),
         (chains(0), 4),
         (chains(257), 4),
         (with_line(4, "spread 0 0"), 6),
@@ -271,7 +376,15 @@ fn what_the_set_writer_refuses() {
         assert_eq!((ran.status, folder.names().len()), (2, 1), "{text}");
     }
     // and what is right by one
-    for text in [chains(256), slices(512), slices(0)] {
+    for text in [
+        chains(256),
+        slices(512),
+        slices(0),
+        inverted(3, "7"),
+        inverted(1, "1"),
+        inverted(63, "bits 62"),
+        inverted(64, "0xffffffffffffffff"),
+    ] {
         folder.put("a.txt", &text);
         folder.done(&["pack", "a.txt", "-o", "a.set"]);
         assert!(read_set(&folder.get("a.set")).is_ok());

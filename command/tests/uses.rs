@@ -2,7 +2,7 @@
 
 mod common;
 
-use common::{sample, stored, Folder};
+use common::{sample, stored, with_inversion, Folder};
 use reference::repository::{repository, text};
 use reference::second::plan::{judge, write_plan};
 use reference::second::planning::{plan, printed};
@@ -26,13 +26,15 @@ fn every_use_on_the_sample() {
     assert_eq!(folder.get("sample.set"), sample("sample.set"));
     let second = plan(&sample("sample.set"), 1, 64).reply.unwrap();
     assert_eq!(folder.get("sample.plan"), write_plan(&second, 526).unwrap());
-    let prints: [(&[&str], &str); 12] = [
+    let prints: [(&[&str], &str); 14] = [
         (&["show", "sample.set"], "show.txt"),
         (&["plan", "sample.set"], "plan.txt"),
         (&["words", "sample.plan"], "words.txt"),
         (&["columns", "sample.set"], "columns.txt"),
         (&["draw", "sample.set"], "draw.svg"),
         (&["explain", "17"], "explain-17.txt"),
+        (&["explain", "25"], "explain-25.txt"),
+        (&["help", "explain"], "help-explain.txt"),
         (&["--help"], "help.txt"),
         (&["help"], "help.txt"),
         (&["-h"], "help.txt"),
@@ -108,29 +110,42 @@ fn the_plans_of_all_samples() {
         }
         count += 1;
     }
-    assert_eq!(count, 24, "stored samples");
+    assert!(count >= 24, "{count} stored samples");
 }
 
-/// The numbers 1 to 10, 12, 13, 17 and 19 to 23, each by a use that meets it. The command lends room enough that 14, 18 and 24 can't
-/// come up, asks for no slice that isn't there (11), and hands no columns over (15, 16).
+/// The sample with these bytes from this place on.
+fn changed_sample(at: usize, bytes: &[u8]) -> Vec<u8> {
+    let mut set = sample("sample.set");
+    set[at..at + bytes.len()].copy_from_slice(bytes);
+    set
+}
+
+/// The numbers 1 to 10, 12, 13, 17, 19 to 23 and 25, each by a use that meets it, and those of a set by every use that reads one. The
+/// command lends room enough that 14, 18 and 24 can't come up, asks for no slice that isn't there (11), and hands no columns over
+/// (15, 16).
 #[test]
 fn every_refusal_number() {
     let folder = with_sample("refusals");
+    let good_set = sample("sample.set");
+    let named = |name: &str| sample(&format!("{name}.set"));
     let bad_sets = [
-        ("empty", 1),
-        ("bytes-9", 1),
-        ("width-0", 2),
-        ("width-65", 2),
-        ("taps-9", 3),
-        ("chains-257", 4),
-        ("spread-short", 5),
-        ("spread-0", 6),
-        ("slices-513", 7),
-        ("rows-short", 8),
-        ("too-long", 8),
-        ("too-long-width-0", 2),
-        ("spare-bit", 9),
-        ("valued-unknown", 10),
+        (named("empty"), 1),
+        (good_set[..17].to_vec(), 1),
+        (named("width-0"), 2),
+        (named("width-65"), 2),
+        (named("taps-9"), 3),
+        (with_inversion(&good_set, 8), 25),
+        (with_inversion(&good_set, 1 << 63), 25),
+        (named("chains-257"), 4),
+        (good_set[..18].to_vec(), 4),
+        (named("spread-short"), 5),
+        (named("spread-0"), 6),
+        (named("slices-513"), 7),
+        (named("rows-short"), 8),
+        (named("too-long"), 8),
+        (named("too-long-width-0"), 2),
+        (named("spare-bit"), 9),
+        (named("valued-unknown"), 10),
     ];
     let mut met = Vec::new();
     let mut refused = |words: &[&str], about: &str, number: u64| {
@@ -149,8 +164,8 @@ fn every_refusal_number() {
         assert_eq!(String::from_utf8(ran.out).unwrap(), printed, "{words:?}");
         met.push(number);
     };
-    for (name, number) in bad_sets {
-        folder.put("bad.set", sample(&format!("{name}.set")));
+    for (set, number) in bad_sets {
+        folder.put("bad.set", set);
         refused(&["plan", "bad.set"], "bad.set", number);
         refused(
             &["sign", "bad.set", "sample-unknown-0.record"],
@@ -198,8 +213,123 @@ fn every_refusal_number() {
     refused(&["judge", "sample.plan", "8"], "signature 8", 23);
     met.sort_unstable();
     met.dedup();
-    let all: Vec<u64> = (1..=10).chain([12, 13, 17]).chain(19..=23).collect();
-    assert_eq!(met, all);
+    let met_by_a_use = (1..=10).chain([12, 13, 17]).chain(19..=23).chain([25]);
+    assert_eq!(met, met_by_a_use.collect::<Vec<u64>>());
+}
+
+#[test]
+fn a_bad_inversion_word_comes_after_the_taps_and_before_the_chains() {
+    let folder = with_sample("order_of_25");
+    let bad = with_inversion(&sample("sample.set"), 8);
+    let beside = |at: usize, bytes: &[u8]| {
+        let mut set = bad.clone();
+        set[at..at + bytes.len()].copy_from_slice(bytes);
+        set
+    };
+    for (set, number) in [
+        (bad[..17].to_vec(), 1),
+        (beside(0, &[65, 0]), 2),
+        (beside(2, &[2]), 3),
+        (bad.clone(), 25),
+        (bad[..18].to_vec(), 25),
+        (beside(18, &[0, 0]), 25),
+        (beside(18, &[1, 1]), 25),
+        (beside(20, &[0]), 25),
+        ([&bad[..], &[0]].concat(), 25),
+        (changed_sample(18, &[0, 0]), 4),
+    ] {
+        folder.put("a.set", &set);
+        let ran = folder.run(&["plan", "a.set"]);
+        let line = format!("refused {number}\n");
+        assert_eq!((ran.status, ran.text()), (2, line.as_str()), "{set:?}");
+    }
+    // a register of 64 bits has every bit of the word
+    folder.put("a.set", with_inversion(&sample("width-64.set"), u64::MAX));
+    assert_eq!(
+        folder.done(&["plan", "a.set"]),
+        text("samples/width-64.plan.txt"),
+        "no slice, no clock: the signature is 0"
+    );
+}
+
+/// Files of version 1 had no inversion word: n stood there, and the spread words.
+#[test]
+fn a_set_of_version_1_is_refused_and_explain_says_what_to_do() {
+    let folder = Folder::new("version_1");
+    let set = sample("sample.set");
+    folder.put("old.set", [&set[..10], &set[18..]].concat());
+    let ran = folder.run(&["plan", "old.set"]);
+    assert_eq!((ran.status, ran.text()), (2, "refused 25\n"));
+    let told = folder.done(&["explain", "25"]);
+    assert!(told.contains("version 1"), "{told}");
+}
+
+#[test]
+fn an_inversion_word_changes_signatures_expected_bits_and_verdicts_and_no_word_or_column() {
+    let folder = with_sample("inversion");
+    let columns = folder.done(&["columns", "sample.set"]);
+    // worked on paper: 5 becomes 1 by a clock of its own, and 1 ⊕ 5 = 4 is in every signature
+    folder.put("sample.set", with_inversion(&sample("sample.set"), 5));
+    assert_eq!(
+        folder.done(&["plan", "sample.set", "-o", "sample.plan"]),
+        "set 3 2 2 1\nword 0 3 0\nword 1 4 1\nend 2\n"
+    );
+    assert_eq!(folder.done(&["columns", "sample.set"]), columns);
+    for (record, signature) in [
+        ("sample-unknown-0.record", "7\n"),
+        ("sample-unknown-1.record", "4\n"),
+    ] {
+        assert_eq!(folder.done(&["sign", "sample.set", record]), signature);
+    }
+    let judged = folder.run(&["judge", "sample.plan", "7", "4", "3", "0"]);
+    assert_eq!(
+        (judged.status, judged.text()),
+        (
+            1,
+            "7: passes, cancelled bits 01\n4: passes, cancelled bits 01\n\
+             3: fails at word 1, cancelled bits 00\n0: fails at word 1, cancelled bits 00\n"
+        )
+    );
+}
+
+#[test]
+fn plans_and_signatures_of_random_sets_with_an_inversion_word_by_the_second_implementation() {
+    let folder = Folder::new("random_inversions");
+    let (mut plans, mut other_bits) = (0, 0);
+    for seed in 0..60 {
+        let mut r = reference::random::Random::new(seed);
+        let content = reference::random::small_content(&mut r, 64, 12, 6);
+        let (n, s) = (content.spread.len(), content.s as usize);
+        let without = with_inversion(&reference::random::file_of(&content), 0);
+        let set = with_inversion(&without, r.some_within(content.m as usize));
+        folder.put("without.set", &without);
+        folder.put("a.set", &set);
+        let record = reference::random::record(&mut r, n, s);
+        folder.put("a.record", &record);
+        let signature = reference::second::set::sign(&set, &record).unwrap();
+        assert_eq!(
+            folder.done(&["sign", "a.set", "a.record"]),
+            format!("{signature}\n"),
+            "seed {seed}"
+        );
+        let (before, after) = (
+            folder.run(&["plan", "without.set"]),
+            folder.run(&["plan", "a.set"]),
+        );
+        assert_eq!(after.text(), printed(&set), "seed {seed}");
+        // all but the expected bit of each line is as without the inversion word
+        let words = |plan: &str| -> Vec<String> {
+            let word = |line: &str| line.rsplit_once(' ').unwrap().0.to_string();
+            let lines = plan.lines().filter(|line| line.starts_with("word "));
+            lines.map(word).collect()
+        };
+        assert_eq!(words(after.text()), words(before.text()), "seed {seed}");
+        assert_eq!(after.status, before.status, "seed {seed}");
+        plans += usize::from(after.status == 0);
+        other_bits += usize::from(after.text() != before.text());
+    }
+    assert!(plans >= 20, "{plans} plans are too few");
+    assert!(other_bits >= 10, "{other_bits} with other expected bits");
 }
 
 /// Why, and what to do, in README.md's table of the numbers.
@@ -216,7 +346,7 @@ fn row_of_readme(number: u64) -> (String, String) {
 #[test]
 fn explain_says_what_the_readme_and_the_header_list() {
     let folder = Folder::new("explain");
-    for number in 1..=24 {
+    for number in 1..=25 {
         let (why, advice) = row_of_readme(number);
         let told = folder.done(&["explain", &number.to_string()]);
         assert_eq!(
@@ -224,10 +354,10 @@ fn explain_says_what_the_readme_and_the_header_list() {
             format!("refused {number}: {why}\nwhat to do: {advice}\n")
         );
     }
-    for bad in ["0", "25", "x", "18446744073709551615"] {
+    for bad in ["0", "26", "x", "18446744073709551615"] {
         let ran = folder.run(&["explain", bad]);
         let message =
-            format!("canceller: explain: expected a number from 1 to 24, found '{bad}'\n");
+            format!("canceller: explain: expected a number from 1 to 25, found '{bad}'\n");
         assert_eq!((ran.status, ran.err), (3, message));
     }
     // the header lists the same numbers
@@ -235,11 +365,11 @@ fn explain_says_what_the_readme_and_the_header_list() {
     let (_, list) = header.split_once("The numbers, in the order").unwrap();
     let (list, _) = list.split_once("*/").unwrap();
     let words: Vec<&str> = list.split_whitespace().collect();
-    for number in 1..=24 {
+    for number in 1..=25 {
         let starts = words.iter().filter(|w| **w == number.to_string());
         assert!(starts.count() >= 1, "{number} in the header");
     }
-    assert!(!words.contains(&"25"));
+    assert!(!words.contains(&"26"));
 }
 
 #[test]

@@ -10,6 +10,10 @@ said here: the unedited library says it.
 import random
 
 ALL = (1 << 64) - 1
+
+# Where the parts of a set stand: the tap word, the inversion word, n and the first spread word.
+TAPS_AT, INVERSION_AT, CHAINS_AT, SPREAD_AT = 2, 10, 18, 20
+
 WIDTHS = [1, 2, 3, 4, 5, 6, 7, 8, 9, 12, 15, 16, 17, 31, 32, 33, 62, 63, 64]
 CHAINS = [1, 2, 3, 4, 5, 7, 8, 9, 12, 15, 16, 17]
 MANY_CHAINS = [31, 33, 63, 64, 65, 66, 127, 128, 129, 191, 192, 193, 200, 255, 256]
@@ -53,6 +57,14 @@ def row_bytes(n):
     return (n + 7) // 8
 
 
+def slices_at(n):
+    return SPREAD_AT + 8 * n
+
+
+def rows_at(n):
+    return slices_at(n) + 2
+
+
 def two_bytes(x):
     return (x % 65536).to_bytes(2, "little")
 
@@ -64,13 +76,14 @@ def eight_bytes(x):
 class Set:
     """A set: its register, its spread words, and for each slice a number for its value row and one for its mark row."""
 
-    def __init__(self, m, taps, spread, slices):
-        self.m, self.taps, self.spread, self.slices = m, taps, list(spread), list(slices)
+    def __init__(self, m, taps, inversion, spread, slices):
+        self.m, self.taps, self.inversion, self.spread, self.slices = m, taps, inversion, list(spread), list(slices)
         self.n, self.s, self.b = len(spread), len(slices), row_bytes(len(spread))
 
     def data(self):
-        return (two_bytes(self.m) + eight_bytes(self.taps) + two_bytes(self.n) + b"".join(map(eight_bytes, self.spread))
-                + two_bytes(self.s) + b"".join(self.row(v) + self.row(x) for v, x in self.slices))
+        return (two_bytes(self.m) + eight_bytes(self.taps) + eight_bytes(self.inversion) + two_bytes(self.n)
+                + b"".join(map(eight_bytes, self.spread)) + two_bytes(self.s)
+                + b"".join(self.row(v) + self.row(x) for v, x in self.slices))
 
     def row(self, cells):
         return cells.to_bytes(self.b, "little")
@@ -102,7 +115,7 @@ class Set:
 
 def sample():
     """The sample of document 01."""
-    return Set(3, 3, [1, 4], [(1, 2), (1, 0)])
+    return Set(3, 3, 0, [1, 4], [(1, 2), (1, 0)])
 
 
 def plan_data(m, words, expected, count=None, again=None):
@@ -161,6 +174,21 @@ class Batch:
             return 1 | 1 << (m - 1)
         return self.bits(m) | 1
 
+    def inversion(self, m):
+        """A word with no bit at or above m, 0 too."""
+        kind = self.random.randrange(6)
+        if kind < 2:
+            return 0
+        if kind == 2:
+            return low(m)
+        if kind == 3:
+            return 1 << self.random.randrange(m)
+        return self.bits(m)
+
+    def bad_inversions(self, m, inversion):
+        """Words with a bit at or above m, beside one that has none; at m 64 no word has such a bit."""
+        return [1 << min(m, 63), inversion | 1 << min(m, 63), inversion | 1 << 63, ALL, inversion | self.bits(64) << min(m, 63) & ALL]
+
     def spread(self, m, n):
         kind = self.random.randrange(9)
         if kind == 0:
@@ -195,7 +223,7 @@ class Batch:
             if spread.count(spread[0]) == n or self.random.random() < 0.5:
                 marks |= self.bits(n)
             slices.append((self.bits(n) & ~marks, marks))
-        return Set(m, 1, spread, slices)
+        return Set(m, 1, self.inversion(m), spread, slices)
 
     def cells(self, n, s, kind):
         slices = []
@@ -227,7 +255,7 @@ class Batch:
         if s is None:
             s = self.pick(SLICES) if n > 17 or self.random.random() < 0.85 else self.pick(MANY_SLICES)
         kind = kind or self.pick(["none", "one", "one", "few", "few", "few", "half", "half", "dense", "all", "last", "first"])
-        return Set(m, self.taps(m), self.spread(m, n), self.cells(n, s, kind))
+        return Set(m, self.taps(m), self.inversion(m), self.spread(m, n), self.cells(n, s, kind))
 
     def word_list(self, m, q=None):
         """A reduced list for m of q words: each with a highest bit of its own, clear in the others."""
@@ -299,7 +327,7 @@ class Batch:
         self.call("guarantee::judge_records", a=data, b=self.record_of(one, "any"), c=self.record_of(one, "filled"),
                   u=self.junk_words(self.near(unknowns)), v=self.junk_words(self.near(left)), d=self.junk(600))
 
-    # A taken set is m, the tap word, n, s and a state; rows are their place, their stride and their bytes.
+    # A taken set is m, the tap word, the inversion word, n, s and a state; rows are their place, their stride and their bytes.
 
     def fill(self, taken, spread, data, rows, room, names=None):
         for name in names or FILLERS:
@@ -308,8 +336,8 @@ class Batch:
     def parts_of(self, one, data):
         """The calls below the boundary that go by a set's numbers."""
         n, s, b, spread, unknowns = one.n, one.s, one.b, (one.spread + [0] * 256)[:256], one.unknowns()
-        taken, values = [one.m, one.taps, n, s, self.pick([0, self.bits(64)])], [14 + 8 * n, 2 * b, b]
-        marks = [14 + 8 * n + b, 2 * b, b]
+        taken, values = [one.m, one.taps, one.inversion, n, s, self.pick([0, self.bits(64)])], [rows_at(n), 2 * b, b]
+        marks = [rows_at(n) + b, 2 * b, b]
         for room in {unknowns, max(0, unknowns - 1), unknowns // 2, unknowns + 5, 0}:
             self.fill(taken, spread, data, marks, room, None if room < 100 else [self.pick(FILLERS)])
         if self.random.random() < 0.2:
@@ -321,10 +349,11 @@ class Batch:
         for c in (n - 1, self.random.randrange(n)):
             bad[c] = self.pick([0, self.bits(64), bad[c] | 1 << min(one.m, 63), ALL])
         m, taps = self.pick([one.m, one.m, one.m, 0, 65, self.pick(NUMBERS)]), self.pick([one.taps, one.taps, self.bits(64), 0])
+        inversion = self.pick([one.inversion, self.inversion(one.m), self.bits(64)])
         room = self.pick([unknowns, unknowns, max(0, unknowns - 1), unknowns + 5])
         self.fill(taken, bad, data, marks, room, [self.pick(FILLERS)])
-        self.fill([m, taps] + taken[2:], self.pick([bad, spread]), data, marks, room, [self.pick(FILLERS)])
-        self.call("signing::zero_signature", [m, taps] + taken[2:], a=data, v=bad)
+        self.fill([m, taps, inversion] + taken[3:], self.pick([bad, spread]), data, marks, room, [self.pick(FILLERS)])
+        self.call("signing::zero_signature", [m, taps, inversion] + taken[3:], a=data, v=bad)
 
     def lists_of_rows(self, count):
         """The same calls with rows that stand anywhere in a list of bytes, and with counts above the limits."""
@@ -335,7 +364,8 @@ class Batch:
             rows = self.pick([[0, b, b], [self.random.randrange(9), 2 * b, b], [0, 1, 1], [3, 0, b], [0, 1, 32], [1, b, b - 1 if b else 0],
                               [len(data), b, b], [self.pick(NUMBERS), self.pick(NUMBERS), self.pick(NUMBERS)]])
             spread = self.pick([self.spread(min(max(m, 1), 64), 256), [self.bits(64) for _ in range(256)]])
-            taken = [m, self.pick([self.taps(min(max(m, 1), 64)), self.bits(64)]), n, s, self.pick([0, self.bits(64)])]
+            taken = [m, self.pick([self.taps(min(max(m, 1), 64)), self.bits(64)]),
+                     self.pick([self.inversion(min(max(m, 1), 64)), self.bits(64)]), n, s, self.pick([0, self.bits(64)])]
             self.fill(taken, spread, data, rows, self.pick([0, 1, 5, 64, 300]), None if s < 100 else [self.pick(FILLERS)])
             self.call("signing::sign_rows", taken + rows, a=data, v=spread)
             self.call("marked_words::count_marks", rows + [s], a=data)
@@ -354,28 +384,44 @@ class Batch:
     def damaged(self, one):
         """Sets with one fault, and some with two: the data of each."""
         data, m, n, s, b = one.data(), one.m, one.n, one.s, one.b
-        rows = 14 + 8 * n
+        rows = rows_at(n)
 
         def with_bytes(at, new, of=None):
             of = data if of is None else of
             return of[:at] + new + of[at + len(new):]
 
-        out = [data[:k] for k in (0, 1, 2, 3, 9, 10, 11, 12, 13, 19, 20, rows - 3, rows - 2, rows - 1, rows, rows + 1,
+        out = [data[:k] for k in (0, 1, 2, 3, *range(9, 22), 27, 28, rows - 3, rows - 2, rows - 1, rows, rows + 1,
                                   len(data) - 1, len(data) - 2, len(data) - b, len(data) - 2 * b) if 0 <= k < len(data)]
         out += [data + self.junk(k) for k in (1, 2, b, 2 * b)] + [data + b"\0", data + bytes(2 * b)]
         for width in (0, 1, 2, m - 1, m + 1, 63, 64, 65, 66, 128, 256 + m, 256 * m, 65535):
             out.append(with_bytes(0, two_bytes(width)))
         for taps in (0, 2, one.taps ^ 1, one.taps | 1 << min(m, 63), one.taps | 1 << 63, ALL, ALL - 1, 1 << min(m, 63)):
-            out.append(with_bytes(2, eight_bytes(taps)))
+            out.append(with_bytes(TAPS_AT, eight_bytes(taps)))
+        for inversion in (0, low(m), one.inversion ^ 1, one.inversion ^ 1 << (m - 1), self.inversion(m), self.bits(64)):
+            out.append(with_bytes(INVERSION_AT, eight_bytes(inversion)))
+        for inversion in self.bad_inversions(m, one.inversion):
+            out.append(with_bytes(INVERSION_AT, eight_bytes(inversion)))
+        # beside a fault that is looked for before it, and beside one that is looked for after it
+        bad = with_bytes(INVERSION_AT, eight_bytes(one.inversion | 1 << min(m, 63)))
+        for taps in (0, one.taps ^ 1, one.taps | 1 << min(m, 63)):
+            out.append(with_bytes(TAPS_AT, eight_bytes(taps), bad))
+        for count in (0, 257, 65535):
+            out.append(with_bytes(CHAINS_AT, two_bytes(count), bad))
+        for width in (0, 1, m - 1, m + 1, 64, 65, 65535):
+            out.append(with_bytes(0, two_bytes(width), bad))
+        out += [bad[:k] for k in (9, 10, 16, 17, 18, 19, 20, 21, rows - 3, rows - 1, len(bad) - 1) if 0 <= k < len(bad)]
+        out.append(with_bytes(SPREAD_AT, eight_bytes(0), bad))
+        out.append(with_bytes(slices_at(n), two_bytes(513), bad))
+        out.append(bad + b"\0")
         for count in (0, 1, n - 1, n + 1, 255, 256, 257, 258, 512, 65535, 256 + n, 256 * (n % 256)):
             if 0 <= count:
-                out.append(with_bytes(10, two_bytes(count)))
+                out.append(with_bytes(CHAINS_AT, two_bytes(count)))
         for c in {0, n - 1, self.random.randrange(n)}:
             for w in (0, 1 << min(m, 63), one.spread[c] | 1 << min(m, 63), one.spread[c] | 1 << 63, ALL):
-                out.append(with_bytes(12 + 8 * c, eight_bytes(w)))
+                out.append(with_bytes(SPREAD_AT + 8 * c, eight_bytes(w)))
         for count in (0, s - 1, s + 1, 511, 512, 513, 514, 1024, 65535, 256 * (s % 256), 256 + s):
             if 0 <= count:
-                out.append(with_bytes(12 + 8 * n, two_bytes(count)))
+                out.append(with_bytes(slices_at(n), two_bytes(count)))
         for _ in range(3):
             if not s:
                 break
@@ -446,25 +492,25 @@ class Batch:
             else:
                 self.call("slice_rows::" + self.pick(["value_row", "mark_row"]), [self.random.randrange(one.s + 1)], a=data, d=self.junk(40))
         n, s = self.pick([one.n, self.pick(CHAINS), self.pick(NUMBERS)]), self.pick([one.s, self.pick(SLICES), self.pick(MANY_SLICES)])
-        marks, spread = [14 + 8 * one.n + one.b, 2 * one.b, one.b], (one.spread + [0] * 256)[:256]
+        marks, spread = [rows_at(one.n) + one.b, 2 * one.b, one.b], (one.spread + [0] * 256)[:256]
         kind = self.random.randrange(6)
         if kind == 0:
             self.call("marked_words::count_marks", marks + [s], a=data)
         elif kind == 1:
-            self.call("signing::zero_signature", [one.m, one.taps, n, s], a=data, v=spread)
+            self.call("signing::zero_signature", [one.m, one.taps, one.inversion, n, s], a=data, v=spread)
         elif kind == 2:
-            self.fill([one.m, one.taps, one.n, s, 0], spread, data, marks, self.pick([unknowns, unknowns + 8, 20, 520]),
-                      [self.pick(FILLERS)])
+            self.fill([one.m, one.taps, one.inversion, one.n, s, 0], spread, data, marks,
+                      self.pick([unknowns, unknowns + 8, 20, 520]), [self.pick(FILLERS)])
 
     # ---- the set writer and the clock
 
     def write_set(self, one):
-        m, taps, spread, s, n, b = one.m, one.taps, one.spread, one.s, one.n, one.b
+        m, taps, inversion, spread, s, n, b = one.m, one.taps, one.inversion, one.spread, one.s, one.n, one.b
         values, marks, size = one.values(), one.marks(), len(one.data())
 
-        def call(room=None, m=m, taps=taps, s=s, spread=spread, values=values, marks=marks):
+        def call(room=None, m=m, taps=taps, inversion=inversion, s=s, spread=spread, values=values, marks=marks):
             room = max(0, self.near(size) if room is None else room)
-            self.call("canceller_write_set", [m, taps, s, room], v=spread, a=values, b=marks, d=self.junk(room))
+            self.call("canceller_write_set", [m, taps, inversion, s, room], v=spread, a=values, b=marks, d=self.junk(room))
 
         for room in (size, size - 1, size - 2, size + 1, size + 7, 0):
             call(room)
@@ -472,6 +518,19 @@ class Batch:
             call(m=width)
         for bad in (0, taps ^ 1, taps | 1 << min(m, 63), taps | 1 << 63, ALL):
             call(taps=bad)
+        for word in (0, low(m), 1 << (m - 1), self.bits(m)):
+            call(inversion=word)
+        for bad in self.bad_inversions(m, inversion):
+            call(inversion=bad)
+        bad = inversion | 1 << min(m, 63)
+        call(inversion=bad, m=self.pick([0, 65]))
+        call(inversion=bad, m=64)
+        call(inversion=bad, taps=self.pick([0, taps ^ 1, taps | 1 << min(m, 63)]))
+        call(inversion=bad, spread=[])
+        call(inversion=bad, spread=[0] + spread[1:])
+        call(inversion=bad, s=513)
+        call(inversion=bad, values=values + b"\0")
+        call(inversion=bad, room=0)
         call(spread=[])
         call(spread=spread + [1])
         for at in {0, n - 1, self.random.randrange(n)}:
@@ -505,11 +564,11 @@ class Batch:
             call(values=bytes(value), marks=bytes(mark))
 
     def clocks(self, m, n):
-        taps, spread, state, b = self.taps(m), self.spread(m, n), self.bits(m), row_bytes(n)
+        taps, inversion, spread, state, b = self.taps(m), self.inversion(m), self.spread(m, n), self.bits(m), row_bytes(n)
         row = self.bits(n).to_bytes(b, "little")
 
-        def call(m=m, taps=taps, state=state, spread=spread, row=row):
-            self.call("canceller_clock", [m, taps, state], v=spread, a=row)
+        def call(m=m, taps=taps, inversion=inversion, state=state, spread=spread, row=row):
+            self.call("canceller_clock", [m, taps, inversion, state], v=spread, a=row)
 
         call()
         call(state=low(m))
@@ -519,6 +578,19 @@ class Batch:
             call(m=width)
         for bad in (0, taps ^ 1, taps | 1 << min(m, 63), taps | 1 << 63):
             call(taps=bad)
+        for word in (0, low(m), 1 << (m - 1), self.bits(m)):
+            call(inversion=word)
+            call(inversion=word, state=0)
+        for bad in self.bad_inversions(m, inversion):
+            call(inversion=bad)
+        bad = inversion | 1 << min(m, 63)
+        call(inversion=bad, m=self.pick([0, 65]))
+        call(inversion=bad, m=64)
+        call(inversion=bad, taps=self.pick([0, taps ^ 1, taps | 1 << min(m, 63)]))
+        call(inversion=bad, spread=[], row=b"")
+        call(inversion=bad, spread=[0] + spread[1:])
+        call(inversion=bad, row=row + b"\0")
+        call(inversion=bad, state=ALL)
         call(spread=[], row=b"")
         at = self.random.randrange(n)
         for w in (0, 1 << min(m, 63), spread[at] | 1 << 63):
@@ -534,7 +606,7 @@ class Batch:
         call(spread=self.spread(m, 257), row=bytes(33))
         for _ in range(3):
             register = [self.pick([m, m, 0, self.pick(NUMBERS)]), self.pick([taps, self.bits(64)]),
-                        self.pick([state, self.bits(64), ALL])]
+                        self.pick([inversion, self.inversion(m), self.bits(64)]), self.pick([state, self.bits(64), ALL])]
             self.call("register::advance", register + [self.pick([0, self.bits(m), self.bits(64)])])
             self.call("register::holding", register + [self.bits(64)])
             self.call("register::clock_by_table", register, u=self.junk_words(1024), a=self.pick([row, self.junk(32), self.junk(33)]))
@@ -739,8 +811,9 @@ class Batch:
             self.call("rows::row", [self.pick([n, n, self.pick(NUMBERS)]), self.pick([0, 7, 8, n, self.pick(NUMBERS)])], a=row)
             for m in (self.pick(WIDTHS), self.pick(NUMBERS)):
                 w = self.bits(self.pick([min(m, 64), 64]))
-                self.call("register::limits", [m, self.bits(min(m, 64)), self.pick(NUMBERS), self.pick(NUMBERS)])
-                self.call("register::fresh", [m, w])
+                inversion = self.pick([self.bits(min(m, 64)), 1 << min(m, 63), self.bits(64)])
+                self.call("register::limits", [m, self.bits(min(m, 64)), inversion, self.pick(NUMBERS), self.pick(NUMBERS)])
+                self.call("register::fresh", [m, w, inversion])
                 self.call("chains::words", [m, self.pick([0, w, 1 << min(m, 63)]), self.pick([0, 1, 2, ALL])])
                 spread = self.spread(max(1, min(m, 64)), max(1, n))
                 if self.random.random() < 0.4:
@@ -847,8 +920,8 @@ class Batch:
                                             "listed_of", "eliminated_of", "planned_of", "read_of", "judged_of")]
         names += [x + "::number_of" for x in ("planner", "elimination", "set_file", "plan_file")]
         for name in names:
-            for number in (0, 0, 0, 1, 17, 24, self.random.randrange(1, 25), ALL):
-                data = [self.pick([self.bits(64), self.pick(NUMBERS)]) for _ in range(5)]
+            for number in (0, 0, 0, 1, 17, 24, 25, self.random.randrange(1, 26), ALL):
+                data = [self.pick([self.bits(64), self.pick(NUMBERS)]) for _ in range(6)]
                 if name == "crossing::judged_of":
                     data[0] = self.random.randrange(2)
                 self.call(name, [number] + data, v=self.junk_words(256))
@@ -880,18 +953,18 @@ class Batch:
         self.use_damaged(whole, data[:-1], [1, 4])
         # around the printer's 4,096 column places
         for n, s in ((16, 256), (17, 241)):
-            self.use(Set(64, 1, [low(64)] * n, self.cells(n, s, "all")), big=True)
+            self.use(Set(64, 1, self.inversion(64), [low(64)] * n, self.cells(n, s, "all")), big=True)
         dense = self.any_set(64, 256, 512, "all")
         self.call("canceller_plan", a=dense.data(), u=self.junk_words(dense.unknowns()), v=self.junk_words(64))
         self.call("canceller_list_columns", a=dense.data(), u=self.junk_words(dense.unknowns() - 1))
         # one more than the limits, with the right length
         for m, n, s in ((5, 257, 1), (64, 257, 0), (3, 1, 513), (8, 9, 513), (64, 2, 514), (7, 258, 2)):
-            over = Set(m, 1, self.spread(m, n), self.cells(n, s, "one"))
+            over = Set(m, 1, self.inversion(m), self.spread(m, n), self.cells(n, s, "one"))
             self.use_damaged(over, over.data(), [0, 1, 2, 3, 4, 5, 6])
-            self.call("canceller_write_set", [m, 1, s, len(over.data())], v=over.spread, a=over.values(), b=over.marks(),
-                      d=self.junk(len(over.data())))
+            self.call("canceller_write_set", [m, 1, over.inversion, s, len(over.data())], v=over.spread, a=over.values(),
+                      b=over.marks(), d=self.junk(len(over.data())))
             if n > 256:
-                self.call("canceller_clock", [m, 1, 1], v=over.spread, a=bytes(over.b))
+                self.call("canceller_clock", [m, 1, over.inversion, 1], v=over.spread, a=bytes(over.b))
 
     def many_columns(self, count):
         """More than 512 columns, of full rank and of less."""

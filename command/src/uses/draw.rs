@@ -149,10 +149,14 @@ impl Picture {
             Some(_) => String::new(),
             None => format!("; no words: every signature is explained ({NO_WORDS})"),
         };
+        let inversion = match set.inversion {
+            0 => String::new(),
+            word => format!("inversion {word}, "),
+        };
         [
             self.name.clone(),
             format!(
-                "m {}, taps {}, {}, {}",
+                "m {}, taps {}, {inversion}{}, {}",
                 set.m,
                 set.taps,
                 many(set.spread.len(), "chain"),

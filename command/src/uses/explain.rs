@@ -10,7 +10,7 @@ pub const USE: Use = Use {
     forms: &["explain N"],
     does: "tell what a refusal number means and what to do",
     more: "\
-A refusal carries a number from 1 to 24: the first that applies, in that order.
+A refusal carries a number from 1 to 25: the first that applies, in that order, but that 25 is looked for after 3.
 
 Example: canceller explain 17",
     options: &[],

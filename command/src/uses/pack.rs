@@ -15,6 +15,7 @@ The text form has one setting a line, in this order; # starts a comment:
 
     width 3            # register bits
     taps 3             # a word: decimal, 0x.., or 'bits 0 1'
+    inversion 0        # a word: the inputs that are inverted; without this line none is
     chains 2
     spread 0 1         # chain 0's spread word
     spread 1 bits 2    # chain 1's

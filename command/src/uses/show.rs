@@ -11,7 +11,8 @@ pub const USE: Use = Use {
     forms: &["show FILE.set [-o FILE.txt]"],
     does: "print the text form of a set",
     more: "\
-'canceller pack' makes the same bytes of it again. 'canceller help pack' has the text form.
+'canceller pack' makes the same bytes of it again. 'canceller help pack' has the text form; where no input of the register is
+inverted there is no line 'inversion'.
 
 Example: canceller show sample.set",
     options: &["-o"],

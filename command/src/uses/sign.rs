@@ -26,9 +26,9 @@ fn run(given: &Given) -> Outcome {
     let set = Input::read(&given.operands[0], SET_MAX)?;
     let record = Input::read(&given.operands[1], RECORD_MAX)?;
     let signed = canceller::sign(&set.bytes, &record.bytes);
-    // the numbers up to 11 are about the set
+    // 12 and 13 are about the record, all others about the set
     let about = match signed {
-        Err(canceller::Refusal(12..)) => &record.name,
+        Err(canceller::Refusal(12 | 13)) => &record.name,
         _ => &set.name,
     };
     let signature = of(about, signed)?;

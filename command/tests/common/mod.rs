@@ -112,6 +112,20 @@ pub fn ended(child: Child) -> Ran {
     }
 }
 
+/// Where a set has its inversion word: behind m, of 2 bytes, and the tap word, of 8.
+const INVERSION: std::ops::Range<usize> = 10..18;
+
+/// A set with this inversion word in place of its own.
+pub fn with_inversion(set: &[u8], word: u64) -> Vec<u8> {
+    let mut set = set.to_vec();
+    set[INVERSION].copy_from_slice(&word.to_le_bytes());
+    set
+}
+
+pub fn inversion_of(set: &[u8]) -> u64 {
+    u64::from_le_bytes(set[INVERSION].try_into().unwrap())
+}
+
 /// A file of samples/, and of what the tests have stored.
 pub fn sample(name: &str) -> Vec<u8> {
     reference::repository::sample(name)
