@@ -28,12 +28,14 @@ shifted-in-word m s =
     and-mask (s * 2 % 2 ^ 64) (min m 64)
     ∙ ap (λ (k : ℕ). s * 2 % 2 ^ k % 2 ^ min m 64) (sym fill) ∙ mod-mod-pow (s * 2) (64 - min m 64) (min m 64)
 
--- what the code makes of a state is the state of a clock with all cells 0
-pub advanced-in-word : (m t s mask top feedback : ℕ) → mask ≡ lowMask m → top ≡ min m 64 - 1
-    → feedback ≡ chosen (digit top s) t → bitXor (bitAnd (s * 2 % 2 ^ 64) mask) feedback ≡ advanced (min m 64) t s
+-- what the code makes of a state and a drive is the state of a clock with all cells 0, and the drive XORed in
+pub advanced-in-word : (m t s drive mask top feedback next : ℕ) → mask ≡ lowMask m → top ≡ min m 64 - 1 → feedback ≡ chosen (digit top s) t
+    → next ≡ bitXor (bitXor (bitAnd (s * 2 % 2 ^ 64) mask) feedback) drive → next ≡ bitXor (advanced (min m 64) t s) drive
 unfolding advanced
-advanced-in-word m t s mask top feedback em et ef =
-    ap₂ bitXor (ap (bitAnd (s * 2 % 2 ^ 64)) em ∙ shifted-in-word m s) (ef ∙ ap (λ (i : ℕ). chosen (digit i s) t) et)
+advanced-in-word m t s drive mask top feedback next em et ef en =
+    en
+    ∙ ap (λ (x : ℕ). bitXor x drive)
+    (ap₂ bitXor (ap (bitAnd (s * 2 % 2 ^ 64)) em ∙ shifted-in-word m s) (ef ∙ ap (λ (i : ℕ). chosen (digit i s) t) et))
 
 -- ---- a clock by the table of half bytes
 

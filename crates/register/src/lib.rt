@@ -182,8 +182,9 @@ impl Register {
     pub fn advance(self, drive: u64) -> Register
         ensures { λ r. ⌜ (r .m ≡ self .m) × (r .taps ≡ self .taps) × (r .inversion ≡ self .inversion) × (r .state ≡ bitXor (advanced (min (self .m) 64) (self .taps) (self .state)) drive) ⌝ }
     {
-        let feedback = chains::chosen_word((self.state >> top_place(self.m)) % 2, self.taps);
-        let shifted = (self.state << 1) & word::low_mask(self.m);
+        let state = self.state;
+        let feedback = chains::chosen_word((state >> top_place(self.m)) % 2, self.taps);
+        let shifted = (state << 1) & word::low_mask(self.m);
         self.holding(shifted ^ feedback ^ drive)
     }
 

@@ -1,8 +1,5 @@
 -- `Register::advance` meets its contract: one shift within a word, the tap word by the old top bit, and the chains' word.
-use mathlib.Core.Path.{ap, _∙_}
-use Prim.Native.Nat.{ℕ}
 use borrow.Author.Needs.{needs}
-use lib.Bits.{bitXor}
 use Rattle.register.proofs.ClockLaws.{advanced-in-word}
 use Rattle.register.proofs.Register.advance.Statement.{statement}
 use Rattle.register.proofs.Register.advance.Tie as tie
@@ -23,16 +20,12 @@ returns : tie.Need-returns
 returns c =
     let held = c .holding .ensures in
     let mask = c .before .low-mask in
-    let feedback = c .before .before .before .chosen-word in
-    let top = c .before .before .before .before .before .top-place in
-    let args = c .before .before .before .before .before .before .args in (
+    let feedback = c .before .before .chosen-word in
+    let top = c .before .before .before .top-place in (
       held .0,
       held .1,
       held .2,
-      held .3
-          ∙ ap (λ (x : ℕ). bitXor x (args .drive))
-          (advanced-in-word (args .self .m) (args .self .taps) (args .self .state) (mask .result) (top .result) (feedback .result) (mask .ensures)
-          (top .ensures) (feedback .ensures)),
+      advanced-in-word _ _ _ _ _ _ _ _ (mask .ensures) (top .ensures) (feedback .ensures) (held .3),
     )
 
 pub advance-spec : {M : Type 1} → statement M
