@@ -1,5 +1,5 @@
 -- Listing the columns. Document 01: "Listing the columns answers with the number of unknown cells"; 14: "The lent column list is
--- shorter than the number of unknown cells." The call meets the set's 1 to 10, then 14, and fills the front of the lent list.
+-- shorter than the number of unknown cells." The call meets the set's numbers, then 14, and fills the front of the lent list.
 --
 --   listTests set room   the numbers that the call meets, in order, for a lent list of `room` places
 --   listReply set room   its reply: the number of unknown cells

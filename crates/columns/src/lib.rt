@@ -36,7 +36,7 @@ pub fn fill_columns(taken: Taken, list: &[u8], marks: Rows, columns: &mut [u64])
 }
 
 // The columns of a set's unknown cells, by slice and then by chain, at the front of the lent list, and how many there are. It
-// meets the set's 1 to 10, then 14; a refusal leaves the list as it was.
+// meets the set's numbers, then 14; a refusal leaves the list as it was.
 pub fn list_columns(set: &[u8], columns: &mut [u64]) -> Listed
     ensures { λ r. ⌜ saidListed r ≡ listReply (now (set .entry)) (length (now (columns .entry))) ⌝ }
     ensures { λ _. ⌜ now (columns .exit) ≡ columnsAfter (now (set .entry)) (now (columns .entry)) ⌝ }

@@ -231,7 +231,7 @@ seventeen-explained set k l h =
     explaining.xor-all set (why .0)
     (only-empty-explains (widthOf set) (columnsOf set) (columns-of-within set (why .0)) (why .1))
 
--- 16 applies to no set that meets none of 1 to 10
+-- 16 applies to no set that meets none of the set's numbers
 pub sixteen-never : (set : List ℕ) → firstOf (setTests set) ≡ 0 → ltb (widthOf set) (rank (columnsOf set)) ≡ false
 sixteen-never set h =
     le-ltb (widthOf set) (rank (columnsOf set))

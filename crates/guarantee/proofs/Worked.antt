@@ -1,5 +1,5 @@
 -- The starred lines of document 01, "Worked on paper", proved of the definitions as one table: each line through the reply of the
--- call that it is about. Assumes nothing.
+-- call that it is about; and behind them the clock and the sample with an inversion word, 5, worked by hand. Assumes nothing.
 --
 --   wrote r vs         what a call with the reply r writes to a lent list: vs after an answer
 --   next r             the state that the clock's reply r gives
@@ -62,19 +62,19 @@ abbrev indexIn : Reply Finding → List ℕ
 indexIn (answer f) = indexOf (f .outcome)
 indexIn (refusal n) = n ∷ n ∷ []
 
--- m 3, taps 3, no inversion, with this state
-abbrev holding : ℕ → Register
-holding s = record { m = 3; taps = 3; inversion = 0; state = s }
+-- m 3, taps 3, this inversion word, with this state
+abbrev holding : ℕ → ℕ → Register
+holding v s = record { m = 3; taps = 3; inversion = v; state = s }
 
--- the sample of document 01 with the eight zero bytes of document 02, No. 1: 42 bytes
-sample : List ℕ
-sample =
-    3 ∷ 0 ∷ 3 ∷ 0 ∷ 0 ∷ 0 ∷ 0 ∷ 0 ∷ 0 ∷ 0 ∷ 0 ∷ 0 ∷ 0 ∷ 0 ∷ 0 ∷ 0 ∷ 0 ∷ 0 ∷ 2 ∷ 0 ∷ 1 ∷ 0 ∷ 0 ∷ 0 ∷ 0 ∷ 0 ∷ 0 ∷ 0 ∷ 4 ∷ 0 ∷ 0 ∷ 0 ∷ 0 ∷ 0 ∷ 0 ∷ 0 ∷ 2 ∷ 0 ∷ 1 ∷ 2 ∷ 1
-    ∷ 0 ∷ []
+-- the sample of document 01, with the inversion word v of document 02, No. 1: 42 bytes. v is 0 in the sample itself
+sample : ℕ → List ℕ
+sample v =
+    3 ∷ 0 ∷ 3 ∷ 0 ∷ 0 ∷ 0 ∷ 0 ∷ 0 ∷ 0 ∷ 0 ∷ v ∷ 0 ∷ 0 ∷ 0 ∷ 0 ∷ 0 ∷ 0 ∷ 0 ∷ 2 ∷ 0 ∷ 1 ∷ 0 ∷ 0 ∷ 0 ∷ 0 ∷ 0 ∷ 0 ∷ 0 ∷ 4 ∷ 0 ∷ 0 ∷ 0 ∷ 0
+    ∷ 0 ∷ 0 ∷ 0 ∷ 2 ∷ 0 ∷ 1 ∷ 2 ∷ 1 ∷ 0 ∷ []
 
 -- what judging gives for the plan made of it and the signature y
-abbrev sampleJudged : ℕ → Reply Finding
-sampleJudged y = judgeReply (planFile sample (partsOf sample)) y
+abbrev sampleJudged : ℕ → ℕ → Reply Finding
+sampleJudged v y = judgeReply (planFile (sample v) (partsOf (sample v))) y
 
 pub worked : List Line
 worked =
@@ -85,15 +85,21 @@ worked =
     ∷ record { given = rankIn (eliminationReply 3 (replicate 512 7) 64); printed = 1 ∷ [] }
     ∷ record { given = wrote (eliminationReply 3 (replicate 512 7) 64) (reducedList 3 (replicate 512 7)); printed = 3 ∷ 5 ∷ [] }
     ∷ record { given = numberOf (eliminationReply 1 (1 ∷ []) 64) ∷ []; printed = 17 ∷ [] }
-    ∷ record { given = next (clockReply (holding 4) (1 ∷ 4 ∷ []) (0 ∷ [])); printed = 3 ∷ [] }
-    ∷ record { given = next (clockReply (holding 7) (1 ∷ 4 ∷ []) (0 ∷ [])); printed = 5 ∷ [] }
-    ∷ record { given = wrote (listReply sample 1) (columnsOf sample); printed = 3 ∷ [] }
-    ∷ record { given = wrote (planReply sample 1 2) (wordsOf sample); printed = 3 ∷ 4 ∷ [] }
-    ∷ record { given = expectedIn (planReply sample 1 2); printed = 0 ∷ [] }
-    ∷ record { given = indexIn (sampleJudged 3); printed = [] }
-    ∷ record { given = indexIn (sampleJudged 0); printed = [] }
-    ∷ record { given = indexIn (sampleJudged 1); printed = 0 ∷ [] }
-    ∷ record { given = indexIn (sampleJudged 7); printed = 1 ∷ [] }
+    ∷ record { given = next (clockReply (holding 0 4) (1 ∷ 4 ∷ []) (0 ∷ [])); printed = 3 ∷ [] }
+    ∷ record { given = next (clockReply (holding 0 7) (1 ∷ 4 ∷ []) (0 ∷ [])); printed = 5 ∷ [] }
+    ∷ record { given = wrote (listReply (sample 0) 1) (columnsOf (sample 0)); printed = 3 ∷ [] }
+    ∷ record { given = wrote (planReply (sample 0) 1 2) (wordsOf (sample 0)); printed = 3 ∷ 4 ∷ [] }
+    ∷ record { given = expectedIn (planReply (sample 0) 1 2); printed = 0 ∷ [] }
+    ∷ record { given = indexIn (sampleJudged 0 3); printed = [] }
+    ∷ record { given = indexIn (sampleJudged 0 0); printed = [] }
+    ∷ record { given = indexIn (sampleJudged 0 1); printed = 0 ∷ [] }
+    ∷ record { given = indexIn (sampleJudged 0 7); printed = 1 ∷ [] }
+    ∷ record { given = next (clockReply (holding 5 4) (1 ∷ 4 ∷ []) (0 ∷ [])); printed = 6 ∷ [] }
+    ∷ record { given = wrote (planReply (sample 5) 1 2) (wordsOf (sample 5)); printed = 3 ∷ 4 ∷ [] }
+    ∷ record { given = expectedIn (planReply (sample 5) 1 2); printed = 2 ∷ [] }
+    ∷ record { given = indexIn (sampleJudged 5 7); printed = [] }
+    ∷ record { given = indexIn (sampleJudged 5 4); printed = [] }
+    ∷ record { given = indexIn (sampleJudged 5 3); printed = 1 ∷ [] }
     ∷ []
 
 pub worked-agrees : agrees worked ≡ true

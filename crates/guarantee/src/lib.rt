@@ -59,7 +59,7 @@ fn make_plan(set: &[u8], columns: &mut [u64], words: &mut [u64], file: &mut [u8]
     plan_writer::write_plan(m, &words[..count], expected, file)
 }
 
-// Judges a record's signature by a plan file. Meets the set's 1 to 10, 12 and 13, then judging's 19 to 23.
+// Judges a record's signature by a plan file. Meets the set's numbers, 12 and 13, then judging's 19 to 23.
 fn judge_signed(set: &[u8], response: &[u8], plan: &[u8]) -> Judged
     ensures { λ r. ⌜ said r ≡ signedReply (now (set .entry)) (now (response .entry)) (now (plan .entry)) ⌝ }
 {
@@ -74,8 +74,8 @@ fn judge_signed(set: &[u8], response: &[u8], plan: &[u8]) -> Judged
 
 // Judges a record by the plan of its set: planning, the plan writer, the record's signature and judging, in turn. Answers with
 // the cancelled bits and the verdict. `columns` and `words` are as planning leaves them, and `file` as the plan writer does.
-// Meets planning's 1 to 10, 14, 16, 17 and 18, then the writer's 24, then the record's 12 and 13; where planning and signing answer
-// and the output has room for the plan, it answers (proofs/WorkLaws.antt, record-judged).
+// Meets planning's numbers (the set's, then 14, 16, 17 and 18), then the writer's 24, then the record's 12 and 13; where planning and
+// signing answer and the output has room for the plan, it answers (proofs/WorkLaws.antt, record-judged).
 pub fn judge_record(
     set: &[u8],
     response: &[u8],

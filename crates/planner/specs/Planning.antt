@@ -35,7 +35,7 @@ wordsOf set = wordsFor (given set)
 unfoldable pub expectedOf : List ℕ → ℕ
 expectedOf set = parities (wordsOf set) (zeroSignature set)
 
--- the set's 1 to 10, then 14 and 16
+-- the set's numbers, then 14 and 16
 unfoldable pub earlierTests : List ℕ → ℕ → List Test
 earlierTests set k = listTests set k ++ 16 when ltb (widthOf set) (rank (columnsOf set)) ∷ []
 

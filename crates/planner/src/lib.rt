@@ -15,7 +15,7 @@ pub enum Planned {
 }
 
 // Planning of document 01. Answers with m, q and the expected bits, and writes the q words over the front of `words`. Meets the
-// set's 1 to 10, then 14, 16, 17 and 18. A refusal writes nothing, but that past 14 the front of `columns` holds the columns.
+// set's numbers, then 14, 16, 17 and 18. A refusal writes nothing, but that past 14 the front of `columns` holds the columns.
 pub fn plan(set: &[u8], columns: &mut [u64], words: &mut [u64]) -> Planned
     ensures answer { λ r. ⌜ said r ≡ planReply (now (set .entry)) (length (now (columns .entry))) (length (now (words .entry))) ⌝ }
     ensures columns { λ _. ⌜ now (columns .exit) ≡ columnsAfter (now (set .entry)) (now (columns .entry)) ⌝ }

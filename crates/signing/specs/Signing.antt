@@ -1,5 +1,5 @@
 -- A record's signature. Document 01: "A record is a 0 or 1 for every cell as a tester saw it; its signature uses all of them
--- as recorded." The call meets the set's 1 to 10, then 12 and 13.
+-- as recorded." The call meets the set's numbers, then 12 and 13.
 --
 --   valueCells n set      the value bits of a set of n chains
 --   signTests set r       the numbers that the call meets, in order

@@ -36,7 +36,7 @@ fn first_row_refusal(set: &[u8], slice: u64) -> u64
     0
 }
 
-// Where the value row of a slice stands in the set. It meets 1 to 11, in that order.
+// Where the value row of a slice stands in the set. It meets the set's numbers, then 11.
 pub fn value_place(set: &[u8], slice: u64) -> Place
     ensures { λ r. ⌜ saidPlace r ≡ valueReply (now (set .entry)) slice ⌝ }
 {
@@ -51,7 +51,7 @@ pub fn value_place(set: &[u8], slice: u64) -> Place
     }
 }
 
-// Where the row of unknown marks of a slice stands in the set. It meets 1 to 11, in that order.
+// Where the row of unknown marks of a slice stands in the set. It meets the set's numbers, then 11.
 pub fn mark_place(set: &[u8], slice: u64) -> Place
     ensures { λ r. ⌜ saidPlace r ≡ markReply (now (set .entry)) slice ⌝ }
 {
