@@ -812,7 +812,7 @@ class Batch:
             for m in (self.pick(WIDTHS), self.pick(NUMBERS)):
                 w = self.bits(self.pick([min(m, 64), 64]))
                 inversion = self.pick([self.bits(min(m, 64)), 1 << min(m, 63), self.bits(64)])
-                self.call("register::limits", [m, self.bits(min(m, 64)), inversion, self.pick(NUMBERS), self.pick(NUMBERS)])
+                self.call("register::limits", [m, self.bits(min(m, 64)), self.pick(NUMBERS), self.pick(NUMBERS)])
                 self.call("register::fresh", [m, w, inversion])
                 self.call("chains::words", [m, self.pick([0, w, 1 << min(m, 63)]), self.pick([0, 1, 2, ALL])])
                 spread = self.spread(max(1, min(m, 64)), max(1, n))

@@ -9,7 +9,7 @@ ghost use lib.ListN.{length, take};
 ghost use Rattle.word.specs.Reply.{firstOf};
 ghost use Rattle.rows.specs.Row.{cell, rowBytes};
 ghost use Rattle.chains.specs.Table.{HalfBytes, lookedUp};
-ghost use Rattle.register.specs.Circuit.{circuit, advanced, clocked, badTaps, badInversion, badChains, tooManySlices};
+ghost use Rattle.register.specs.Circuit.{circuit, advanced, clocked, badTaps, badChains, tooManySlices};
 ghost use Rattle.register.specs.Clock.{clockTests, clockReply, said, stateAfter};
 
 // The register: its width m, its tap word, its inversion word and its state.
@@ -37,13 +37,6 @@ pub fn is_bad_taps(m: u64, taps: u64) -> bool
     ensures { λ r. ⌜ r ≡ badTaps m taps ⌝ }
 {
     (taps % 2 == 0) | word::is_beyond(m, taps)
-}
-
-// Number 25: whether the inversion word has a bit at or above m.
-pub fn is_bad_inversion(m: u64, inversion: u64) -> bool
-    ensures { λ r. ⌜ r ≡ badInversion m inversion ⌝ }
-{
-    word::is_beyond(m, inversion)
 }
 
 // Number 4: whether n isn't 1 to 256.
@@ -124,7 +117,7 @@ fn first_refusal(register: Register, spread: &[u64], row: &[u8]) -> u64
     if is_bad_taps(register.m, register.taps) {
         return 3;
     }
-    if is_bad_inversion(register.m, register.inversion) {
+    if word::is_beyond(register.m, register.inversion) {
         return 25;
     }
     if is_bad_chains(spread.len() as u64) {

@@ -52,7 +52,7 @@ pub fn write_refusal(
     if register::is_bad_taps(m, taps) {
         return 3;
     }
-    if register::is_bad_inversion(m, inversion) {
+    if word::is_beyond(m, inversion) {
         return 25;
     }
     if register::is_bad_chains(spread.len() as u64) {

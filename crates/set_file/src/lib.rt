@@ -58,7 +58,7 @@ fn has_bad_taps(set: &[u8]) -> bool
 fn has_bad_inversion(set: &[u8]) -> bool
     ensures { λ r. ⌜ r ≡ badInversion (widthOf (now (set .entry))) (inversionOf (now (set .entry))) ⌝ }
 {
-    register::is_bad_inversion(
+    word::is_beyond(
         set_layout::register_width(set),
         set_layout::inversion_word(set),
     )
@@ -103,7 +103,7 @@ fn has_bad_spread(set: &[u8]) -> bool
 fn has_bad_slices(set: &[u8]) -> bool
     ensures { λ r. ⌜ r ≡ badSlices (now (set .entry)) ⌝ }
 {
-    (set.len() < set_layout::head_length(set_layout::chain_count(set)))
+    (set.len() < set_layout::rows_at(set_layout::chain_count(set)))
         | register::is_bad_slices(set_layout::slice_count(set) as u64)
 }
 

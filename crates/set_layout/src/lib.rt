@@ -6,7 +6,7 @@ ghost use Prim.Native.Nat.{_*_, _≤_};
 ghost use lib.ListN.{take};
 ghost use Rattle.word.specs.Reply.{front};
 ghost use Rattle.rows.specs.Row.{rowBytes};
-ghost use Rattle.set_layout.specs.Layout.{slicesAt, headLength, rowsAt, setLength, widthOf, tapsOf, inversionOf, chainsOf, spreadOf, slicesOf, valueAt, markAt, noWords};
+ghost use Rattle.set_layout.specs.Layout.{slicesAt, rowsAt, setLength, widthOf, tapsOf, inversionOf, chainsOf, spreadOf, slicesOf, valueAt, markAt, noWords};
 
 // The places of the tap word, of the inversion word, of n and of the first spread word; m stands at place 0.
 pub const TAPS_AT: usize = 2;
@@ -25,18 +25,11 @@ pub fn slices_at(n: u16) -> usize
     SPREAD_AT + 8 * chains
 }
 
-// The bytes before the rows, for n chains.
-pub fn head_length(n: u16) -> usize
-    ensures { λ r. ⌜ r ≡ headLength n ⌝ }
-{
-    slices_at(n) + 2
-}
-
-// The place of the first row, for n chains.
+// The place of the first row, for n chains: as many bytes stand before it.
 pub fn rows_at(n: u16) -> usize
     ensures { λ r. ⌜ r ≡ rowsAt n ⌝ }
 {
-    head_length(n)
+    slices_at(n) + 2
 }
 
 // The bytes of s rows of n chains. Counts of 2 bytes keep it small.

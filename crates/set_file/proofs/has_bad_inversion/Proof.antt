@@ -6,7 +6,7 @@ use Rattle.set_file.proofs.has_bad_inversion.Statement.{statement}
 use Rattle.set_file.proofs.has_bad_inversion.Tie as tie
 
 returns : tie.Need-returns
-returns c = c .is-bad-inversion .ensures ∙ ap₂ badInversion (c .before .before .register-width .ensures) (c .before .inversion-word .ensures)
+returns c = c .is-beyond .ensures ∙ ap₂ badInversion (c .before .before .register-width .ensures) (c .before .inversion-word .ensures)
 
 pub has-bad-inversion-spec : {M : Type 1} → statement M
 has-bad-inversion-spec = tie.close (tie.spec (λ c κs. search needs) (λ c κs. search needs) (λ c κs. search needs) returns)

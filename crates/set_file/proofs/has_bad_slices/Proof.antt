@@ -14,8 +14,8 @@ use Rattle.set_file.proofs.has_bad_slices.Tie as tie
 chain-count-requires : tie.Need-chain-count-requires
 chain-count-requires c κs = search needs
 
-head-length-requires : tie.Need-head-length-requires
-head-length-requires c κs = search needs
+rows-at-requires : tie.Need-rows-at-requires
+rows-at-requires c κs = search needs
 
 slice-count-requires : tie.Need-slice-count-requires
 slice-count-requires c κs = search needs
@@ -28,7 +28,7 @@ is-bad-slices-requires c κs = search needs
 
 returns : tie.Need-returns
 unfolding badSlices
-returns c = ap₂ (λ (at : ℕ) (b : Bool). ltb (length (c .before .before .before .before .before .args .set .now)) at || b) (c .before .before .head-length .ensures ∙ ap headLength (c .before .before .before .chain-count .ensures))
+returns c = ap₂ (λ (at : ℕ) (b : Bool). ltb (length (c .before .before .before .before .before .args .set .now)) at || b) (c .before .before .rows-at .ensures ∙ ap headLength (c .before .before .before .chain-count .ensures))
     (c .is-bad-slices .ensures ∙ ap tooManySlices (c .before .slice-count .ensures))
 
 pub has-bad-slices-spec : {M : Type 1} → statement M
@@ -36,7 +36,7 @@ has-bad-slices-spec =
     tie.close
     (tie.spec
     chain-count-requires
-    head-length-requires
+    rows-at-requires
     slice-count-requires
     cast-is-bad-slices
     is-bad-slices-requires
