@@ -65,14 +65,14 @@ fn every_width_every_chain_count_and_every_slice_count() {
 /// The calls on a set of the largest shape, its plan accepted or not.
 fn largest_set(both: &mut Both, r: &mut Random, c: &Content) -> bool {
     let files = draw::files_of(r, c);
-    assert_eq!(files.set.len(), 34_830);
+    assert_eq!(files.set.len(), 34_838);
     both.read_set(&files.set).unwrap();
     both.sign(&files.set, &files.record).unwrap();
     both.rows(&files.set, 511).unwrap();
     assert_eq!(both.rows(&files.set, 512), Err(11));
     both.list_columns(&files.set, files.unknowns).unwrap();
-    both.write_set(c, 34_830).unwrap();
-    assert_eq!(both.write_set(c, 34_829), Err(24));
+    both.write_set(c, 34_838).unwrap();
+    assert_eq!(both.write_set(c, 34_837), Err(24));
     both.plan(&files.set, files.unknowns, 64).is_ok()
 }
 
@@ -248,7 +248,7 @@ fn two_faults_at_once() {
             }
         }
     }
-    for number in 1..=10 {
+    for number in [1, 2, 3, 25, 4, 5, 6, 7, 8, 9, 10] {
         let seen = both.seen("read_set", number);
         assert!(seen > 30, "{seen} sets gave {number}");
     }
