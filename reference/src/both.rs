@@ -11,19 +11,19 @@ use crate::second::set::{clock, list_columns, read_set, row_place, sign, write_s
 use crate::second::{word_of, Reply};
 use std::collections::BTreeMap;
 
-/// Each call with the numbers that it can meet by document 01, but 16, which no input gives.
+/// Each call with the numbers that it can meet, in the order in which it looks for them, but 16, which no input gives.
 pub const MEETS: [(&str, &[u64]); 12] = [
-    ("read_set", &[1, 2, 3, 4, 5, 6, 7, 8, 9, 10]),
-    ("value_row", &[1, 2, 3, 4, 5, 6, 7, 8, 9, 10, 11]),
-    ("mark_row", &[1, 2, 3, 4, 5, 6, 7, 8, 9, 10, 11]),
-    ("write_set", &[2, 3, 4, 6, 7, 8, 9, 10, 24]),
-    ("clock", &[2, 3, 4, 6, 8, 9, 23]),
-    ("sign", &[1, 2, 3, 4, 5, 6, 7, 8, 9, 10, 12, 13]),
-    ("list_columns", &[1, 2, 3, 4, 5, 6, 7, 8, 9, 10, 14]),
+    ("read_set", &[1, 2, 3, 25, 4, 5, 6, 7, 8, 9, 10]),
+    ("value_row", &[1, 2, 3, 25, 4, 5, 6, 7, 8, 9, 10, 11]),
+    ("mark_row", &[1, 2, 3, 25, 4, 5, 6, 7, 8, 9, 10, 11]),
+    ("write_set", &[2, 3, 25, 4, 6, 7, 8, 9, 10, 24]),
+    ("clock", &[2, 3, 25, 4, 6, 8, 9, 23]),
+    ("sign", &[1, 2, 3, 25, 4, 5, 6, 7, 8, 9, 10, 12, 13]),
+    ("list_columns", &[1, 2, 3, 25, 4, 5, 6, 7, 8, 9, 10, 14]),
     ("eliminate", &[2, 15, 17, 18]),
-    ("plan", &[1, 2, 3, 4, 5, 6, 7, 8, 9, 10, 14, 17, 18]),
+    ("plan", &[1, 2, 3, 25, 4, 5, 6, 7, 8, 9, 10, 14, 17, 18]),
     ("write_plan", &[19, 20, 21, 22, 24]),
-    ("read_plan", &[18, 19, 20, 21, 22]),
+    ("read_plan", &[19, 20, 21, 22, 18]),
     ("judge", &[19, 20, 21, 22, 23]),
 ];
 
@@ -215,6 +215,7 @@ impl Both {
             let mut want = CSet::refused(0);
             want.m = read.circuit.m as u64;
             want.taps = word_of(&read.circuit.taps);
+            want.inversion = word_of(&read.circuit.inversion);
             want.n = read.n() as u64;
             want.s = read.s() as u64;
             for (w, bits) in want.spread.iter_mut().zip(&read.circuit.spread) {
@@ -261,13 +262,14 @@ impl Both {
             Lend::Bytes(&content.marks),
             Lend::Output(room, front(&reply, |file| file)),
         ];
-        let (m, taps, s) = (content.m, content.taps, content.s);
+        let (m, taps, inversion, s) = (content.m, content.taps, content.inversion, content.s);
         self.compare("write_set", &lend, want, |lent| {
             let ((spread, n), (out, out_len)) = (lent[0].words(), lent[3].output());
             let ((values, values_len), (marks, marks_len)) = (lent[1].bytes(), lent[2].bytes());
             unsafe {
                 canceller_write_set(
-                    m, taps, spread, n, values, values_len, marks, marks_len, s, out, out_len,
+                    m, taps, inversion, spread, n, values, values_len, marks, marks_len, s, out,
+                    out_len,
                 )
             }
         });
@@ -279,11 +281,12 @@ impl Both {
         &mut self,
         m: u64,
         taps: u64,
+        inversion: u64,
         state: u64,
         spread: &[u64],
         row: &[u8],
     ) -> Reply<u64> {
-        let reply = clock(m, taps, state, spread, row);
+        let reply = clock(m, taps, inversion, state, spread, row);
         let want = CClocked {
             refusal: reply.err().unwrap_or(0),
             state: reply.unwrap_or(state),
@@ -291,7 +294,7 @@ impl Both {
         let lend = [Lend::Words(spread), Lend::Bytes(row)];
         self.compare("clock", &lend, want, |lent| {
             let ((spread, n), (row, row_len)) = (lent[0].words(), lent[1].bytes());
-            unsafe { canceller_clock(m, taps, state, spread, n, row, row_len) }
+            unsafe { canceller_clock(m, taps, inversion, state, spread, n, row, row_len) }
         });
         reply
     }

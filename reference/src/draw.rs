@@ -57,7 +57,8 @@ pub fn good_content(both: &mut Both, r: &mut Random, content: &Content) {
     every_call(both, &files);
     let row = rows(r, content.spread.len(), 1, 1, 2);
     let state = r.within(content.m as usize);
-    let clocked = both.clock(content.m, content.taps, state, &content.spread, &row);
+    let (m, taps, inversion) = (content.m, content.taps, content.inversion);
+    let clocked = both.clock(m, taps, inversion, state, &content.spread, &row);
     assert!(clocked.is_ok(), "{}", both.at);
 }
 
@@ -141,6 +142,13 @@ fn chains(set: &[u8]) -> usize {
     number_at(set, CHAINS_AT, COUNT).unwrap_or(0) as usize
 }
 
+/// The inversion word with one bit, which the width tells; 0 where a word has no such bit.
+fn put_inverted(set: &mut [u8], bit: fn(u64) -> u64) {
+    let m = number_at(set, WIDTH_AT, COUNT).unwrap_or(0);
+    let word = 1u64.checked_shl(bit(m) as u32).unwrap_or(0);
+    put(set, INVERSION_AT, &word.to_le_bytes());
+}
+
 fn put_slices(set: &mut [u8], s: &[u8]) {
     let at = slices_at(chains(set));
     put(set, at, s);
@@ -158,7 +166,7 @@ fn copy_row(set: &mut [u8], marks_to_values: bool) {
 }
 
 /// .. in the register and the chains,
-const REGISTER_FAULTS: [Fault; 16] = [
+const REGISTER_FAULTS: [Fault; 19] = [
     ("m 0", |s| put(s, WIDTH_AT, &[0, 0])),
     ("m 65", |s| put(s, WIDTH_AT, &[65, 0])),
     ("m 64", |s| put(s, WIDTH_AT, &[64, 0])),
@@ -167,6 +175,9 @@ const REGISTER_FAULTS: [Fault; 16] = [
     ("taps even", |s| put(s, TAPS_AT, &[0])),
     ("taps beyond", |s| put(s, TAPS_AT + 7, &[0xff])),
     ("taps 0", |s| put(s, TAPS_AT, &[0; 8])),
+    ("inversion bit m - 1", |s| put_inverted(s, |m| m.max(1) - 1)),
+    ("inversion bit m", |s| put_inverted(s, |m| m)),
+    ("inversion all ones", |s| put(s, INVERSION_AT, &[255; 8])),
     ("n 0", |s| put(s, CHAINS_AT, &[0, 0])),
     ("n 1", |s| put(s, CHAINS_AT, &[1, 0])),
     ("n 256", |s| put(s, CHAINS_AT, &[0, 1])),
@@ -204,7 +215,7 @@ const SLICE_FAULTS: [Fault; 9] = [
 ];
 
 /// .. and in the length.
-const LENGTH_FAULTS: [Fault; 11] = [
+const LENGTH_FAULTS: [Fault; 13] = [
     ("one byte less", |s| {
         s.pop();
     }),
@@ -216,7 +227,9 @@ const LENGTH_FAULTS: [Fault; 11] = [
     ("cut in the spread words", |s| s.truncate(SPREAD_AT + 3)),
     ("cut before n", |s| s.truncate(CHAINS_AT)),
     ("cut in n", |s| s.truncate(CHAINS_AT + 1)),
-    ("cut in the taps", |s| s.truncate(CHAINS_AT - 1)),
+    ("cut in the inversion", |s| s.truncate(CHAINS_AT - 1)),
+    ("cut before the inversion", |s| s.truncate(INVERSION_AT)),
+    ("cut in the taps", |s| s.truncate(INVERSION_AT - 1)),
     ("cut before s", |s| s.truncate(slices_at(chains(s)))),
     ("cut in s", |s| s.truncate(slices_at(chains(s)) + 1)),
     ("no rows", |s| s.truncate(value_row_at(chains(s), 0))),
@@ -268,7 +281,7 @@ pub fn bad_content(both: &mut Both, r: &mut Random) {
 }
 
 fn change_content(r: &mut Random, content: &mut Content) {
-    match r.below(13) {
+    match r.below(15) {
         0 => content.m = r.pick(&[0, 1, 2, 63, 64, 65, 66, 1 << 32, u64::MAX]),
         1 => content.taps = r.word(),
         2 => content.taps &= !1,
@@ -283,6 +296,8 @@ fn change_content(r: &mut Random, content: &mut Content) {
         }
         10 => content.marks = content.values.clone(),
         11 => add_bits(&mut content.values, r.word() as u8),
+        12 => content.inversion = r.beyond(content.m.min(64) as usize),
+        13 => content.inversion = r.word(),
         _ => add_bits(&mut content.marks, r.word() as u8),
     }
 }
@@ -309,8 +324,9 @@ pub fn bad_clock(both: &mut Both, r: &mut Random) {
     let mut spread: Vec<u64> = (0..n).map(|_| r.some_within(m)).collect();
     let mut row = rows(r, n, 1, 1, 2);
     let (mut width, mut taps, mut state) = (m as u64, r.taps(m), r.within(m));
+    let mut inversion = r.inversion(m);
     for _ in 0..r.below(3) {
-        match r.below(8) {
+        match r.below(10) {
             0 => width = r.pick(&[0, 1, 63, 64, 65, u64::MAX]),
             1 => taps ^= 1,
             2 => taps = r.word() | 1,
@@ -320,10 +336,13 @@ pub fn bad_clock(both: &mut Both, r: &mut Random) {
                 row.pop();
             }
             6 => add_bits(&mut row, 0xf0),
+            7 => inversion = r.beyond(m),
+            8 => inversion = r.word(),
             _ => state = r.word(),
         }
     }
-    both.clock(width, taps, state, &spread, &row).ok();
+    both.clock(width, taps, inversion, state, &spread, &row)
+        .ok();
 }
 
 /// An elimination: columns of every rank up to m, now and then with a bad width or a bad column, and lists around q.

@@ -54,8 +54,34 @@ impl Random {
         }
     }
 
+    /// A word with a bit at or above m, often bit m alone; at m 64, where there is none, any word.
+    pub fn beyond(&mut self, m: usize) -> u64 {
+        if m >= 64 {
+            return self.word();
+        }
+        let above = m + self.below(64 - m);
+        let bit = 1 << self.pick(&[m, m, 63, above]);
+        let low = self.within(m);
+        self.pick(&[bit, bit | low])
+    }
+
     pub fn taps(&mut self, m: usize) -> u64 {
         self.within(m) | 1
+    }
+
+    /// An inversion word for m bits: one time in four no input is inverted.
+    pub fn inversion(&mut self, m: usize) -> u64 {
+        if self.one_in(4) {
+            0
+        } else {
+            self.within(m)
+        }
+    }
+
+    /// Another generator, which depends on where this one stands and leaves it there: what is drawn from it changes nothing else
+    /// that a seed gives.
+    fn aside(&self) -> Random {
+        Random::new(!self.0)
     }
 }
 
@@ -126,6 +152,7 @@ pub fn content(r: &mut Random, m: usize, n: usize, s: usize, one: usize, of: usi
     Content {
         m: m as u64,
         taps: r.taps(m),
+        inversion: r.aside().inversion(m),
         spread: (0..n).map(|_| r.some_within(m)).collect(),
         values: values_beside(r, n, s, &marks),
         marks,
@@ -169,6 +196,7 @@ pub fn content_of_rank(
         let content = Content {
             m: m as u64,
             taps: modulus as u64 & (u64::MAX >> (64 - m)),
+            inversion: r.aside().inversion(m),
             spread,
             values: values_beside(r, n, s, &marks),
             marks,

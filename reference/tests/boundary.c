@@ -1,5 +1,5 @@
-/* The header from C and from C++: the structs' sizes and offsets, and every call on document 01's sample. Prints a line for each
- * call; a wrong value ends the program with the line's number. */
+/* The header from C and from C++: the structs' sizes and offsets, every call on document 01's sample, and those that the inversion
+ * word changes on the sample with the word 2. Prints a line for each call; a wrong value ends the program with the line's number. */
 #include "canceller.h"
 
 #include <stdio.h>
@@ -12,13 +12,14 @@
 #define FIELD(type, field, place) _Static_assert(offsetof(type, field) == 8 * (place), #type "." #field)
 #define SIZE(type, words) _Static_assert(sizeof(type) == 8 * (words), #type)
 
-SIZE(canceller_set, 261);
+SIZE(canceller_set, 262);
 FIELD(canceller_set, refusal, 0);
 FIELD(canceller_set, m, 1);
 FIELD(canceller_set, taps, 2);
-FIELD(canceller_set, n, 3);
-FIELD(canceller_set, s, 4);
-FIELD(canceller_set, spread, 5);
+FIELD(canceller_set, inversion, 3);
+FIELD(canceller_set, n, 4);
+FIELD(canceller_set, s, 5);
+FIELD(canceller_set, spread, 6);
 SIZE(canceller_stretch, 3);
 FIELD(canceller_stretch, refusal, 0);
 FIELD(canceller_stretch, start, 1);
@@ -59,53 +60,80 @@ static void must(int holds, int line) {
 #define MUST(x) must((x), __LINE__)
 
 static const uint64_t spread[2] = {1, 4};
-static uint8_t set[40], plan[CANCELLER_PLAN_MAX];
+static const uint8_t values[2] = {1, 1}, marks[2] = {2, 0};
+static uint8_t set[48], plan[CANCELLER_PLAN_MAX];
 static uint64_t columns[3] = {9, 9, 9}, words[4] = {8, 8, 8, 8};
 
 static void sets(void) {
-    const uint8_t values[2] = {1, 1}, marks[2] = {2, 0};
     memset(set, 0xEE, sizeof set);
-    canceller_written written = canceller_write_set(3, 3, spread, 2, values, 2, marks, 2, 2, set, sizeof set);
-    MUST(written.refusal == 0 && written.length == 34);
-    MUST(set[34] == 0xEE && set[39] == 0xEE);
+    canceller_written written = canceller_write_set(3, 3, 0, spread, 2, values, 2, marks, 2, 2, set, sizeof set);
+    MUST(written.refusal == 0 && written.length == 42);
+    MUST(set[42] == 0xEE && set[47] == 0xEE);
     printf("set written: %d bytes\n", (int)written.length);
 
-    canceller_set read = canceller_read_set(set, 34);
-    MUST(read.refusal == 0 && read.m == 3 && read.taps == 3 && read.n == 2 && read.s == 2);
+    canceller_set read = canceller_read_set(set, 42);
+    MUST(read.refusal == 0 && read.m == 3 && read.taps == 3 && read.inversion == 0 && read.n == 2 && read.s == 2);
     MUST(read.spread[0] == 1 && read.spread[1] == 4 && read.spread[2] == 0 && read.spread[255] == 0);
     printf("set read\n");
 
-    canceller_stretch row = canceller_value_row(set, 34, 1);
-    MUST(row.refusal == 0 && row.start == 32 && row.length == 1 && set[row.start] == 1);
-    row = canceller_mark_row(set, 34, 0);
-    MUST(row.refusal == 0 && row.start == 31 && row.length == 1 && set[row.start] == 2);
-    row = canceller_mark_row(set, 34, 2);
+    canceller_stretch row = canceller_value_row(set, 42, 1);
+    MUST(row.refusal == 0 && row.start == 40 && row.length == 1 && set[row.start] == 1);
+    row = canceller_mark_row(set, 42, 0);
+    MUST(row.refusal == 0 && row.start == 39 && row.length == 1 && set[row.start] == 2);
+    row = canceller_mark_row(set, 42, 2);
     MUST(row.refusal == 11 && row.start == 0 && row.length == 0);
     printf("rows found\n");
 
     MUST(canceller_read_set(NULL, 0).refusal == 1);
-    MUST(CANCELLER_SET_MAX == 14 + 8 * CANCELLER_CHAINS_MAX + 2 * 32 * CANCELLER_SLICES_MAX);
+    MUST(CANCELLER_SET_MAX == 22 + 8 * CANCELLER_CHAINS_MAX + 2 * 32 * CANCELLER_SLICES_MAX);
+}
+
+/* The sample whose register inverts bit 1. */
+static void inverted(void) {
+    uint8_t other[42];
+    canceller_written written = canceller_write_set(3, 3, 2, spread, 2, values, 2, marks, 2, 2, other, sizeof other);
+    MUST(written.refusal == 0 && written.length == 42);
+    MUST(other[10] == 2 && memcmp(other, set, 10) == 0 && memcmp(other + 11, set + 11, 31) == 0);
+    MUST(canceller_write_set(3, 3, 8, spread, 2, values, 2, marks, 2, 2, other, sizeof other).refusal == 25);
+    canceller_set read = canceller_read_set(other, 42);
+    MUST(read.refusal == 0 && read.m == 3 && read.taps == 3 && read.inversion == 2 && read.n == 2 && read.s == 2);
+
+    canceller_clocked clocked = canceller_clock(3, 3, 2, 4, spread, 2, marks + 1, 1);
+    MUST(clocked.refusal == 0 && clocked.state == 1);
+    clocked = canceller_clock(3, 3, 8, 4, spread, 2, marks + 1, 1);
+    MUST(clocked.refusal == 25 && clocked.state == 4);
+
+    canceller_signed with_zero = canceller_sign(other, 42, values, 2);
+    MUST(with_zero.refusal == 0 && with_zero.signature == 5);
+    canceller_planned planned = canceller_plan(other, 42, columns, 3, words, 4);
+    MUST(planned.refusal == 0 && planned.q == 2 && planned.expected == 3);
+    MUST(columns[0] == 3 && words[0] == 3 && words[1] == 4);
+
+    other[10] = 8;
+    read = canceller_read_set(other, 42);
+    MUST(read.refusal == 25 && read.m == 0 && read.taps == 0 && read.inversion == 0 && read.n == 0 && read.spread[0] == 0);
+    printf("inverted: signed %d, expected %d\n", (int)with_zero.signature, (int)planned.expected);
 }
 
 static void responses(void) {
     const uint8_t none[1] = {0};
-    canceller_clocked clocked = canceller_clock(3, 3, 4, spread, 2, none, 1);
+    canceller_clocked clocked = canceller_clock(3, 3, 0, 4, spread, 2, none, 1);
     MUST(clocked.refusal == 0 && clocked.state == 3);
-    clocked = canceller_clock(3, 3, 7, spread, 2, none, 1);
+    clocked = canceller_clock(3, 3, 0, 7, spread, 2, none, 1);
     MUST(clocked.refusal == 0 && clocked.state == 5);
-    clocked = canceller_clock(3, 3, 8, spread, 2, none, 1);
+    clocked = canceller_clock(3, 3, 0, 8, spread, 2, none, 1);
     MUST(clocked.refusal == 23 && clocked.state == 8);
     printf("clocked\n");
 
     const uint8_t zeros[2] = {1, 1}, ones[2] = {3, 1};
-    canceller_signed first = canceller_sign(set, 34, zeros, 2), second = canceller_sign(set, 34, ones, 2);
+    canceller_signed first = canceller_sign(set, 42, zeros, 2), second = canceller_sign(set, 42, ones, 2);
     MUST(first.refusal == 0 && second.refusal == 0 && (first.signature ^ second.signature) == 3);
-    MUST(canceller_sign(set, 34, NULL, 0).refusal == 12);
+    MUST(canceller_sign(set, 42, NULL, 0).refusal == 12);
     printf("signed: %d and %d\n", (int)first.signature, (int)second.signature);
 
-    canceller_listed listed = canceller_list_columns(set, 34, columns, 3);
+    canceller_listed listed = canceller_list_columns(set, 42, columns, 3);
     MUST(listed.refusal == 0 && listed.count == 1 && columns[0] == 3 && columns[1] == 9);
-    MUST(canceller_list_columns(set, 34, NULL, 0).refusal == 14);
+    MUST(canceller_list_columns(set, 42, NULL, 0).refusal == 14);
     printf("column: %d\n", (int)columns[0]);
 }
 
@@ -120,7 +148,7 @@ static void eliminations(void) {
 }
 
 static void plans(void) {
-    canceller_planned planned = canceller_plan(set, 34, columns, 3, words, 4);
+    canceller_planned planned = canceller_plan(set, 42, columns, 3, words, 4);
     MUST(planned.refusal == 0 && planned.m == 3 && planned.q == 2 && planned.expected == 0);
     MUST(words[0] == 3 && words[1] == 4);
     printf("planned: words %d %d, expected %d\n", (int)words[0], (int)words[1], (int)planned.expected);
@@ -155,5 +183,6 @@ int main(void) {
     responses();
     eliminations();
     plans();
+    inverted();
     return 0;
 }

@@ -29,8 +29,9 @@ fn run(compiler: &str, language: [&str; 2], name: &str) -> String {
     text
 }
 
-const LINES: &str = "set written: 34 bytes\nset read\nrows found\nclocked\nsigned: 3 and 0\ncolumn: 3\neliminated\n\
-                     planned: words 3 4, expected 0\nplan written and read: 23 bytes\njudged\n";
+const LINES: &str = "set written: 42 bytes\nset read\nrows found\nclocked\nsigned: 3 and 0\ncolumn: 3\neliminated\n\
+                     planned: words 3 4, expected 0\nplan written and read: 23 bytes\njudged\n\
+                     inverted: signed 5, expected 3\n";
 
 #[test]
 fn a_c_program_calls_every_function_on_the_sample() {

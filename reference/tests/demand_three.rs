@@ -1,6 +1,6 @@
 //! The third demand by force: for thousands of small sets every filling is enumerated, and each signature of the register's width
 //! is judged by the plan file of the set. Exactly the explained signatures pass, and records alike in the known cells are judged
-//! alike, whether or not they agree with the set.
+//! alike, whether or not they agree with the set. Most of the sets' registers invert some of their inputs.
 
 use reference::both::Both;
 use reference::random::*;
@@ -35,6 +35,11 @@ fn record_of(cells: &[Bits]) -> Vec<u8> {
     bytes
 }
 
+/// Whether the inversion word changes signatures of the set.
+fn inverts(set: &Set) -> bool {
+    set.s() > 0 && word_of(&set.circuit.inversion) != 0
+}
+
 fn explained(set: &Set) -> BTreeSet<u64> {
     (0..1u64 << set.unknowns().len())
         .map(|filling| signature(set, &filled(set, filling)))
@@ -51,6 +56,7 @@ fn first_to_disagree(plan: &Plan, y: u64) -> Option<u64> {
 #[test]
 fn exactly_the_explained_signatures_pass() {
     let mut both = Both::new();
+    let mut inverting = [0; 2];
     for seed in 100_000..104_000 {
         let mut r = Random::new(seed);
         both.at = format!("seed {seed}");
@@ -65,6 +71,7 @@ fn exactly_the_explained_signatures_pass() {
         let every = explained.len() as u64 == all;
         let planned = both.plan(&file, u, 64);
         assert_eq!(planned.clone().err(), every.then_some(17), "seed {seed}");
+        inverting[usize::from(every)] += usize::from(inverts(&set));
         let Ok(p) = planned else {
             continue;
         };
@@ -81,12 +88,16 @@ fn exactly_the_explained_signatures_pass() {
         plans > 1_500 && refused > 300,
         "{plans} plans and {refused} refusals are too few to show anything"
     );
+    assert!(
+        inverting[0] > 900 && inverting[1] > 150,
+        "{inverting:?} plans and refusals of registers that invert are too few to show anything"
+    );
 }
 
 #[test]
 fn records_alike_in_the_known_cells_are_judged_alike() {
     let mut both = Both::new();
-    let mut pairs = 0;
+    let (mut pairs, mut inverting) = (0, 0);
     for seed in 110_000..114_000 {
         let mut r = Random::new(seed);
         both.at = format!("seed {seed}");
@@ -111,11 +122,12 @@ fn records_alike_in_the_known_cells_are_judged_alike() {
             let other = both.sign(&file, &record_of(&cells)).unwrap();
             assert_eq!(both.judge(&plan, other).unwrap(), judged, "seed {seed}");
             pairs += usize::from(other != first);
+            inverting += usize::from(other != first && inverts(&set));
         }
     }
     assert!(
-        pairs > 2_000,
-        "{pairs} pairs with different signatures are too few to show anything"
+        pairs > 2_000 && inverting > 1_000,
+        "{pairs} pairs with different signatures, {inverting} of registers that invert, are too few to show anything"
     );
 }
 

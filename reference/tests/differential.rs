@@ -8,7 +8,8 @@ use reference::draw::Files;
 use reference::random::*;
 use reference::second::elimination::{reduced_list, reduced_list_by_trial};
 use reference::second::layout::*;
-use reference::second::set::{read_set, Content};
+use reference::second::set::{read_set, Circuit, Content};
+use reference::second::word_of;
 
 /// Fails unless at least `percent` of a hundred of these calls were answers, and not all.
 fn mixed(both: &Both, call: &str, percent: u64) {
@@ -65,14 +66,14 @@ fn every_width_every_chain_count_and_every_slice_count() {
 /// The calls on a set of the largest shape, its plan accepted or not.
 fn largest_set(both: &mut Both, r: &mut Random, c: &Content) -> bool {
     let files = draw::files_of(r, c);
-    assert_eq!(files.set.len(), 34_830);
+    assert_eq!(files.set.len(), 34_838);
     both.read_set(&files.set).unwrap();
     both.sign(&files.set, &files.record).unwrap();
     both.rows(&files.set, 511).unwrap();
     assert_eq!(both.rows(&files.set, 512), Err(11));
     both.list_columns(&files.set, files.unknowns).unwrap();
-    both.write_set(c, 34_830).unwrap();
-    assert_eq!(both.write_set(c, 34_829), Err(24));
+    both.write_set(c, 34_838).unwrap();
+    assert_eq!(both.write_set(c, 34_837), Err(24));
     both.plan(&files.set, files.unknowns, 64).is_ok()
 }
 
@@ -248,7 +249,7 @@ fn two_faults_at_once() {
             }
         }
     }
-    for number in 1..=10 {
+    for number in [1, 2, 3, 25, 4, 5, 6, 7, 8, 9, 10] {
         let seen = both.seen("read_set", number);
         assert!(seen > 30, "{seen} sets gave {number}");
     }
@@ -471,10 +472,19 @@ fn files_read_back_to_what_was_written() {
         let n = c.spread.len();
         let length = set_length(n, c.s as usize);
         let file = both.write_set(&c, length).expect("a good content");
-        let read = read_set(&file).expect("a written set");
-        assert_eq!(read.circuit.m as u64, c.m, "{}", both.at);
-        assert_eq!(read.s() as u64, c.s, "{}", both.at);
         both.read_set(&file).expect("a written set");
+        let read = read_set(&file).expect("a written set");
+        let Circuit {
+            m,
+            taps,
+            inversion,
+            spread,
+        } = &read.circuit;
+        let words = [word_of(taps), word_of(inversion)];
+        assert_eq!(words, [c.taps, c.inversion], "{}", both.at);
+        assert_eq!((*m as u64, read.s() as u64), (c.m, c.s), "{}", both.at);
+        let spread: Vec<u64> = spread.iter().map(|w| word_of(w)).collect();
+        assert_eq!(spread, c.spread, "{}", both.at);
         let b = row_bytes(n);
         for t in 0..c.s as usize {
             both.rows(&file, t as u64).expect("a slice of the set");

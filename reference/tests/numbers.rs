@@ -3,15 +3,18 @@
 use reference::both::Both;
 use reference::repository::sample;
 use reference::second::plan::Plan;
-use reference::second::set::Content;
+use reference::second::set::{read_set, Content};
+use reference::second::word_of;
 
-/// The sets that give 1 to 10.
-const BAD_SETS: [(&str, u64); 12] = [
+/// The sets that give 1 to 10 and 25.
+const BAD_SETS: [(&str, u64); 14] = [
     ("empty.set", 1),
     ("bytes-9.set", 1),
+    ("bytes-17.set", 1),
     ("width-0.set", 2),
     ("width-65.set", 2),
     ("taps-9.set", 3),
+    ("inversion-8.set", 25),
     ("chains-257.set", 4),
     ("spread-short.set", 5),
     ("spread-0.set", 6),
@@ -25,18 +28,147 @@ fn number<T>(reply: Result<T, u64>) -> u64 {
     reply.err().unwrap_or(0)
 }
 
+/// Every call on a bad set gives its number.
+fn refused_by_all(both: &mut Both, what: &str, set: &[u8], n: u64) {
+    both.at = what.to_string();
+    assert_eq!(number(both.read_set(set)), n, "{what}");
+    assert_eq!(number(both.rows(set, 0)), n, "{what}");
+    assert_eq!(number(both.sign(set, &[])), n, "{what}");
+    assert_eq!(number(both.list_columns(set, 9)), n, "{what}");
+    assert_eq!(number(both.plan(set, 9, 9)), n, "{what}");
+}
+
 #[test]
 fn calls_on_sets() {
     let mut both = Both::new();
     for (name, n) in BAD_SETS {
-        let set = sample(name);
-        both.at = name.to_string();
-        assert_eq!(number(both.read_set(&set)), n, "{name}");
-        assert_eq!(number(both.rows(&set, 0)), n, "{name}");
-        assert_eq!(number(both.sign(&set, &[])), n, "{name}");
-        assert_eq!(number(both.list_columns(&set, 9)), n, "{name}");
-        assert_eq!(number(both.plan(&set, 9, 9)), n, "{name}");
+        refused_by_all(&mut both, name, &sample(name), n);
     }
+}
+
+/// A set without slices: n chains, each with the spread word 1.
+fn without_slices(m: u16, taps: u64, inversion: u64, n: u16) -> Vec<u8> {
+    let mut set = m.to_le_bytes().to_vec();
+    set.extend(taps.to_le_bytes());
+    set.extend(inversion.to_le_bytes());
+    set.extend(n.to_le_bytes());
+    for _ in 0..n {
+        set.extend(1u64.to_le_bytes());
+    }
+    set.extend([0, 0]);
+    set
+}
+
+#[test]
+fn a_set_of_fewer_than_18_bytes_gives_1_whatever_they_are_and_one_of_18_does_not() {
+    let mut both = Both::new();
+    let fronts = [
+        (3, 3, 0, 4),
+        (0, 3, 0, 2),
+        (65, 3, 0, 2),
+        (3, 9, 0, 3),
+        (3, 9, 8, 3),
+        (3, 3, 8, 25),
+        (64, 3, u64::MAX, 4),
+    ];
+    for (m, taps, inversion, of_18) in fronts {
+        let set = without_slices(m, taps, inversion, 1);
+        for length in 0..=18 {
+            let what = format!("m {m}, taps {taps}, inversion {inversion}, {length} bytes");
+            let n = if length < 18 { 1 } else { of_18 };
+            refused_by_all(&mut both, &what, &set[..length], n);
+        }
+    }
+}
+
+#[test]
+fn number_25_comes_after_3_and_before_4_in_sets_in_the_set_writer_and_in_the_clock() {
+    // m, the taps, the inversion, how many chains, and the number
+    let lines: [(u16, u64, u64, u16, u64); 12] = [
+        (0, 3, 8, 1, 2),
+        (65, 3, 8, 1, 2),
+        (3, 9, 8, 1, 3),
+        (3, 2, 8, 0, 3),
+        (3, 9, 4, 257, 3),
+        (3, 3, 8, 1, 25),
+        (3, 3, 8, 0, 25),
+        (3, 3, 8, 257, 25),
+        (3, 3, 1 << 63, 0, 25),
+        (3, 3, 4, 0, 4),
+        (3, 3, 7, 257, 4),
+        (64, 3, u64::MAX, 0, 4),
+    ];
+    let mut both = Both::new();
+    for (m, taps, inversion, n, first) in lines {
+        let what = format!("m {m}, taps {taps}, inversion {inversion}, {n} chains");
+        let set = without_slices(m, taps, inversion, n);
+        refused_by_all(&mut both, &what, &set, first);
+        let content = Content {
+            m: u64::from(m),
+            taps,
+            inversion,
+            spread: vec![1; usize::from(n)],
+            values: vec![],
+            marks: vec![],
+            s: 0,
+        };
+        assert_eq!(number(both.write_set(&content, 3_000)), first, "{what}");
+        let row = vec![0; usize::from(n).div_ceil(8)];
+        let clocked = both.clock(content.m, taps, inversion, 0, &content.spread, &row);
+        assert_eq!(number(clocked), first, "{what}");
+    }
+}
+
+#[test]
+fn of_the_inversion_words_those_with_a_bit_at_or_above_m_give_25_and_no_others() {
+    let mut both = Both::new();
+    for m in 1..=64u16 {
+        let bit = |i: u16| if i < 64 { 1u64 << i } else { 0 };
+        let all = bit(m - 1) | (bit(m - 1) - 1);
+        let words = [
+            0,
+            1,
+            bit(m - 1),
+            all,
+            bit(m),
+            all | bit(m),
+            bit(63),
+            u64::MAX,
+        ];
+        for inversion in words {
+            let first = if inversion <= all { 0 } else { 25 };
+            both.at = format!("m {m}, inversion {inversion:#x}");
+            let set = without_slices(m, 1, inversion, 1);
+            assert_eq!(number(both.read_set(&set)), first, "{}", both.at);
+            if let Ok(read) = read_set(&set) {
+                assert_eq!(word_of(&read.circuit.inversion), inversion, "{}", both.at);
+            }
+            let content = Content {
+                m: u64::from(m),
+                taps: 1,
+                inversion,
+                spread: vec![1],
+                values: vec![],
+                marks: vec![],
+                s: 0,
+            };
+            let file = if first == 0 { Ok(set) } else { Err(first) };
+            assert_eq!(both.write_set(&content, 30), file, "{}", both.at);
+            // from state 0 and with no cell 1 the next state is the inversion word
+            let next = if first == 0 {
+                Ok(inversion)
+            } else {
+                Err(first)
+            };
+            let clocked = both.clock(content.m, 1, inversion, 0, &[1], &[0]);
+            assert_eq!(clocked, next, "{}", both.at);
+        }
+    }
+    let (taken, refused) = (both.seen("read_set", 0), both.seen("read_set", 25));
+    assert!(
+        taken >= 64 * 4 && refused >= 63 * 4,
+        "{taken} taken, {refused} refused"
+    );
 }
 
 #[test]
@@ -68,6 +200,8 @@ fn calls_on_the_sample_and_on_sets_at_the_edges() {
         ("slices-0.set", 0),
         ("width-1.set", 0),
         ("width-64.set", 0),
+        ("inversion-2.set", 0),
+        ("inversion-bit-63.set", 0),
         ("largest.set", 0),
         ("too-long.set", 8),
     ] {
@@ -75,35 +209,52 @@ fn calls_on_the_sample_and_on_sets_at_the_edges() {
     }
 }
 
-type SetLine<'a> = (u64, u64, &'a [u64], &'a [u8], &'a [u8], u64, usize, u64);
+type SetLine<'a> = (
+    u64,
+    u64,
+    u64,
+    &'a [u64],
+    &'a [u8],
+    &'a [u8],
+    u64,
+    usize,
+    u64,
+);
 
 #[test]
 fn the_set_writer() {
-    let lines: [SetLine; 18] = [
-        (3, 3, &[1, 4], &[1, 1], &[2, 0], 2, 34, 0),
-        (0, 3, &[1, 4], &[1, 1], &[2, 0], 2, 34, 2),
-        (65, 3, &[1, 4], &[1, 1], &[2, 0], 2, 34, 2),
-        (3, 2, &[1, 4], &[1, 1], &[2, 0], 2, 34, 3),
-        (3, 9, &[1, 4], &[1, 1], &[2, 0], 2, 34, 3),
-        (3, 3, &[], &[], &[], 0, 34, 4),
-        (3, 3, &[1; 256], &[], &[], 0, 3_000, 0),
-        (3, 3, &[1; 257], &[], &[], 0, 3_000, 4),
-        (3, 3, &[1, 0], &[1, 1], &[2, 0], 2, 34, 6),
-        (3, 3, &[1, 8], &[1, 1], &[2, 0], 2, 34, 6),
-        (3, 3, &[1, 4], &[0; 512], &[0; 512], 512, 2_000, 0),
-        (3, 3, &[1, 4], &[0; 513], &[0; 513], 513, 2_000, 7),
-        (3, 3, &[1, 4], &[1], &[2, 0], 2, 34, 8),
-        (3, 3, &[1, 4], &[1, 1], &[2, 0, 0], 2, 34, 8),
-        (3, 3, &[1, 4], &[1, 4], &[2, 0], 2, 34, 9),
-        (3, 3, &[1, 4], &[1, 1], &[2, 0x80], 2, 34, 9),
-        (3, 3, &[1, 4], &[3, 1], &[2, 0], 2, 34, 10),
-        (3, 3, &[1, 4], &[1, 1], &[2, 0], 2, 33, 24),
+    let lines: [SetLine; 23] = [
+        (3, 3, 0, &[1, 4], &[1, 1], &[2, 0], 2, 42, 0),
+        (0, 3, 0, &[1, 4], &[1, 1], &[2, 0], 2, 42, 2),
+        (65, 3, 0, &[1, 4], &[1, 1], &[2, 0], 2, 42, 2),
+        (3, 2, 0, &[1, 4], &[1, 1], &[2, 0], 2, 42, 3),
+        (3, 9, 0, &[1, 4], &[1, 1], &[2, 0], 2, 42, 3),
+        (3, 9, 8, &[1, 4], &[1, 1], &[2, 0], 2, 42, 3),
+        (3, 3, 8, &[1, 4], &[1, 1], &[2, 0], 2, 42, 25),
+        (3, 3, 4, &[1, 4], &[1, 1], &[2, 0], 2, 42, 0),
+        // .. and everything behind it bad too
+        (3, 3, 8, &[], &[4], &[7], 513, 0, 25),
+        (3, 3, 8, &[0, 8], &[7], &[7, 7], 513, 0, 25),
+        (3, 3, 0, &[], &[], &[], 0, 42, 4),
+        (3, 3, 0, &[1; 256], &[], &[], 0, 3_000, 0),
+        (3, 3, 0, &[1; 257], &[], &[], 0, 3_000, 4),
+        (3, 3, 0, &[1, 0], &[1, 1], &[2, 0], 2, 42, 6),
+        (3, 3, 0, &[1, 8], &[1, 1], &[2, 0], 2, 42, 6),
+        (3, 3, 0, &[1, 4], &[0; 512], &[0; 512], 512, 2_000, 0),
+        (3, 3, 0, &[1, 4], &[0; 513], &[0; 513], 513, 2_000, 7),
+        (3, 3, 0, &[1, 4], &[1], &[2, 0], 2, 42, 8),
+        (3, 3, 0, &[1, 4], &[1, 1], &[2, 0, 0], 2, 42, 8),
+        (3, 3, 0, &[1, 4], &[1, 4], &[2, 0], 2, 42, 9),
+        (3, 3, 0, &[1, 4], &[1, 1], &[2, 0x80], 2, 42, 9),
+        (3, 3, 0, &[1, 4], &[3, 1], &[2, 0], 2, 42, 10),
+        (3, 3, 0, &[1, 4], &[1, 1], &[2, 0], 2, 41, 24),
     ];
     let mut both = Both::new();
-    for (m, taps, spread, values, marks, s, room, n) in lines {
+    for (m, taps, inversion, spread, values, marks, s, room, n) in lines {
         let content = Content {
             m,
             taps,
+            inversion,
             spread: spread.to_vec(),
             values: values.to_vec(),
             marks: marks.to_vec(),
@@ -117,23 +268,30 @@ fn the_set_writer() {
 #[test]
 fn the_clock() {
     let mut both = Both::new();
-    let mut clock = |m: u64, taps: u64, state: u64, spread: &[u64], row: &[u8], n: u64| {
-        both.at = format!("{m} {taps} {state} {spread:?} {row:?}");
-        let clocked = both.clock(m, taps, state, spread, row);
-        assert_eq!(number(clocked), n, "{}", both.at);
-    };
-    clock(3, 3, 7, &[1, 4], &[3], 0);
-    clock(0, 3, 7, &[1, 4], &[3], 2);
-    clock(65, 3, 7, &[1, 4], &[3], 2);
-    clock(3, 9, 7, &[1, 4], &[3], 3);
-    clock(3, 3, 7, &[], &[], 4);
-    clock(3, 3, 7, &[1; 257], &[0; 33], 4);
-    clock(3, 3, 7, &[1; 256], &[0; 32], 0);
-    clock(3, 3, 7, &[1, 8], &[3], 6);
-    clock(3, 3, 7, &[1, 4], &[3, 0], 8);
-    clock(3, 3, 7, &[1, 4], &[], 8);
-    clock(3, 3, 7, &[1, 4], &[4], 9);
-    clock(3, 3, 8, &[1, 4], &[3], 23);
+    let mut clock =
+        |m: u64, taps: u64, inversion: u64, state: u64, spread: &[u64], row: &[u8], n: u64| {
+            both.at = format!("{m} {taps} {inversion} {state} {spread:?} {row:?}");
+            let clocked = both.clock(m, taps, inversion, state, spread, row);
+            assert_eq!(number(clocked), n, "{}", both.at);
+        };
+    clock(3, 3, 0, 7, &[1, 4], &[3], 0);
+    clock(0, 3, 0, 7, &[1, 4], &[3], 2);
+    clock(65, 3, 0, 7, &[1, 4], &[3], 2);
+    clock(3, 9, 0, 7, &[1, 4], &[3], 3);
+    clock(3, 9, 8, 7, &[1, 4], &[3], 3);
+    clock(3, 3, 8, 7, &[1, 4], &[3], 25);
+    clock(3, 3, 7, 7, &[1, 4], &[3], 0);
+    // .. and everything behind it bad too
+    clock(3, 3, 8, 8, &[], &[4, 4], 25);
+    clock(3, 3, 8, 8, &[0, 8], &[4, 4], 25);
+    clock(3, 3, 0, 7, &[], &[], 4);
+    clock(3, 3, 0, 7, &[1; 257], &[0; 33], 4);
+    clock(3, 3, 0, 7, &[1; 256], &[0; 32], 0);
+    clock(3, 3, 0, 7, &[1, 8], &[3], 6);
+    clock(3, 3, 0, 7, &[1, 4], &[3, 0], 8);
+    clock(3, 3, 0, 7, &[1, 4], &[], 8);
+    clock(3, 3, 0, 7, &[1, 4], &[4], 9);
+    clock(3, 3, 0, 8, &[1, 4], &[3], 23);
 }
 
 #[test]

@@ -93,7 +93,7 @@ fn the_stored_samples() {
         assert_eq!(prints(&set, 1 << 20), stored, "{name}: the printer");
         count += 1;
     }
-    assert!(count >= 9, "{count} stored samples are too few");
+    assert!(count >= 28, "{count} stored samples are too few");
 }
 
 #[test]
@@ -139,7 +139,7 @@ fn damaged_sets() {
 fn inputs_around_the_longest_set() {
     let mut r = Random::new(5);
     let longest = file_of(&content(&mut r, 64, 256, 512, 1, 40));
-    for length in [34_828, 34_829, 34_830, 34_831, 34_832, 100_000] {
+    for length in [34_836, 34_837, 34_838, 34_839, 34_840, 100_000] {
         let mut input = longest.clone();
         input.resize(length, 0);
         assert_eq!(prints(&input, 1 << 20), printed(&input), "{length} bytes");

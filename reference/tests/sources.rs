@@ -1,5 +1,6 @@
 //! What the source documents publish in full, through the library beside the second implementation. Bit 0 is the source's first
-//! row (M1, Z1, s0). Where a paper contradicts itself, the test says so and pins what the definitions give.
+//! row (M1, Z1, s0). Where a paper contradicts itself, the test says so and pins what the definitions give. No paper inverts an
+//! input of its register: every inversion word here is 0.
 
 use reference::both::Both;
 use reference::random::{file_of, Random};
@@ -34,6 +35,7 @@ fn one_slice(m: usize, spread: &[u64], unknown: &[usize]) -> Vec<u8> {
     file_of(&Content {
         m: m as u64,
         taps: 1,
+        inversion: 0,
         spread: spread.to_vec(),
         values: vec![0; b],
         marks,
@@ -490,7 +492,7 @@ fn document_004_figure_1_clocked() {
         let mut state: u64 = if symbol <= 4 { 1 << (4 - symbol) } else { 0 };
         for slice in 0..3 {
             let row = [u8::from(symbol == 5 + 2 * slice) | u8::from(symbol == 6 + 2 * slice) << 1];
-            state = both.clock(4, 3, state, &[8, 1], &row).unwrap();
+            state = both.clock(4, 3, 0, state, &[8, 1], &row).unwrap();
             for z in 0..4 {
                 let there = state >> (3 - z) & 1 == 1;
                 assert_eq!(

@@ -1,5 +1,5 @@
 //! Document 01, "Worked on paper", each line through the library beside the second implementation, and beside the lines their
-//! nearest neighbours: other widths, lists of one place, each row of the sample, records that are refused.
+//! nearest neighbours: other widths, lists of one place, each row of the sample, records that are refused, registers that invert.
 
 use reference::both::Both;
 use reference::repository::sample;
@@ -10,17 +10,21 @@ fn both() -> Both {
     Both::at("document 01, worked on paper")
 }
 
-/// What the set reader answers with: m, the tap word, n and s.
-fn read(set: &[u8]) -> Result<(u64, u64, usize, usize), u64> {
+/// What the set reader answers with: m, the tap word, the inversion word, n and s.
+fn read(set: &[u8]) -> Result<(u64, u64, u64, usize, usize), u64> {
     both().read_set(set)?;
     let set = read_set(set)?;
-    let (m, taps) = (set.circuit.m as u64, word_of(&set.circuit.taps));
-    Ok((m, taps, set.n(), set.s()))
+    let (taps, inversion) = (&set.circuit.taps, &set.circuit.inversion);
+    let (taps, inversion) = (word_of(taps), word_of(inversion));
+    Ok((set.circuit.m as u64, taps, inversion, set.n(), set.s()))
 }
 
 /// A set that ends before its rows: n chains, each with the spread word 1, and the slice count s.
-fn without_rows(m: u16, taps: u64, n: u16, s: u16) -> Vec<u8> {
-    let mut set = [&m.to_le_bytes()[..], &taps.to_le_bytes(), &n.to_le_bytes()].concat();
+fn without_rows(m: u16, taps: u64, inversion: u64, n: u16, s: u16) -> Vec<u8> {
+    let mut set = m.to_le_bytes().to_vec();
+    set.extend(taps.to_le_bytes());
+    set.extend(inversion.to_le_bytes());
+    set.extend(n.to_le_bytes());
     for _ in 0..n {
         set.extend(1u64.to_le_bytes());
     }
@@ -75,15 +79,34 @@ fn clocks() {
         (3, 8, Err(23)),
     ];
     for (taps, state, next) in lines {
-        assert_eq!(both().clock(3, taps, state, &[1, 4], &[0]), next);
+        assert_eq!(both().clock(3, taps, 0, state, &[1, 4], &[0]), next);
+    }
+}
+
+#[test]
+fn clocks_of_a_register_that_inverts() {
+    // shift, feedback 3 where bit 2 falls off, the cells' spread words 1 and 4, and then the inversion word
+    let lines = [
+        (2, 0, 0, Ok(2)),
+        (2, 2, 0, Ok(4 ^ 2)),
+        (2, 4, 0, Ok(3 ^ 2)),
+        (7, 7, 0, Ok(5 ^ 7)),
+        (2, 0, 1, Ok(1 ^ 2)),
+        (2, 4, 3, Ok(3 ^ 1 ^ 4 ^ 2)),
+        (8, 0, 0, Err(25)),
+        (2, 8, 0, Err(23)),
+    ];
+    for (inversion, state, row, next) in lines {
+        let clocked = both().clock(3, 3, inversion, state, &[1, 4], &[row]);
+        assert_eq!(clocked, next, "inversion {inversion}, state {state}");
     }
 }
 
 #[test]
 fn the_sample() {
     let set = sample("sample.set");
-    assert_eq!(set.len(), 34);
-    assert_eq!(read(&set), Ok((3, 3, 2, 2)));
+    assert_eq!(set.len(), 42);
+    assert_eq!(read(&set), Ok((3, 3, 0, 2, 2)));
     let mut both = both();
     assert_eq!(both.list_columns(&set, 1), Ok(vec![3]));
     let p = both.plan(&set, 1, 2).unwrap();
@@ -96,6 +119,42 @@ fn the_sample() {
             "signature {y}"
         );
     }
+}
+
+#[test]
+fn the_sample_with_bit_1_inverted() {
+    // with the unknown cell 0: state 0, then 0 ^ 1 ^ 2 = 3, then 6 ^ 1 ^ 2 = 5; its column 3 is the sample's
+    let set = sample("inversion-2.set");
+    assert_eq!(read(&set), Ok((3, 3, 2, 2, 2)));
+    let mut both = both();
+    assert_eq!(both.list_columns(&set, 1), Ok(vec![3]));
+    assert_eq!(both.sign(&set, &[1, 1]), Ok(5));
+    assert_eq!(both.sign(&set, &[3, 1]), Ok(5 ^ 3));
+    let p = both.plan(&set, 1, 2).unwrap();
+    assert_eq!((p.m, p.words.clone(), p.expected), (3, vec![3, 4], 0b11));
+    let plan = both.write_plan(&p, 23).unwrap();
+    for (y, verdict) in [(5, None), (6, None), (3, Some(0)), (1, Some(1))] {
+        let judged = both.judge(&plan, y).unwrap();
+        assert_eq!(judged.fails_at, verdict, "signature {y}");
+    }
+}
+
+#[test]
+fn a_register_of_64_bits_that_inverts_the_last() {
+    // state 0, then bit 63, then that bit falls off and the taps 27 come in, and the cell's 2 and bit 63 again
+    let set = sample("inversion-bit-63.set");
+    assert_eq!(read(&set), Ok((64, 27, 1 << 63, 1, 2)));
+    let mut both = both();
+    let signature = 27 ^ 2 ^ 1 << 63;
+    assert_eq!(both.sign(&set, &[0, 1]), Ok(signature));
+    assert_eq!(both.sign(&set, &[1, 1]), Ok(signature ^ 4));
+    assert_eq!(both.list_columns(&set, 1), Ok(vec![4]));
+    let p = both.plan(&set, 1, 64).unwrap();
+    let words: Vec<u64> = (0..64).filter(|i| *i != 2).map(|i| 1 << i).collect();
+    assert_eq!(p.words, words);
+    let expecting = (0..63).filter(|i| p.expected >> i & 1 == 1);
+    let expecting: Vec<u64> = expecting.map(|i| words[i]).collect();
+    assert_eq!(expecting, [1, 8, 16, 1 << 63]);
 }
 
 #[test]
@@ -135,6 +194,7 @@ fn edges() {
         ("width-0.set", Err(2)),
         ("width-65.set", Err(2)),
         ("taps-9.set", Err(3)),
+        ("inversion-8.set", Err(25)),
         ("chains-256.set", Ok(())),
         ("chains-257.set", Err(4)),
         ("slices-0.set", Ok(())),
@@ -149,23 +209,27 @@ fn edges() {
 #[test]
 fn edges_without_rows() {
     let lines = [
-        (1, 1, 1, 0, 22, Ok((1, 1, 1, 0))),
-        (64, 1, 1, 0, 22, Ok((64, 1, 1, 0))),
-        (0, 1, 1, 0, 22, Err(2)),
-        (65, 1, 1, 0, 22, Err(2)),
-        (3, 9, 1, 0, 22, Err(3)),
-        (3, 3, 256, 0, 2062, Ok((3, 3, 256, 0))),
-        (3, 3, 257, 0, 2070, Err(4)),
-        (3, 3, 1, 513, 22, Err(7)),
+        (1, 1, 0, 1, 0, 30, Ok((1, 1, 0, 1, 0))),
+        (64, 1, 0, 1, 0, 30, Ok((64, 1, 0, 1, 0))),
+        (0, 1, 0, 1, 0, 30, Err(2)),
+        (65, 1, 0, 1, 0, 30, Err(2)),
+        (3, 9, 0, 1, 0, 30, Err(3)),
+        (3, 3, 4, 1, 0, 30, Ok((3, 3, 4, 1, 0))),
+        (3, 3, 8, 1, 0, 30, Err(25)),
+        (64, 1, u64::MAX, 1, 0, 30, Ok((64, 1, u64::MAX, 1, 0))),
+        (3, 3, 0, 256, 0, 2070, Ok((3, 3, 0, 256, 0))),
+        (3, 3, 0, 257, 0, 2078, Err(4)),
+        (3, 3, 0, 1, 513, 30, Err(7)),
         // 512 slices are taken, but their rows are not there
-        (3, 3, 1, 512, 22, Err(8)),
+        (3, 3, 0, 1, 512, 30, Err(8)),
     ];
-    for (m, taps, n, s, length, answer) in lines {
-        let set = without_rows(m, taps, n, s);
+    for (m, taps, inversion, n, s, length, answer) in lines {
+        let set = without_rows(m, taps, inversion, n, s);
         assert_eq!(set.len(), length);
-        assert_eq!(read(&set), answer, "m {m}, taps {taps}, n {n}, s {s}");
+        let what = format!("m {m}, taps {taps}, inversion {inversion}, n {n}, s {s}");
+        assert_eq!(read(&set), answer, "{what}");
     }
-    let none = without_rows(3, 3, 1, 0);
+    let none = without_rows(3, 3, 0, 1, 0);
     assert_eq!(both().sign(&none, &[]), Ok(0));
     assert_eq!(both().list_columns(&none, 1), Ok(vec![]));
 }

@@ -31,20 +31,22 @@ pub fn sign(set: &[u8], record: &[u8]) -> CSigned {
 }
 
 pub fn write_set(c: &Content, out: &mut [u8]) -> CWritten {
+    let (m, taps, inversion, s) = (c.m, c.taps, c.inversion, c.s);
     let (spread, n) = (c.spread.as_ptr(), c.spread.len());
     let (values, values_len) = (c.values.as_ptr(), c.values.len());
     let (marks, marks_len) = (c.marks.as_ptr(), c.marks.len());
     let (to, room) = (out.as_mut_ptr(), out.len());
     unsafe {
         canceller_write_set(
-            c.m, c.taps, spread, n, values, values_len, marks, marks_len, c.s, to, room,
+            m, taps, inversion, spread, n, values, values_len, marks, marks_len, s, to, room,
         )
     }
 }
 
 pub fn clock(c: &Content, state: u64, row: &[u8]) -> CClocked {
     let (spread, n) = (c.spread.as_ptr(), c.spread.len());
-    unsafe { canceller_clock(c.m, c.taps, state, spread, n, row.as_ptr(), row.len()) }
+    let (row, row_len) = (row.as_ptr(), row.len());
+    unsafe { canceller_clock(c.m, c.taps, c.inversion, state, spread, n, row, row_len) }
 }
 
 pub fn eliminate(columns: &[u64], words: &mut [u64]) -> CEliminated {

@@ -4,6 +4,7 @@
 pub struct PlainSet<'a> {
     pub m: u32,
     pub taps: u64,
+    pub inversion: u64,
     pub spread: Vec<u64>,
     pub s: usize,
     pub b: usize,
@@ -26,9 +27,9 @@ fn beyond(m: u32, w: u64) -> bool {
     m < 64 && w >> m != 0
 }
 
-/// The register and the chains: m, the tap word and the spread words.
-fn read_head(set: &[u8]) -> Result<(u32, u64, Vec<u64>), u64> {
-    if set.len() < 10 {
+/// The register and the chains: m, the tap word, the inversion word and the spread words.
+fn read_head(set: &[u8]) -> Result<(u32, u64, u64, Vec<u64>), u64> {
+    if set.len() < 18 {
         return Err(1);
     }
     let m = count(set, 0) as u32;
@@ -39,18 +40,22 @@ fn read_head(set: &[u8]) -> Result<(u32, u64, Vec<u64>), u64> {
     if taps & 1 == 0 || beyond(m, taps) {
         return Err(3);
     }
-    if set.len() < 12 || !(1..=256).contains(&count(set, 10)) {
+    let inversion = word(set, 10);
+    if beyond(m, inversion) {
+        return Err(25);
+    }
+    if set.len() < 20 || !(1..=256).contains(&count(set, 18)) {
         return Err(4);
     }
-    let n = count(set, 10);
-    if set.len() < 12 + 8 * n {
+    let n = count(set, 18);
+    if set.len() < 20 + 8 * n {
         return Err(5);
     }
-    let spread: Vec<u64> = (0..n).map(|c| word(set, 12 + 8 * c)).collect();
+    let spread: Vec<u64> = (0..n).map(|c| word(set, 20 + 8 * c)).collect();
     if spread.iter().any(|&w| w == 0 || beyond(m, w)) {
         return Err(6);
     }
-    Ok((m, taps, spread))
+    Ok((m, taps, inversion, spread))
 }
 
 /// Whether a row has a spare bit set.
@@ -60,17 +65,17 @@ fn spare(row: &[u8], n: usize) -> bool {
 
 /// The set reader, checking cell by cell.
 pub fn read_set(set: &[u8]) -> Result<PlainSet<'_>, u64> {
-    let (m, taps, spread) = read_head(set)?;
+    let (m, taps, inversion, spread) = read_head(set)?;
     let n = spread.len();
-    if set.len() < 14 + 8 * n || count(set, 12 + 8 * n) > 512 {
+    if set.len() < 22 + 8 * n || count(set, 20 + 8 * n) > 512 {
         return Err(7);
     }
-    let s = count(set, 12 + 8 * n);
+    let s = count(set, 20 + 8 * n);
     let b = n.div_ceil(8);
-    if set.len() != 14 + 8 * n + 2 * b * s {
+    if set.len() != 22 + 8 * n + 2 * b * s {
         return Err(8);
     }
-    let rows = &set[14 + 8 * n..];
+    let rows = &set[22 + 8 * n..];
     if rows.chunks(b).any(|row| spare(row, n)) {
         return Err(9);
     }
@@ -84,6 +89,7 @@ pub fn read_set(set: &[u8]) -> Result<PlainSet<'_>, u64> {
     Ok(PlainSet {
         m,
         taps,
+        inversion,
         spread,
         s,
         b,
@@ -92,6 +98,7 @@ pub fn read_set(set: &[u8]) -> Result<PlainSet<'_>, u64> {
 }
 
 impl PlainSet<'_> {
+    /// The state after a clock with all cells 0 and nothing inverted.
     fn clocked(&self, state: u64) -> u64 {
         let mask = if self.m == 64 {
             u64::MAX
@@ -116,6 +123,7 @@ impl PlainSet<'_> {
                     state ^= self.spread[c];
                 }
             }
+            state ^= self.inversion;
         }
         state
     }

@@ -27,9 +27,16 @@ fn kept<T>(value: T) -> &'static T {
 
 type Files = &'static Vec<Vec<u8>>;
 
+/// A content of m 64 and 256 chains that inverts at least one input of the register.
+fn inverting(r: &mut Random, s: usize, rank: usize, unknowns: usize) -> Content {
+    let mut content = content_of_rank(r, (64, 256, s), rank, unknowns);
+    content.inversion |= 1;
+    content
+}
+
 fn sets(seed: u64, s: usize, unknowns: usize, rank: usize, inputs: usize) -> Files {
     let r = &mut Random::new(seed);
-    let one = |_| file_of(&content_of_rank(r, (64, 256, s), rank, unknowns));
+    let one = |_| file_of(&inverting(r, s, rank, unknowns));
     kept((0..inputs).map(one).collect())
 }
 
@@ -106,35 +113,38 @@ pub fn planning(s: usize, unknowns: usize, rank: usize, inputs: usize) -> Row {
 /// A set of the largest shape with 63 unknown cells, and a record.
 fn large() -> (&'static Content, &'static Vec<u8>, &'static Vec<u8>) {
     let r = &mut Random::new(3);
-    let content = kept(content_of_rank(r, (64, 256, 512), 63, 63));
+    let content = kept(inverting(r, 512, 63, 63));
     (content, kept(file_of(content)), kept(record(r, 256, 512)))
 }
 
 pub fn reader() -> Row {
     let (_, set, _) = large();
-    let all = |m: u64, taps: u64, n: u64, s: u64, spread: &[u64]| {
-        [&[m, taps, n, s], &spread[..n as usize]].concat()
+    let all = |numbers: [u64; 5], spread: &[u64]| {
+        let [.., n, _] = numbers;
+        [&numbers, &spread[..n as usize]].concat()
     };
-    Row::new("set reader", "34,830 bytes".into(), 1)
+    Row::new("set reader", "34,838 bytes".into(), 1)
         .side(Side::Ours, move |_, ask| {
             let read = black_box(ours::read_set(black_box(set)));
             put(ask, read.refusal, || {
-                all(read.m, read.taps, read.n, read.s, &read.spread)
+                let numbers = [read.m, read.taps, read.inversion, read.n, read.s];
+                all(numbers, &read.spread)
             })
         })
         .side(Side::Same, move |_, ask| {
             let read = black_box(read_set(black_box(set)));
             put(ask, 0, || {
                 let (read, spread) = read.unwrap();
-                all(read.m, read.taps, read.n as u64, read.s as u64, &spread)
+                let (n, s) = (read.n as u64, read.s as u64);
+                all([read.m, read.taps, read.inversion, n, s], &spread)
             })
         })
         .side(Side::Plain, move |_, ask| {
             let read = black_box(plain::read_set(black_box(set)));
             put(ask, 0, || {
                 let read = read.unwrap();
-                let n = read.spread.len() as u64;
-                all(read.m.into(), read.taps, n, read.s as u64, &read.spread)
+                let (m, n, s) = (read.m.into(), read.spread.len() as u64, read.s as u64);
+                all([m, read.taps, read.inversion, n, s], &read.spread)
             })
         })
 }
@@ -148,7 +158,7 @@ pub fn stretch(marks: bool) -> Row {
         false => ("value row", ours::value_row, value_row),
         true => ("mark row", ours::mark_row, mark_row),
     };
-    Row::new(name, "34,830 bytes".into(), 512)
+    Row::new(name, "34,838 bytes".into(), 512)
         .side(Side::Ours, move |i, ask| {
             let at = black_box(one(black_box(set), i as u64));
             put(ask, at.refusal, || vec![at.start, at.length])
@@ -162,7 +172,7 @@ pub fn stretch(marks: bool) -> Row {
         })
         .side(Side::Plain, move |i, ask| {
             let set = black_box(plain::read_set(black_box(set))).unwrap();
-            let start = 14 + 8 * set.spread.len() + set.b * (2 * i + usize::from(marks));
+            let start = 22 + 8 * set.spread.len() + set.b * (2 * i + usize::from(marks));
             put(ask, 0, || vec![start as u64, set.b as u64])
         })
 }
@@ -192,8 +202,8 @@ fn bytes(out: &[u8]) -> Vec<u64> {
 
 pub fn set_writer() -> Row {
     let (content, _, _) = large();
-    let (mut out, mut other) = (vec![0; 34_830], vec![0; 34_830]);
-    Row::new("set writer", "34,830 bytes".into(), 1)
+    let (mut out, mut other) = (vec![0; 34_838], vec![0; 34_838]);
+    Row::new("set writer", "34,838 bytes".into(), 1)
         .side(Side::Ours, move |_, ask| {
             let wrote = black_box(ours::write_set(black_box(content), &mut out));
             put(ask, wrote.refusal, || bytes(&out[..wrote.length as usize]))
@@ -217,7 +227,8 @@ pub fn one_clock() -> Row {
         })
         .side(Side::Same, move |i, ask| {
             let c = content;
-            let clocked = black_box(clock(c.m, c.taps, state(i), &c.spread, row(i)));
+            let next = clock(c.m, c.taps, c.inversion, state(i), &c.spread, row(i));
+            let clocked = black_box(next);
             put(ask, clocked.err().unwrap_or(0), || vec![clocked.unwrap()])
         })
 }

@@ -4,10 +4,11 @@
 pub const COUNT: usize = 2;
 pub const WORD: usize = 8;
 
-/// In a set: m stands first, then the tap word, n, and the spread words.
+/// In a set: m stands first, then the tap word, the inversion word, n, and the spread words.
 pub const WIDTH_AT: usize = 0;
 pub const TAPS_AT: usize = WIDTH_AT + COUNT;
-pub const CHAINS_AT: usize = TAPS_AT + WORD;
+pub const INVERSION_AT: usize = TAPS_AT + WORD;
+pub const CHAINS_AT: usize = INVERSION_AT + WORD;
 pub const SPREAD_AT: usize = CHAINS_AT + COUNT;
 
 /// In a plan: m stands first, then q and the words.

@@ -8,6 +8,7 @@ use super::*;
 pub struct Circuit {
     pub m: usize,
     pub taps: Bits,
+    pub inversion: Bits,
     pub spread: Vec<Bits>,
 }
 
@@ -20,8 +21,8 @@ pub struct Set {
 }
 
 impl Circuit {
-    /// One clock: shift up, drop bit m, XOR the taps in if the old bit m - 1 was set, XOR in each driving chain's word.
-    /// `driving` lists the chains whose cell is 1.
+    /// One clock: shift up, drop bit m, XOR the taps in if the old bit m - 1 was set, XOR in each driving chain's word, XOR in the
+    /// inversion word. `driving` lists the chains whose cell is 1.
     pub fn clock(&self, state: &[bool], driving: &[usize]) -> Bits {
         let mut next = vec![false; self.m];
         for i in 1..self.m {
@@ -33,6 +34,7 @@ impl Circuit {
         for &chain in driving {
             xor_into(&mut next, &self.spread[chain]);
         }
+        xor_into(&mut next, &self.inversion);
         next
     }
 
@@ -41,6 +43,21 @@ impl Circuit {
         slices.iter().fold(vec![false; self.m], |state, driving| {
             self.clock(&state, driving)
         })
+    }
+
+    /// The same register and chains with the inversion word 0.
+    pub fn uninverted(&self) -> Circuit {
+        Circuit {
+            inversion: vec![false; self.m],
+            ..self.clone()
+        }
+    }
+
+    /// The signature of the response of s slices in which one cell is 1 and all others 0.
+    fn response_to_one(&self, s: usize, slice: usize, chain: usize) -> Bits {
+        let mut response = vec![vec![]; s];
+        response[slice].push(chain);
+        self.signature(&response)
     }
 }
 
@@ -66,17 +83,13 @@ impl Set {
         found
     }
 
-    /// The signature of the response in which one cell is 1 and all others 0.
-    pub fn column(&self, slice: usize, chain: usize) -> Bits {
-        let mut response = vec![vec![]; self.s()];
-        response[slice].push(chain);
-        self.circuit.signature(&response)
-    }
-
+    /// The columns of the unknown cells: each is the signature of the response in which its cell is 1 and all others 0, under the
+    /// same register with inversion word 0.
     pub fn columns(&self) -> Vec<u64> {
+        let register = self.circuit.uninverted();
         self.unknowns()
             .into_iter()
-            .map(|(t, c)| word_of(&self.column(t, c)))
+            .map(|(t, c)| word_of(&register.response_to_one(self.s(), t, c)))
             .collect()
     }
 
@@ -93,16 +106,18 @@ impl Set {
     }
 }
 
-/// Numbers 2, 3, 4 and 6: a circuit handed over in parts.
-fn circuit_of(m: u64, taps: u64, spread: &[u64]) -> Reply<Circuit> {
+/// Numbers 2, 3, 25, 4 and 6: a circuit handed over in parts.
+fn circuit_of(m: u64, taps: u64, inversion: u64, spread: &[u64]) -> Reply<Circuit> {
     refuse_if(m < 1 || m > 64, 2)?;
     let m = m as usize;
     refuse_if(bad_taps(taps, m), 3)?;
+    refuse_if(beyond(inversion, m), 25)?;
     refuse_if(spread.is_empty() || spread.len() > 256, 4)?;
     refuse_if(spread.iter().any(|&w| bad_spread_word(w, m)), 6)?;
     Ok(Circuit {
         m,
         taps: bits_of(taps, m),
+        inversion: bits_of(inversion, m),
         spread: spread.iter().map(|&w| bits_of(w, m)).collect(),
     })
 }
@@ -124,20 +139,22 @@ fn cells(row: &[u8], n: usize) -> Bits {
     (0..n).map(|c| row_bit(row, c)).collect()
 }
 
-/// Numbers 1 to 6, each its own test, in the document's order.
+/// Numbers 1, 2, 3, 25, 4, 5 and 6, each its own test, in the document's order.
 fn read_circuit(bytes: &[u8]) -> Reply<Circuit> {
     refuse_if(bytes.len() < CHAINS_AT, 1)?;
     let m = number_at(bytes, WIDTH_AT, COUNT).ok_or(1u64)?;
     refuse_if(m < 1 || m > 64, 2)?;
     let taps = number_at(bytes, TAPS_AT, WORD).ok_or(1u64)?;
     refuse_if(bad_taps(taps, m as usize), 3)?;
+    let inversion = number_at(bytes, INVERSION_AT, WORD).ok_or(1u64)?;
+    refuse_if(beyond(inversion, m as usize), 25)?;
     let n = number_at(bytes, CHAINS_AT, COUNT).ok_or(4u64)?;
     refuse_if(n < 1 || n > 256, 4)?;
     let mut spread = Vec::new();
     for c in 0..n as usize {
         spread.push(number_at(bytes, spread_word_at(c), WORD).ok_or(5u64)?);
     }
-    circuit_of(m, taps, &spread)
+    circuit_of(m, taps, inversion, &spread)
 }
 
 /// .. and 7 to 10.
@@ -192,6 +209,7 @@ pub fn row_place(bytes: &[u8], slice: u64, row: Row) -> Reply<(usize, usize)> {
 pub struct Content {
     pub m: u64,
     pub taps: u64,
+    pub inversion: u64,
     pub spread: Vec<u64>,
     pub values: Vec<u8>,
     pub marks: Vec<u8>,
@@ -201,7 +219,8 @@ pub struct Content {
 /// The set writer, with an output of `room` bytes: the file, or the number.
 pub fn write_set(content: &Content, room: usize) -> Reply<Vec<u8>> {
     let Content { values, marks, .. } = content;
-    let circuit = circuit_of(content.m, content.taps, &content.spread)?;
+    let (m, taps, inversion) = (content.m, content.taps, content.inversion);
+    let circuit = circuit_of(m, taps, inversion, &content.spread)?;
     refuse_if(content.s > 512, 7)?;
     let (n, s) = (circuit.spread.len(), content.s as usize);
     let b = row_bytes(n);
@@ -216,8 +235,9 @@ pub fn write_set(content: &Content, room: usize) -> Reply<Vec<u8>> {
         10,
     )?;
     let mut file = Vec::new();
-    put_number(&mut file, content.m, COUNT);
-    put_number(&mut file, content.taps, WORD);
+    put_number(&mut file, m, COUNT);
+    put_number(&mut file, taps, WORD);
+    put_number(&mut file, inversion, WORD);
     put_number(&mut file, n as u64, COUNT);
     for &w in &content.spread {
         put_number(&mut file, w, WORD);
@@ -232,8 +252,15 @@ pub fn write_set(content: &Content, room: usize) -> Reply<Vec<u8>> {
 }
 
 /// The clock call: the next state, or the number.
-pub fn clock(m: u64, taps: u64, state: u64, spread: &[u64], row: &[u8]) -> Reply<u64> {
-    let circuit = circuit_of(m, taps, spread)?;
+pub fn clock(
+    m: u64,
+    taps: u64,
+    inversion: u64,
+    state: u64,
+    spread: &[u64],
+    row: &[u8],
+) -> Reply<u64> {
+    let circuit = circuit_of(m, taps, inversion, spread)?;
     let n = spread.len();
     refuse_if(row.len() != row_bytes(n), 8)?;
     refuse_if(has_spare(row, n), 9)?;

@@ -42,6 +42,10 @@ fn bad_taps(m: u64, taps: u64) -> bool {
     taps & 1 == 0 || beyond(m, taps)
 }
 
+fn bad_inversion(m: u64, inversion: u64) -> bool {
+    beyond(m, inversion)
+}
+
 fn bad_spread(m: u64, spread: &[u64]) -> bool {
     spread.iter().any(|&w| w == 0 || beyond(m, w))
 }

@@ -1,7 +1,7 @@
 //! Responses: a record's signature, the signature for all unknowns 0, and the columns; and planning.
 
 use super::elimination::eliminate;
-use super::set::{next_state, read_set, Read};
+use super::set::{head_length, next_state, read_set, Read};
 use super::*;
 
 /// The XORs of the spread words of each half byte of a row.
@@ -28,7 +28,7 @@ fn run_rows(read: Read, spread: &[u64], bytes: &[u8], stride: usize, b: usize) -
         for (half_pair, &byte) in table.chunks_exact(32).zip(row) {
             drive ^= half_pair[usize::from(byte % 16)] ^ half_pair[16 + usize::from(byte / 16)];
         }
-        state = next_state(read.m, read.taps, state) ^ drive;
+        state = next_state(read.m, read.taps, state) ^ drive ^ read.inversion;
     }
     state
 }
@@ -48,7 +48,7 @@ pub fn sign(set: &[u8], record: &[u8]) -> Result<u64, u64> {
 
 fn mark_row(set: &[u8], n: usize, t: usize) -> &[u8] {
     let b = n.div_ceil(8);
-    let at = 14 + 8 * n + 2 * b * t + b;
+    let at = head_length(n) + 2 * b * t + b;
     &set[at..at + b]
 }
 
@@ -157,7 +157,7 @@ pub fn plan(set: &[u8], columns: &mut [u64], words: &mut [u64]) -> Result<[u64; 
     fill_columns(set, read, &spread, &mut columns[..unknowns]);
     let (_, q) = eliminate(read.m, &columns[..unknowns], words)?;
     let b = read.n.div_ceil(8);
-    let rows = &set[14 + 8 * read.n..];
+    let rows = &set[head_length(read.n)..];
     let zero = run_rows(read, &spread[..read.n], rows, 2 * b, b);
     Ok([read.m, q as u64, parities(&words[..q], zero)])
 }

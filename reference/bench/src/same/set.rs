@@ -7,30 +7,51 @@ use reference::second::set::Content;
 pub struct Read {
     pub m: u64,
     pub taps: u64,
+    pub inversion: u64,
     pub n: usize,
     pub s: usize,
 }
 
-/// Numbers 1 to 6, the spread words read where they stand.
+/// The places of the tap word, of the inversion word, of n and of the first spread word.
+const TAPS_AT: usize = 2;
+const INVERSION_AT: usize = 10;
+const CHAINS_AT: usize = 18;
+const SPREAD_AT: usize = 20;
+
+/// The place of s.
+fn slices_at(n: usize) -> usize {
+    SPREAD_AT + 8 * n
+}
+
+/// The bytes before the rows.
+pub fn head_length(n: usize) -> usize {
+    slices_at(n) + 2
+}
+
+/// Numbers 1, 2, 3, 25, 4, 5 and 6, the spread words read where they stand.
 fn head_refusal(set: &[u8]) -> u64 {
-    if set.len() < 10 {
+    if set.len() < CHAINS_AT {
         return 1;
     }
     let m = count(set, 0) as u64;
     if !(1..=64).contains(&m) {
         return 2;
     }
-    if bad_taps(m, word(set, 2)) {
+    if bad_taps(m, word(set, TAPS_AT)) {
         return 3;
     }
-    if set.len() < 12 || !(1..=256).contains(&count(set, 10)) {
+    if bad_inversion(m, word(set, INVERSION_AT)) {
+        return 25;
+    }
+    if set.len() < SPREAD_AT || !(1..=256).contains(&count(set, CHAINS_AT)) {
         return 4;
     }
-    let n = count(set, 10);
-    if set.len() < 12 + 8 * n {
+    let n = count(set, CHAINS_AT);
+    if set.len() < slices_at(n) {
         return 5;
     }
-    let mut words = set[12..12 + 8 * n].chunks_exact(8).map(|b| word(b, 0));
+    let words = set[SPREAD_AT..slices_at(n)].chunks_exact(8);
+    let mut words = words.map(|b| word(b, 0));
     if words.any(|w| w == 0 || beyond(m, w)) {
         return 6;
     }
@@ -49,15 +70,15 @@ fn first_refusal(set: &[u8]) -> u64 {
     if number != 0 {
         return number;
     }
-    let n = count(set, 10);
-    if set.len() < 14 + 8 * n || count(set, 12 + 8 * n) > 512 {
+    let n = count(set, CHAINS_AT);
+    if set.len() < head_length(n) || count(set, slices_at(n)) > 512 {
         return 7;
     }
-    let (b, s) = (n.div_ceil(8), count(set, 12 + 8 * n));
-    if set.len() != 14 + 8 * n + 2 * b * s {
+    let (b, s) = (n.div_ceil(8), count(set, slices_at(n)));
+    if set.len() != head_length(n) + 2 * b * s {
         return 8;
     }
-    let rows = &set[14 + 8 * n..];
+    let rows = &set[head_length(n)..];
     if spare_row(n, rows) {
         return 9;
     }
@@ -74,16 +95,18 @@ pub fn read_set(set: &[u8]) -> Result<(Read, [u64; 256]), u64> {
     if number != 0 {
         return Err(number);
     }
-    let n = count(set, 10);
+    let n = count(set, CHAINS_AT);
     let mut spread = [0; 256];
-    for (w, bytes) in spread[..n].iter_mut().zip(set[12..].chunks_exact(8)) {
+    let words = set[SPREAD_AT..].chunks_exact(8);
+    for (w, bytes) in spread[..n].iter_mut().zip(words) {
         *w = word(bytes, 0);
     }
     let read = Read {
         m: count(set, 0) as u64,
-        taps: word(set, 2),
+        taps: word(set, TAPS_AT),
+        inversion: word(set, INVERSION_AT),
         n,
-        s: count(set, 12 + 8 * n),
+        s: count(set, slices_at(n)),
     };
     Ok((read, spread))
 }
@@ -94,12 +117,12 @@ pub fn value_row(set: &[u8], slice: u64) -> Result<(usize, usize), u64> {
     if number != 0 {
         return Err(number);
     }
-    let n = count(set, 10);
-    if slice >= count(set, 12 + 8 * n) as u64 {
+    let n = count(set, CHAINS_AT);
+    if slice >= count(set, slices_at(n)) as u64 {
         return Err(11);
     }
     let b = n.div_ceil(8);
-    Ok((14 + 8 * n + 2 * b * slice as usize, b))
+    Ok((head_length(n) + 2 * b * slice as usize, b))
 }
 
 pub fn mark_row(set: &[u8], slice: u64) -> Result<(usize, usize), u64> {
@@ -112,6 +135,9 @@ fn write_refusal(c: &Content, room: usize) -> u64 {
     }
     if bad_taps(c.m, c.taps) {
         return 3;
+    }
+    if bad_inversion(c.m, c.inversion) {
+        return 25;
     }
     let n = c.spread.len();
     if !(1..=256).contains(&n) {
@@ -133,7 +159,7 @@ fn write_refusal(c: &Content, room: usize) -> u64 {
     if share_a_bit(&c.values, &c.marks) {
         return 10;
     }
-    if room < 14 + 8 * n + 2 * rows {
+    if room < head_length(n) + 2 * rows {
         return 24;
     }
     0
@@ -148,12 +174,13 @@ pub fn write_set(c: &Content, out: &mut [u8]) -> Result<usize, u64> {
     let n = c.spread.len();
     let b = n.div_ceil(8);
     out[..2].copy_from_slice(&(c.m as u16).to_le_bytes());
-    out[2..10].copy_from_slice(&c.taps.to_le_bytes());
-    out[10..12].copy_from_slice(&(n as u16).to_le_bytes());
-    for (to, w) in out[12..].chunks_exact_mut(8).zip(&c.spread) {
+    out[TAPS_AT..INVERSION_AT].copy_from_slice(&c.taps.to_le_bytes());
+    out[INVERSION_AT..CHAINS_AT].copy_from_slice(&c.inversion.to_le_bytes());
+    out[CHAINS_AT..SPREAD_AT].copy_from_slice(&(n as u16).to_le_bytes());
+    for (to, w) in out[SPREAD_AT..].chunks_exact_mut(8).zip(&c.spread) {
         to.copy_from_slice(&w.to_le_bytes());
     }
-    let at = 14 + 8 * n;
+    let at = head_length(n);
     out[at - 2..at].copy_from_slice(&(c.s as u16).to_le_bytes());
     let rows = c.values.chunks_exact(b).zip(c.marks.chunks_exact(b));
     for (to, (values, marks)) in out[at..].chunks_exact_mut(2 * b).zip(rows) {
@@ -163,19 +190,29 @@ pub fn write_set(c: &Content, out: &mut [u8]) -> Result<usize, u64> {
     Ok(at + 2 * b * c.s as usize)
 }
 
-/// The state after one clock with all cells 0.
+/// The state after one clock with all cells 0 and nothing inverted.
 pub fn next_state(m: u64, taps: u64, state: u64) -> u64 {
     let feedback = if state >> (m - 1) & 1 == 1 { taps } else { 0 };
     (state << 1 & (u64::MAX >> (64 - m))) ^ feedback
 }
 
 /// One clock with the cells of a row, cell by cell.
-pub fn clock(m: u64, taps: u64, state: u64, spread: &[u64], row: &[u8]) -> Result<u64, u64> {
+pub fn clock(
+    m: u64,
+    taps: u64,
+    inversion: u64,
+    state: u64,
+    spread: &[u64],
+    row: &[u8],
+) -> Result<u64, u64> {
     if !(1..=64).contains(&m) {
         return Err(2);
     }
     if bad_taps(m, taps) {
         return Err(3);
+    }
+    if bad_inversion(m, inversion) {
+        return Err(25);
     }
     let n = spread.len();
     if !(1..=256).contains(&n) {
@@ -199,5 +236,5 @@ pub fn clock(m: u64, taps: u64, state: u64, spread: &[u64], row: &[u8]) -> Resul
             drive ^= w;
         }
     }
-    Ok(next_state(m, taps, state) ^ drive)
+    Ok(next_state(m, taps, state) ^ drive ^ inversion)
 }
