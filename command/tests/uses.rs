@@ -110,7 +110,7 @@ fn the_plans_of_all_samples() {
         }
         count += 1;
     }
-    assert!(count >= 24, "{count} stored samples");
+    assert_eq!(count, 28, "stored samples");
 }
 
 /// The sample with these bytes from this place on.
