@@ -6,7 +6,7 @@ use mathlib.Core.Logic.{⊎-elim, dite}
 use mathlib.Core.List.{List, []}
 use Prim.Native.Nat.{ℕ, zero, suc, _+_, _-_, _*_, _/_, _%_, _^_, _≤_, _<_}
 use native.Mathlib.Numerals.{add-one}
-use native.Mathlib.Nat.{mod-lt, mod-eq-of-lt, div-one, eq-or-lt-of-le, le-of-suc-le-suc, le-step, lt-suc-self, not-suc-le-zero}
+use native.Mathlib.Nat.{zero-mul, one-mul, mod-lt, mod-eq-of-lt, div-one, eq-or-lt-of-le, le-of-suc-le-suc, le-step, lt-suc-self, not-suc-le-zero}
 use native.Mathlib.Decide.{decLt}
 use native.Mathlib.Omega.{arith}
 use borrow.Author.Tests.{eqb-false, eq-eqb, ne-eqb}
@@ -21,6 +21,7 @@ use Rattle.word.proofs.Laws.{mod2-lt, bit-cases, xor-zero-eq, xor-cancel-right,
 use Rattle.word.proofs.SomeLaws.{any-of-false}
 use Rattle.word.proofs.BoolLaws.{or-false-left, or-false-right}
 use Rattle.rows.specs.Row.{Cells, cell}
+use Rattle.rows.proofs.CellLaws.{cell-lt}
 use Rattle.chains.specs.Driven.{chosen, driven, badSpread}
 use Rattle.word.proofs.WordLaws.{xor-crosswise, xor-double, below-top, within}
 
@@ -34,6 +35,17 @@ chosen-xor (suc zero) zero w hd he = sym (xor-zero-r w)
 chosen-xor (suc zero) (suc zero) w hd he = sym (xor-self w)
 chosen-xor (suc zero) (suc (suc e)) w hd he = let z : ⊥ = omega arith in absurd z
 chosen-xor (suc (suc d)) e w hd he = let z : ⊥ = omega arith in absurd z
+
+-- a digit times a word chooses the word
+pub times-chosen : (d w : ℕ) → d < 2 → d * w ≡ chosen d w
+times-chosen zero w h = zero-mul w
+times-chosen (suc zero) w h = one-mul w
+times-chosen (suc (suc d)) w h = let z : ⊥ = omega arith in absurd z
+
+pub times-le : (d w : ℕ) → d < 2 → d * w ≤ w
+times-le zero w h = omega (arith, zero-mul w)
+times-le (suc zero) w h = omega (arith, one-mul w)
+times-le (suc (suc d)) w h = let z : ⊥ = omega arith in absurd z
 
 pub chosen-lt : (m d w : ℕ) → w < 2 ^ m → chosen d w < 2 ^ m
 chosen-lt m zero w h = pow-pos m
@@ -59,6 +71,16 @@ driven-none ws x = refl
 pub driven-suc : (ws : List ℕ) (x : Cells) (n : ℕ) → driven ws x (suc n) ≡ bitXor (driven ws x n) (chosen (x n) (getD ws n 0))
 unfolding driven
 driven-suc ws x n = refl
+
+-- one chain more, by a product with its cell
+pub cell-digit : (row : List ℕ) (c d : ℕ) → d ≡ cell row c → d < 2
+cell-digit row c d e = omega (arith, e, cell-lt row c)
+
+pub driven-turn : (ws row : List ℕ) (c drive d : ℕ) → drive ≡ driven ws (cell row) c → d ≡ cell row c
+    → bitXor drive (d * getD ws c 0) ≡ driven ws (cell row) (c + 1)
+driven-turn ws row c drive d e ed =
+    ap₂ bitXor e (times-chosen d (getD ws c 0) (cell-digit row c d ed) ∙ ap (λ (x : ℕ). chosen x (getD ws c 0)) ed)
+    ∙ sym (driven-suc ws (cell row) c) ∙ ap (driven ws (cell row)) (sym (add-one c))
 
 pub driven-lt : (m : ℕ) (ws : List ℕ) (x : Cells) (n : ℕ) → ((c : ℕ) → getD ws c 0 < 2 ^ m) → driven ws x n < 2 ^ m
 unfolding driven

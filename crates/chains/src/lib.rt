@@ -45,7 +45,7 @@ pub fn driven_word(spread: &[u64], row: &[u8]) -> u64
     let mut drive = 0u64;
     let mut c = 0;
     while c < spread.len() {
-        drive = drive ^ chosen_word(rows::cell_at(row, c), spread[c]);
+        drive = drive ^ rows::cell_at(row, c) * spread[c];
         c += 1;
     }
     drive

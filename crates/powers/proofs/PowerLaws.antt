@@ -17,7 +17,7 @@ use Rattle.word.proofs.Laws.{mod2-lt}
 use Rattle.register.specs.Circuit.{Circuit, circuit, advanced}
 use Rattle.chains.specs.Driven.{chosen, driven}
 use Rattle.register.proofs.Laws.{advanced-xor, advanced-zero}
-use Rattle.chains.proofs.Laws.{driven-none, driven-suc}
+use Rattle.chains.proofs.Laws.{times-chosen, driven-none, driven-suc}
 use Rattle.signatures.specs.Later.{later}
 use Rattle.rows.specs.Marks.{bits}
 use Rattle.powers.specs.Powers.{fromPowers}
@@ -133,16 +133,6 @@ later-same m t v ws zero w = refl
 later-same m t v ws (suc j) w = ap (advanced m t) (later-same m t v ws j w)
 
 -- ---- the loop over the bits of a word
-
-times-chosen : (d p : ℕ) → d < 2 → d * p ≡ chosen d p
-times-chosen zero p h = zero-mul p
-times-chosen (suc zero) p h = one-mul p
-times-chosen (suc (suc d)) p h = let z : ⊥ = omega arith in absurd z
-
-pub times-le : (d p : ℕ) → d < 2 → d * p ≤ p
-times-le zero p h = omega (arith, zero-mul p)
-times-le (suc zero) p h = omega (arith, one-mul p)
-times-le (suc (suc d)) p h = let z : ⊥ = omega arith in absurd z
 
 module _ (ps : List ℕ) (w : ℕ) where
   pub Summed : ℕ → ℕ → ℕ → Type 0

@@ -137,14 +137,17 @@ turned-small n b v k l₀ l at t from to r hb ht = omega (arith, r .bytes, r .so
 pub both-inside : (a b e : ℕ) → (ltb a e || ltb b e) ≡ false → (e ≤ a) × (e ≤ b)
 both-inside a b e h = (ltb-false a e (or-false-left (ltb a e) (ltb b e) h), ltb-false b e (or-false-right (ltb a e) (ltb b e) h))
 
--- lists of s rows hold row t
-pub turned-short : (n b : ℕ) (v k l₀ l : List ℕ) (at t from to s : ℕ) → Turned n b v k l₀ l at t from to → t < s
-    → length v ≡ rowBytes n * s → length k ≡ rowBytes n * s
-    → (ltb (length v) (from + b) || ltb (length k) (from + b)) ≡ true → ⊥
-turned-short n b v k l₀ l at t from to s r h ev ek on =
-    let row : from + b ≤ rowBytes n * s = omega (arith, r .bytes, r .source, row-step (rowBytes n) t s h) in
-    let off : (ltb (length v) (from + b) || ltb (length k) (from + b)) ≡ false =
-    or-false (ltb (length v) (from + b)) (ltb (length k) (from + b)) (le-ltb (length v) (from + b) (omega arith)) (le-ltb (length k) (from + b) (omega arith))
+-- lists of s rows are not shorter than that
+pub not-short : (v k : List ℕ) (n s all : ℕ) → all ≡ rowBytes n * s → length v ≡ rowBytes n * s → length k ≡ rowBytes n * s
+    → (ltb (length v) all || ltb (length k) all) ≡ true → ⊥
+not-short v k n s all e ev ek on =
+    let off : (ltb (length v) all || ltb (length k) all) ≡ false =
+    or-false (ltb (length v) all) (ltb (length k) all) (le-ltb (length v) all (omega arith)) (le-ltb (length k) all (omega arith))
     in
     let z : _≡_ {A = ℕ} 0 1 = cc in
     omega arith
+
+-- .. and hold row t
+pub turned-inside : (n b : ℕ) (v k l₀ l : List ℕ) (at t from to s i : ℕ) → Turned n b v k l₀ l at t from to → t < s → rowBytes n * s ≤ i
+    → from + b ≤ i
+turned-inside n b v k l₀ l at t from to s i r h room = omega (arith, r .bytes, r .source, row-step (rowBytes n) t s h)

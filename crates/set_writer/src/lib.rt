@@ -50,15 +50,16 @@ fn write_head(out: &mut [u8], m: u64, taps: u64, inversion: u64, spread: &[u64],
 fn write_slices(out: &mut [u8], n: u16, s: u16, values: &[u8], marks: &[u8])
     ensures { λ _. ⌜ (length (now (values .entry)) ≡ rowBytes n * s → length (now (marks .entry)) ≡ rowBytes n * s → now (out .exit) ≡ sets (now (out .entry)) (rowsAt n) (joined (sliceBytes n (now (values .entry)) (now (marks .entry))) s)) ⌝ }
 {
+    let all = set_layout::rows_length(n, s);
+    if (values.len() < all) | (marks.len() < all) {
+        return;
+    }
     let bytes = rows::row_bytes(n as usize);
     let mut to = set_layout::rows_at(n);
     let mut from = 0;
     let mut t: u16 = 0;
     while t < s {
         let end = from + bytes;
-        if (values.len() < end) | (marks.len() < end) {
-            return;
-        }
         write_bytes(out, to, &values[from..end]);
         write_bytes(out, to + bytes, &marks[from..end]);
         to += 2 * bytes;

@@ -3,7 +3,8 @@ use Prim.Native.Nat.{_-_, _%_, _≤_}
 use native.Mathlib.Omega.{arith}
 use lib.ListN.{length, getD}
 use Rattle.word.proofs.Laws.{mod2-lt}
-use Rattle.powers.proofs.PowerLaws.{Summed, summed-starts, summed-turns, summed-ends, times-le}
+use Rattle.chains.proofs.Laws.{times-le}
+use Rattle.powers.proofs.PowerLaws.{Summed, summed-starts, summed-turns, summed-ends}
 use borrow.Author.Needs.{needs}
 use Rattle.powers.proofs.from_powers.Statement.{statement}
 use Rattle.powers.proofs.from_powers.Tie as tie
