@@ -1,6 +1,7 @@
 -- The set reader. Document 01: "The set reader answers with m, the tap word, n, s and 256 spread words, zero from n on"; "A word later
 -- added to the set's register section is answered by the set reader", the inversion word of document 02, No. 1, whose 25 is "checked
--- after 3" and whose 1 "now means fewer than 18 bytes"; "An array that belongs to an answer stands beside it and is all zero in a refusal"; the register "starts at zero".
+-- after 3" and with which refusal 1 "now means fewer than 18 bytes"; "An array that belongs to an answer stands beside it and is all
+-- zero in a refusal"; the register "starts at zero".
 --
 --   badSlices set        document 01, 7: the slice count is absent or above 512
 --   spareInRows set      document 01, 9: a row of the set has a spare bit set

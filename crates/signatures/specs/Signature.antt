@@ -1,6 +1,6 @@
 -- Responses, signatures and columns. Document 01: "A response has s slices, one cell per chain in each"; "The state after
 -- slice s − 1 is the signature"; "The column of an unknown cell is the signature of the response in which that cell is 1 and
--- all others 0." Document 02, No. 1: "columns are still made without" the inversion word.
+-- all others 0." Document 02, No. 1, of the inversion word: "columns are still made without it."
 --
 --   Response         the cells of a response: that of slice t and chain c is 0 or 1
 --   runs k x t       the register's state after the first t slices of the response x, from zero
