@@ -296,3 +296,16 @@ pub fn reduced_words(r: &mut Random, m: usize) -> Vec<u64> {
             .collect();
     }
 }
+
+/// A set that ends before its rows: n chains, each with the spread word 1, and the slice count s.
+pub fn without_rows(m: u16, taps: u64, inversion: u64, n: u16, s: u16) -> Vec<u8> {
+    let mut set = m.to_le_bytes().to_vec();
+    set.extend(taps.to_le_bytes());
+    set.extend(inversion.to_le_bytes());
+    set.extend(n.to_le_bytes());
+    for _ in 0..n {
+        set.extend(1u64.to_le_bytes());
+    }
+    set.extend(s.to_le_bytes());
+    set
+}

@@ -1,6 +1,7 @@
 //! Each number that a call can meet, by an input that gives it and nothing earlier, and beside it the input that is right by one.
 
 use reference::both::Both;
+use reference::random::without_rows;
 use reference::repository::sample;
 use reference::second::plan::Plan;
 use reference::second::set::{read_set, Content};
@@ -46,19 +47,6 @@ fn calls_on_sets() {
     }
 }
 
-/// A set without slices: n chains, each with the spread word 1.
-fn without_slices(m: u16, taps: u64, inversion: u64, n: u16) -> Vec<u8> {
-    let mut set = m.to_le_bytes().to_vec();
-    set.extend(taps.to_le_bytes());
-    set.extend(inversion.to_le_bytes());
-    set.extend(n.to_le_bytes());
-    for _ in 0..n {
-        set.extend(1u64.to_le_bytes());
-    }
-    set.extend([0, 0]);
-    set
-}
-
 #[test]
 fn a_set_of_fewer_than_18_bytes_gives_1_whatever_they_are_and_one_of_18_does_not() {
     let mut both = Both::new();
@@ -72,7 +60,7 @@ fn a_set_of_fewer_than_18_bytes_gives_1_whatever_they_are_and_one_of_18_does_not
         (64, 3, u64::MAX, 4),
     ];
     for (m, taps, inversion, of_18) in fronts {
-        let set = without_slices(m, taps, inversion, 1);
+        let set = without_rows(m, taps, inversion, 1, 0);
         for length in 0..=18 {
             let what = format!("m {m}, taps {taps}, inversion {inversion}, {length} bytes");
             let n = if length < 18 { 1 } else { of_18 };
@@ -101,7 +89,7 @@ fn number_25_comes_after_3_and_before_4_in_sets_in_the_set_writer_and_in_the_clo
     let mut both = Both::new();
     for (m, taps, inversion, n, first) in lines {
         let what = format!("m {m}, taps {taps}, inversion {inversion}, {n} chains");
-        let set = without_slices(m, taps, inversion, n);
+        let set = without_rows(m, taps, inversion, n, 0);
         refused_by_all(&mut both, &what, &set, first);
         let content = Content {
             m: u64::from(m),
@@ -138,7 +126,7 @@ fn of_the_inversion_words_those_with_a_bit_at_or_above_m_give_25_and_no_others()
         for inversion in words {
             let first = if inversion <= all { 0 } else { 25 };
             both.at = format!("m {m}, inversion {inversion:#x}");
-            let set = without_slices(m, 1, inversion, 1);
+            let set = without_rows(m, 1, inversion, 1, 0);
             assert_eq!(number(both.read_set(&set)), first, "{}", both.at);
             if let Ok(read) = read_set(&set) {
                 assert_eq!(word_of(&read.circuit.inversion), inversion, "{}", both.at);

@@ -2,6 +2,7 @@
 //! nearest neighbours: other widths, lists of one place, each row of the sample, records that are refused, registers that invert.
 
 use reference::both::Both;
+use reference::random::without_rows;
 use reference::repository::sample;
 use reference::second::set::{read_set, row_place, Row};
 use reference::second::word_of;
@@ -17,19 +18,6 @@ fn read(set: &[u8]) -> Result<(u64, u64, u64, usize, usize), u64> {
     let (taps, inversion) = (&set.circuit.taps, &set.circuit.inversion);
     let (taps, inversion) = (word_of(taps), word_of(inversion));
     Ok((set.circuit.m as u64, taps, inversion, set.n(), set.s()))
-}
-
-/// A set that ends before its rows: n chains, each with the spread word 1, and the slice count s.
-fn without_rows(m: u16, taps: u64, inversion: u64, n: u16, s: u16) -> Vec<u8> {
-    let mut set = m.to_le_bytes().to_vec();
-    set.extend(taps.to_le_bytes());
-    set.extend(inversion.to_le_bytes());
-    set.extend(n.to_le_bytes());
-    for _ in 0..n {
-        set.extend(1u64.to_le_bytes());
-    }
-    set.extend(s.to_le_bytes());
-    set
 }
 
 #[test]
