@@ -65,6 +65,21 @@ pub mod raw {
 
     #[repr(C)]
     #[derive(Clone, Copy, Debug, PartialEq)]
+    pub struct CWorded {
+        pub refusal: u64,
+        pub m: u64,
+        pub q: u64,
+    }
+
+    #[repr(C)]
+    #[derive(Clone, Copy, Debug, PartialEq)]
+    pub struct CExpected {
+        pub refusal: u64,
+        pub expected: u64,
+    }
+
+    #[repr(C)]
+    #[derive(Clone, Copy, Debug, PartialEq)]
     pub struct CPlanned {
         pub refusal: u64,
         pub m: u64,
@@ -128,6 +143,20 @@ pub mod raw {
             words: *mut u64,
             words_len: usize,
         ) -> CEliminated;
+        pub fn canceller_plan_words(
+            set: *const u8,
+            set_len: usize,
+            columns: *mut u64,
+            columns_len: usize,
+            words: *mut u64,
+            words_len: usize,
+        ) -> CWorded;
+        pub fn canceller_expect(
+            set: *const u8,
+            set_len: usize,
+            words: *const u64,
+            words_len: usize,
+        ) -> CExpected;
         pub fn canceller_plan(
             set: *const u8,
             set_len: usize,
@@ -303,6 +332,24 @@ pub fn eliminate(m: u64, columns: &[u64]) -> Reply<(u64, Vec<u64>)> {
         unsafe { raw::canceller_eliminate(m, columns.as_ptr(), columns.len(), at, words.len()) };
     words.truncate(done.q as usize);
     accepted(done.refusal, (done.rank, words))
+}
+
+/// The width of a set and its words, without expected bits.
+pub fn plan_words(set: &[u8]) -> Reply<(u64, Vec<u64>)> {
+    let mut columns = vec![0; UNKNOWNS_MAX];
+    let mut words = vec![0; WORDS_MAX];
+    let (c, w) = (columns.as_mut_ptr(), words.as_mut_ptr());
+    let (cells, places) = (columns.len(), words.len());
+    let worded = unsafe { raw::canceller_plan_words(set.as_ptr(), set.len(), c, cells, w, places) };
+    words.truncate(worded.q as usize);
+    accepted(worded.refusal, (worded.m, words))
+}
+
+/// The expected bits of words for a set, bit i for word i, whether or not the words are the set's own.
+pub fn expect(set: &[u8], words: &[u64]) -> Reply<u64> {
+    let expected =
+        unsafe { raw::canceller_expect(set.as_ptr(), set.len(), words.as_ptr(), words.len()) };
+    accepted(expected.refusal, expected.expected)
 }
 
 fn plan_of(planned: raw::CPlanned, mut words: Vec<u64>) -> Reply<Plan> {

@@ -5,7 +5,8 @@
  * Every answer is one struct by value whose first field is the refusal number, 0 for an answer; in a refusal every other field
  * is 0, but for the clock's state, which comes back as it was handed in.
  * Lent memory: success writes the front of each lent list or output and not the rest; a refusal writes nothing, but that
- * canceller_plan, once past 14, has filled the front of its column list, whether or not 16, 17 or 18 follows.
+ * canceller_plan and canceller_plan_words, once past 14, have filled the front of their column list, whether or not 16, 17 or 18
+ * follows.
  * In what follows m is the register's bits, n the chains, s the slices, B the bytes of a row (n / 8 rounded up) and q the words, m
  * less the rank of the columns. The set's numbers are 1, 2, 3, 25 and 4 to 10, in this order. README.md has the files byte by byte.
  * No call has a precondition beyond C's own. No call keeps anything between calls; calls on different memory may run at once.
@@ -35,7 +36,7 @@
 extern "C" {
 #endif
 
-#define CANCELLER_VERSION "2.0.0"
+#define CANCELLER_VERSION "2.1.0"
 
 #define CANCELLER_WIDTH_MAX 64
 #define CANCELLER_CHAINS_MAX 256
@@ -50,6 +51,8 @@ typedef struct { uint64_t refusal, state; } canceller_clocked;
 typedef struct { uint64_t refusal, signature; } canceller_signed;
 typedef struct { uint64_t refusal, count; } canceller_listed;
 typedef struct { uint64_t refusal, rank, q; } canceller_eliminated;
+typedef struct { uint64_t refusal, m, q; } canceller_worded;
+typedef struct { uint64_t refusal, expected; } canceller_expected;
 typedef struct { uint64_t refusal, m, q, expected; } canceller_planned;
 typedef struct { uint64_t refusal, cancelled, failed, index; } canceller_judged; /* failed 0: passes, and index is 0; failed 1: fails at index */
 
@@ -88,9 +91,20 @@ canceller_listed     canceller_list_columns(const uint8_t *set, size_t set_len, 
  * the columns and q, the number of words. Meets 2, 15, 16, 17, 18. A refusal writes nothing. */
 canceller_eliminated canceller_eliminate(uint64_t m, const uint64_t *columns, size_t columns_len, uint64_t *words, size_t words_len);
 
-/* Planning: columns over the front of the column list, words over the front of the word list. Answers with m, q and the
- * expected bits as one word, bit i for word i. Meets the set's numbers, 14, 16, 17, 18. Past 14 the front of the column list holds
- * the columns whatever follows; a refusal writes nothing else. */
+/* The words of a set: columns over the front of the column list, words over the front of the word list. Answers with m and q. Sets
+ * that differ in their values alone have the same words. Meets the set's numbers, 14, 16, 17, 18. Past 14 the front of the column
+ * list holds the columns whatever follows; a refusal writes nothing else. */
+canceller_worded     canceller_plan_words(const uint8_t *set, size_t set_len, uint64_t *columns, size_t columns_len,
+                                          uint64_t *words, size_t words_len);
+
+/* The expected bits of a list of words for a set: the parity of each word with the signature for all unknowns 0, as one word, bit i for
+ * word i. The words need not be the set's own; whether they are, canceller_plan_words says. Meets the set's numbers, 20 (no words, or
+ * more than m), 21. Writes nothing. */
+canceller_expected   canceller_expect(const uint8_t *set, size_t set_len, const uint64_t *words, size_t words_len);
+
+/* Planning: canceller_plan_words, and then canceller_expect for its words. Columns over the front of the column list, words over the
+ * front of the word list. Answers with m, q and the expected bits as one word, bit i for word i. Meets the set's numbers, 14, 16, 17,
+ * 18. Past 14 the front of the column list holds the columns whatever follows; a refusal writes nothing else. */
 canceller_planned    canceller_plan(const uint8_t *set, size_t set_len, uint64_t *columns, size_t columns_len,
                                     uint64_t *words, size_t words_len);
 

@@ -15,17 +15,20 @@ ghost use Rattle.columns.specs.Listing.{listReply, columnsAfter};
 ghost use Rattle.plan_file.specs.Layout.{fileWords};
 ghost use Rattle.plan_file.specs.Reading.{planFileReply};
 ghost use Rattle.plan_writer.specs.Writing.{planContent, planBytes, planWriteReply};
-ghost use Rattle.planner.specs.Planning.{wordsOf, planReply};
+ghost use Rattle.expectation.specs.Expecting.{expectReply};
+ghost use Rattle.planner.specs.Planning.{wordsOf, wordsReply, planReply};
 ghost use Rattle.judge.specs.Verdict.{judgeReply};
-ghost use Rattle.crossing.specs.Boundary.{setOf, stretchOf, writtenOf, registerOf, clockedOf, signedOf, listedOf, eliminatedOf, plannedOf, readOf, judgedOf};
+ghost use Rattle.crossing.specs.Boundary.{setOf, stretchOf, writtenOf, registerOf, clockedOf, signedOf, listedOf, eliminatedOf, wordedOf, expectedTo, plannedOf, readOf, judgedOf};
 use crossing::CClocked;
 use crossing::CEliminated;
+use crossing::CExpected;
 use crossing::CJudged;
 use crossing::CListed;
 use crossing::CPlanned;
 use crossing::CSet;
 use crossing::CSigned;
 use crossing::CStretch;
+use crossing::CWorded;
 use crossing::CWritten;
 use register::Register;
 
@@ -117,6 +120,28 @@ pub extern "C" fn canceller_eliminate(m: u64, columns: &[u64], words: &mut [u64]
     ensures list { λ _. ⌜ now (words .exit) ≡ lent (eliminationReply m (now (columns .entry)) (length (now (words .entry)))) (reducedList m (now (columns .entry))) (now (words .entry)) ⌝ }
 {
     crossing::eliminated_of(elimination::eliminate(m, columns, words))
+}
+
+// The words of a set, without expected bits. Meets the set's numbers, 14 and 16 to 18; the lists as planning leaves them.
+#[no_mangle]
+pub extern "C" fn canceller_plan_words(
+    set: &[u8],
+    columns: &mut [u64],
+    words: &mut [u64],
+) -> CWorded
+    ensures answer { λ r. ⌜ r ≡ wordedOf (wordsReply (now (set .entry)) (length (now (columns .entry))) (length (now (words .entry)))) ⌝ }
+    ensures columns { λ _. ⌜ now (columns .exit) ≡ columnsAfter (now (set .entry)) (now (columns .entry)) ⌝ }
+    ensures words { λ _. ⌜ now (words .exit) ≡ lent (wordsReply (now (set .entry)) (length (now (columns .entry))) (length (now (words .entry)))) (wordsOf (now (set .entry))) (now (words .entry)) ⌝ }
+{
+    crossing::worded_of(planner::plan_words(set, columns, words))
+}
+
+// The expected bits of a list of words for a set. Meets the set's numbers, 20 and 21.
+#[no_mangle]
+pub extern "C" fn canceller_expect(set: &[u8], words: &[u64]) -> CExpected
+    ensures { λ r. ⌜ r ≡ expectedTo (expectReply (now (set .entry)) (now (words .entry))) ⌝ }
+{
+    crossing::expected_of(expectation::expect(set, words))
 }
 
 // Planning. Meets the set's numbers, 14 and 16 to 18; the words over the front of their list; past 14 the columns over the front of

@@ -20,10 +20,9 @@ use Rattle.register.specs.Circuit.{Circuit}
 use Rattle.marked_words.specs.Back.{back}
 use Rattle.marked_words.proofs.BackLaws.{back-whole}
 use Rattle.set_layout.specs.Layout.{circuitOf, chainsOf, slicesOf, rowsAt, markAt, markRow, marks}
-use Rattle.set_file.specs.Reading.{setTests, takenCircuit}
+use Rattle.set_file.specs.Reading.{setTests, takenCircuit, TakenFrom}
 use Rattle.set_file.specs.declared.Taken.{Taken}
 use Rattle.set_file.proofs.Laws.{Accepted, accepted, set-numbered}
-use Rattle.set_file.proofs.ReadLaws.{TakenFrom}
 use Rattle.signatures.specs.Signature.{Response}
 use Rattle.signatures.specs.Columns.{columnsBelow}
 use Rattle.signatures.specs.Sets.{columnsOf, unknownsOf, placesOf}

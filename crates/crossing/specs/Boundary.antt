@@ -9,6 +9,8 @@
 --   signedOf r        a record's signature
 --   listedOf r        the number of unknown cells
 --   eliminatedOf r    the elimination's rank and q
+--   wordedOf r        m and q of the call that gives the words
+--   expectedTo r      the expected bits of a list of words
 --   plannedOf r       planning's m, q and expected bits
 --   readOf r          the plan reader's, which crosses as planning's does
 --   judgedFor b o     judging's cancelled bits b and outcome o: failed is 0 where it passes, and 1 where it fails at index
@@ -19,7 +21,7 @@ use Rattle.word.specs.Reply.{Reply, answer, refusal}
 use Rattle.set_file.specs.Reading.{SetParts}
 use Rattle.slice_rows.specs.Rows.{Stretch}
 use Rattle.elimination.specs.Elimination.{Counts}
-use Rattle.planner.specs.Planning.{PlanParts}
+use Rattle.planner.specs.Planning.{WordParts, PlanParts}
 use Rattle.plan_file.specs.Checking.{PlanFileParts}
 use Rattle.judge.specs.Verdict.{Outcome, passes, failsAt, Finding}
 use Rattle.register.specs.declared.Register.{Register}
@@ -30,6 +32,8 @@ use Rattle.crossing.specs.declared.CClocked.{CClocked}
 use Rattle.crossing.specs.declared.CSigned.{CSigned}
 use Rattle.crossing.specs.declared.CListed.{CListed}
 use Rattle.crossing.specs.declared.CEliminated.{CEliminated}
+use Rattle.crossing.specs.declared.CWorded.{CWorded}
+use Rattle.crossing.specs.declared.CExpected.{CExpected}
 use Rattle.crossing.specs.declared.CPlanned.{CPlanned}
 use Rattle.crossing.specs.declared.CJudged.{CJudged}
 
@@ -63,6 +67,14 @@ listedOf (refusal k) = record { refusal = k; count = 0 }
 abbrev pub eliminatedOf : Reply Counts → CEliminated
 eliminatedOf (answer p) = record { refusal = 0; rank = p .rank; q = p .q }
 eliminatedOf (refusal k) = record { refusal = k; rank = 0; q = 0 }
+
+abbrev pub wordedOf : Reply WordParts → CWorded
+wordedOf (answer p) = record { refusal = 0; m = p .m; q = p .q }
+wordedOf (refusal k) = record { refusal = k; m = 0; q = 0 }
+
+abbrev pub expectedTo : Reply ℕ → CExpected
+expectedTo (answer e) = record { refusal = 0; expected = e }
+expectedTo (refusal k) = record { refusal = k; expected = 0 }
 
 abbrev pub plannedOf : Reply PlanParts → CPlanned
 plannedOf (answer p) = record { refusal = 0; m = p .m; q = p .q; expected = p .expected }

@@ -11,14 +11,17 @@ ghost use Rattle.signing.specs.Signing.{saidSigned};
 ghost use Rattle.columns.specs.Listing.{saidListed};
 ghost use Rattle.plan_file.specs.Reading.{said as saidRead};
 ghost use Rattle.plan_writer.specs.Writing.{said as saidPlanWritten};
-ghost use Rattle.planner.specs.Planning.{said as saidPlanned};
+ghost use Rattle.expectation.specs.Expecting.{saidExpected};
+ghost use Rattle.planner.specs.Planning.{saidWorded, said as saidPlanned};
 ghost use Rattle.judge.specs.Verdict.{said as saidJudged};
-ghost use Rattle.crossing.specs.Boundary.{setOf, stretchOf, writtenOf, clockedOf, signedOf, listedOf, eliminatedOf, plannedOf, readOf, judgedOf};
+ghost use Rattle.crossing.specs.Boundary.{setOf, stretchOf, writtenOf, clockedOf, signedOf, listedOf, eliminatedOf, wordedOf, expectedTo, plannedOf, readOf, judgedOf};
 use columns::Listed;
 use elimination::Eliminated;
+use expectation::Expected;
 use judge::Judged;
 use plan_file::PlanAnswer;
 use planner::Planned;
+use planner::Worded;
 use register::Clocked;
 use register::Clocking;
 use set_file::SetAnswer;
@@ -73,6 +76,19 @@ pub struct CEliminated {
     pub refusal: u64,
     pub rank: u64,
     pub q: u64,
+}
+
+#[repr(C)]
+pub struct CWorded {
+    pub refusal: u64,
+    pub m: u64,
+    pub q: u64,
+}
+
+#[repr(C)]
+pub struct CExpected {
+    pub refusal: u64,
+    pub expected: u64,
 }
 
 #[repr(C)]
@@ -217,6 +233,36 @@ pub fn eliminated_of(eliminated: Eliminated) -> CEliminated
             refusal: number,
             rank: 0,
             q: 0,
+        },
+    }
+}
+
+// m and q of the call that gives the words.
+pub fn worded_of(worded: Worded) -> CWorded
+    ensures { λ r. ⌜ r ≡ wordedOf (saidWorded worded) ⌝ }
+{
+    match worded {
+        Worded::Words { m, q } => CWorded { refusal: 0, m, q },
+        Worded::Refused { number } => CWorded {
+            refusal: number,
+            m: 0,
+            q: 0,
+        },
+    }
+}
+
+// The expected bits of a list of words.
+pub fn expected_of(expected: Expected) -> CExpected
+    ensures { λ r. ⌜ r ≡ expectedTo (saidExpected expected) ⌝ }
+{
+    match expected {
+        Expected::Bits { expected } => CExpected {
+            refusal: 0,
+            expected,
+        },
+        Expected::Refused { number } => CExpected {
+            refusal: number,
+            expected: 0,
         },
     }
 }

@@ -3,7 +3,6 @@
 -- file and the record's signature." These are four of document 01's calls in turn: each meets its own numbers in its own order,
 -- and the first that refuses ends it.
 --
---   after r f                   what the next call, f, replies to the answer of r; r's refusal where it refuses
 --   madeReply set k l room      the reply of making the plan of a set: planning with k column places and l word places, then the
 --                               plan writer with an output of `room` bytes; its length
 --   planOf set                  the plan made of a set
@@ -13,16 +12,12 @@
 use mathlib.Core.List.{List}
 use Prim.Native.Nat.{ℕ}
 use lib.ListN.{length}
-use Rattle.word.specs.Reply.{Reply, answer, refusal, lent}
+use Rattle.word.specs.Reply.{Reply, lent, after}
 use Rattle.signing.specs.Signing.{signReply}
 use Rattle.planner.specs.Planning.{partsOf, wordsOf, planReply}
 use Rattle.plan_writer.specs.Writing.{planContent, planWriteReply}
 use Rattle.judge.specs.Verdict.{Finding, judgeReply}
 use Rattle.guarantee.specs.Demand.{planFile}
-
-abbrev pub after : {A : Type 0} {B : Type 0} → Reply A → (A → Reply B) → Reply B
-after (answer a) f = f a
-after (refusal n) f = refusal n
 
 unfoldable pub madeReply : List ℕ → ℕ → ℕ → ℕ → Reply ℕ
 madeReply set k l room =

@@ -21,10 +21,9 @@ use Rattle.elimination.proofs.Theorems.{later-numbers}
 use Rattle.register.specs.Circuit.{Circuit}
 use Rattle.set_layout.specs.Layout.{widthOf, circuitOf, values, valueRow}
 use Rattle.set_file.specs.declared.Taken.{Taken}
-use Rattle.set_file.proofs.ReadLaws.{TakenFrom}
 use Rattle.signatures.specs.Signature.{signature}
 use Rattle.signing.specs.Signing.{valueCells}
-use Rattle.set_file.specs.Reading.{setTests, takenCircuit}
+use Rattle.set_file.specs.Reading.{setTests, takenCircuit, TakenFrom}
 use Rattle.set_file.proofs.Laws.{Accepted, accepted, accepted-width}
 use Rattle.signatures.specs.Sets.{columnsOf, unknownsOf, zeroSignature}
 use Rattle.columns.proofs.CallLaws.{Lists}

@@ -1,13 +1,18 @@
 -- Planning. Document 01: "Planning is lent a column list and a word list and answers with m, q and the expected bits as one
 -- word, bit i for word i"; "planning that gets past 14 has filled the front of its column list with the columns, whether or not
--- 16, 17 or 18 follows": that list at exit is columns/specs/Listing columnsAfter; "The expected bit of a word is the parity of the bits it shares with the signature for all unknowns 0."
+-- 16, 17 or 18 follows": that list at exit is columns/specs/Listing columnsAfter. And the call that gives the words alone. Document 02,
+-- No. 2: "Planning is to be split in two: one call gives the words, the other the expected bits for a set and its words." It meets
+-- planning's numbers and is lent planning's lists; the other call is expectation/specs/Expecting.
 --
 --   wordsFor g              document 01: the plan's words, the reduced list for the columns of what is given
 --   wordsOf set             .. of a set
---   expectedOf set          the expected bits as one word
+--   expectedOf set          the expected bits of a set's own words
 --   earlierTests set k      the numbers that planning meets before 17, in order, for k column places. Document 01: "an earlier number
 --                           is one that stands before 17 in that call"
 --   planTests set k l       the numbers that planning meets, in order, for k column places and l word places
+--   WordParts               what the call that gives the words answers: m and q
+--   wordsReply set k l      its reply
+--   saidWorded w            the paper's reading of what it hands back
 --   PlanParts               what planning answers
 --   planReply set k l       its reply
 --   said p                  the paper's reading of what planning hands back
@@ -15,14 +20,16 @@ use mathlib.Core.List.{List, [], _∷_, _++_}
 use Prim.Native.Nat.{ℕ}
 use lib.Dec.{ltb}
 use lib.ListN.{length}
-use Rattle.word.specs.Parities.{parities}
 use Rattle.word.specs.Reply.{Test, _when_, Reply, answer, refusal, reply}
 use Rattle.combinations.specs.Combination.{rank, onlyEmpty}
 use Rattle.combinations.specs.Reduced.{reducedList}
 use Rattle.set_layout.specs.Layout.{widthOf}
 use Rattle.signatures.specs.Given.{Given, columnsFor}
-use Rattle.signatures.specs.Sets.{given, columnsOf, zeroSignature}
+use Rattle.signatures.specs.Sets.{given, columnsOf}
 use Rattle.columns.specs.Listing.{listTests}
+use Rattle.expectation.specs.Expecting.{expectedFor}
+use Rattle.planner.specs.declared.Worded.{Worded}
+use Rattle.planner.specs.declared.Worded.the-variants.{Words, Refused as Unworded}
 use Rattle.planner.specs.declared.Planned.{Planned}
 use Rattle.planner.specs.declared.Planned.the-variants.{Plan, Refused}
 
@@ -33,7 +40,7 @@ unfoldable pub wordsOf : List ℕ → List ℕ
 wordsOf set = wordsFor (given set)
 
 unfoldable pub expectedOf : List ℕ → ℕ
-expectedOf set = parities (wordsOf set) (zeroSignature set)
+expectedOf set = expectedFor set (wordsOf set)
 
 -- the set's numbers, then 14 and 16
 unfoldable pub earlierTests : List ℕ → ℕ → List Test
@@ -46,6 +53,20 @@ planTests set k l =
     ++ 17 when onlyEmpty (widthOf set) (columnsOf set)
     ∷ 18 when ltb l (length (wordsOf set))
     ∷ []
+
+pub record WordParts : Type 0 where
+  pub m : ℕ
+  pub q : ℕ
+
+abbrev pub wordPartsOf : List ℕ → WordParts
+wordPartsOf set = record { m = widthOf set; q = length (wordsOf set) }
+
+unfoldable pub wordsReply : List ℕ → ℕ → ℕ → Reply WordParts
+wordsReply set k l = reply (planTests set k l) (wordPartsOf set)
+
+abbrev pub saidWorded : Worded → Reply WordParts
+saidWorded (Words w k) = answer (record { m = w; q = k })
+saidWorded (Unworded n) = refusal n
 
 pub record PlanParts : Type 0 where
   pub m : ℕ

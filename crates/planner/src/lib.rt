@@ -1,12 +1,20 @@
-// Planning: the words and the expected bits of a set. It sees the columns, the elimination and the signature for all unknowns 0.
+// Planning: the words of a set, and its words with their expected bits. It sees the columns, the elimination and the expected bits of a
+// list of words. Planning is the two calls in a row: the words, then the expected bits for them.
 ghost use mathlib.Core.Path.{_≡_};
 ghost use lib.ListN.{length};
 ghost use Rattle.word.specs.Reply.{lent, numberOf};
+ghost use Rattle.set_file.specs.Reading.{TakenFrom};
 ghost use Rattle.columns.specs.Listing.{columnsAfter};
-ghost use Rattle.planner.specs.Planning.{wordsOf, planReply, said};
+ghost use Rattle.planner.specs.Planning.{wordsOf, wordsReply, saidWorded, planReply, said};
 use elimination::Eliminated;
 use set_file::SetAnswer;
 use set_file::Taken;
+
+// What the call that gives the words answers: m and q, or the first number that applies.
+pub enum Worded {
+    Words { m: u64, q: u64 },
+    Refused { number: u64 },
+}
 
 // What planning answers: m, q and the expected bits as one word, or the first number that applies.
 pub enum Planned {
@@ -14,8 +22,66 @@ pub enum Planned {
     Refused { number: u64 },
 }
 
-// Planning of document 01. Answers with m, q and the expected bits, and writes the q words over the front of `words`. Meets the
-// set's numbers, then 14, 16, 17 and 18. A refusal writes nothing, but that past 14 the front of `columns` holds the columns.
+// The words of a taken set, which both calls make: past the set's numbers it meets 14, 16, 17 and 18. It reads the marks and no value.
+fn fill_words(taken: Taken, set: &[u8], columns: &mut [u64], words: &mut [u64]) -> Worded
+    ensures { λ r. ⌜ (TakenFrom (now (set .entry)) taken → (saidWorded r ≡ wordsReply (now (set .entry)) (length (now (columns .entry))) (length (now (words .entry)))) × ((now (columns .exit) ≡ columnsAfter (now (set .entry)) (now (columns .entry))) × (now (words .exit) ≡ lent (wordsReply (now (set .entry)) (length (now (columns .entry))) (length (now (words .entry)))) (wordsOf (now (set .entry))) (now (words .entry))))) ⌝ }
+{
+    let register = taken.register;
+    let m = register.m;
+    let marks = set_layout::mark_rows(taken.n);
+    let unknowns = marked_words::count_marks(set, marks, taken.s);
+    if (columns.len() as u64) < unknowns {
+        return Worded::Refused { number: 14 };
+    }
+    let end = unknowns as usize;
+    columns::fill_columns(taken, set, marks, &mut columns[..end]);
+    let eliminated = elimination::eliminate(m, &columns[..end], words);
+    let Eliminated::Done { rank: _, q } = eliminated else {
+        return Worded::Refused {
+            number: elimination::number_of(eliminated),
+        };
+    };
+    Worded::Words { m, q }
+}
+
+// The words of a set, the first of the two calls of document 02. Answers with m and q, and writes the q words over the front of
+// `words`. Meets the set's numbers, then 14, 16, 17 and 18. A refusal writes nothing, but that past 14 the front of `columns` holds the
+// columns.
+pub fn plan_words(set: &[u8], columns: &mut [u64], words: &mut [u64]) -> Worded
+    ensures answer { λ r. ⌜ saidWorded r ≡ wordsReply (now (set .entry)) (length (now (columns .entry))) (length (now (words .entry))) ⌝ }
+    ensures columns { λ _. ⌜ now (columns .exit) ≡ columnsAfter (now (set .entry)) (now (columns .entry)) ⌝ }
+    ensures words { λ _. ⌜ now (words .exit) ≡ lent (wordsReply (now (set .entry)) (length (now (columns .entry))) (length (now (words .entry)))) (wordsOf (now (set .entry))) (now (words .entry)) ⌝ }
+{
+    let read = set_file::read_set(set);
+    let answer = read.answer;
+    let SetAnswer::Read { register, n, s } = answer else {
+        return Worded::Refused {
+            number: set_file::number_of(answer),
+        };
+    };
+    let spread = read.spread;
+    let taken = Taken {
+        register,
+        n,
+        s,
+        spread,
+    };
+    fill_words(taken, set, columns, words)
+}
+
+// The number of a refusal to give words; 0 of an answer.
+fn words_number(worded: Worded) -> u64
+    ensures { λ r. ⌜ r ≡ numberOf (saidWorded worded) ⌝ }
+{
+    match worded {
+        Worded::Words { m: _, q: _ } => 0,
+        Worded::Refused { number } => number,
+    }
+}
+
+// Planning of document 01: the words, then the expected bits for them (proofs/InARow.antt, plan-in-a-row); the set is read once for
+// both. Answers with m, q and the expected bits, and writes the q words over the front of `words`. Meets the set's numbers, then 14, 16,
+// 17 and 18. A refusal writes nothing, but that past 14 the front of `columns` holds the columns.
 pub fn plan(set: &[u8], columns: &mut [u64], words: &mut [u64]) -> Planned
     ensures answer { λ r. ⌜ said r ≡ planReply (now (set .entry)) (length (now (columns .entry))) (length (now (words .entry))) ⌝ }
     ensures columns { λ _. ⌜ now (columns .exit) ≡ columnsAfter (now (set .entry)) (now (columns .entry)) ⌝ }
@@ -28,11 +94,6 @@ pub fn plan(set: &[u8], columns: &mut [u64], words: &mut [u64]) -> Planned
             number: set_file::number_of(answer),
         };
     };
-    let marks = set_layout::mark_rows(n);
-    let unknowns = marked_words::count_marks(set, marks, s);
-    if (columns.len() as u64) < unknowns {
-        return Planned::Refused { number: 14 };
-    }
     let spread = read.spread;
     let taken = Taken {
         register,
@@ -40,21 +101,17 @@ pub fn plan(set: &[u8], columns: &mut [u64], words: &mut [u64]) -> Planned
         s,
         spread,
     };
-    let end = unknowns as usize;
-    columns::fill_columns(taken, set, marks, &mut columns[..end]);
-    let m = register.m;
-    let eliminated = elimination::eliminate(m, &columns[..end], words);
-    let Eliminated::Done { rank: _, q } = eliminated else {
+    let worded = fill_words(taken, set, columns, words);
+    let Worded::Words { m, q } = worded else {
         return Planned::Refused {
-            number: elimination::number_of(eliminated),
+            number: words_number(worded),
         };
     };
-    let zero = signing::zero_signature(taken, set);
     let count = q as usize;
     Planned::Plan {
         m,
         q,
-        expected: word::word_parities(&words[..count], zero),
+        expected: expectation::expected_bits(taken, set, &words[..count]),
     }
 }
 

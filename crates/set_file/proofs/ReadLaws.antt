@@ -1,8 +1,7 @@
 -- Each way out of the set reader, what it answers and hands back beside it, and what a taken set is:
 --
 --   refused-set        the number of a refused set is the first of its tests that applies
---   TakenFrom set k    the taken set k is what the file `set` gives: its circuit, n and s
---   taken-set          .. where the reader answered with k's register, n and s and gave k's spread words beside
+--   taken-set          where the reader answered with k's register, n and s and gave k's spread words beside, k is taken from the set
 -- Assumes nothing.
 use mathlib.Core.Path.{_≡_, refl, sym, ap, _∙_}
 use mathlib.Core.List.{List}
@@ -15,12 +14,11 @@ use Rattle.word.proofs.ReplyLaws.{refused-leaves, answered-writes}
 use Rattle.word.proofs.TestLaws.{replied-not-zero}
 use Rattle.register.specs.Circuit.{circuit}
 use Rattle.register.specs.declared.Register.{Register}
-use Rattle.set_layout.specs.Layout.{widthOf, tapsOf, inversionOf, chainsOf, spreadOf, slicesOf, circuitOf, noWords}
+use Rattle.set_layout.specs.Layout.{widthOf, tapsOf, inversionOf, chainsOf, spreadOf, slicesOf, noWords}
 use Rattle.set_layout.proofs.LayoutLaws.{spread-length}
-use Rattle.set_file.specs.Reading.{SetParts, setTests, setPartsOf, setReply, spreadBeside, said, startOf, takenCircuit}
+use Rattle.set_file.specs.Reading.{SetParts, setTests, setPartsOf, setReply, spreadBeside, said, startOf, TakenFrom}
 use Rattle.set_file.specs.declared.SetAnswer.{SetAnswer}
 use Rattle.set_file.specs.declared.SetAnswer.the-variants.{Read, Refused}
-use Rattle.set_file.specs.declared.Taken.{Taken}
 use Rattle.set_file.proofs.Laws.{accepted, accepted-width, accepted-chains, set-answers, set-answer-parts, set-answer-none, set-refusal-first}
 
 -- what the reader answers, a, and the words beside it, ws
@@ -60,17 +58,6 @@ refused-set set ws a k n reads e en =
     )
 
 -- ---- a taken set
-
-pub record TakenFrom (set : List ℕ) (k : Taken) : Type 0 where
-  pub none : firstOf (setTests set) ≡ 0
-  pub width : k .register .m ≡ widthOf set
-  pub taps : k .register .taps ≡ tapsOf set
-  pub inversion : k .register .inversion ≡ inversionOf set
-  pub start : k .register .state ≡ 0
-  pub chains : k .n ≡ chainsOf set
-  pub slices : k .s ≡ slicesOf set
-  pub spread : take (k .n) (k .spread) ≡ spreadOf set
-  pub circuit : takenCircuit k ≡ circuitOf set
 
 pub taken-set : (set ws : List ℕ) (a : SetAnswer) (r : Register) (n s : ℕ) → Reads set a ws → a ≡ Read r n s
     → TakenFrom set (record { register = r; n = n; s = s; spread = ws })

@@ -14,17 +14,19 @@
 --   said a               the paper's reading of what the reader hands back
 --   startOf a            the state of the register that it hands back; 0 of a refusal
 --   takenCircuit k       the register and the chains of a taken set
+--   TakenFrom set k      the taken set k is what the file `set`, which meets none of the numbers, gives
+use mathlib.Core.Path.{_≡_}
 use mathlib.Core.Bool.{Bool, not, _||_}
 use mathlib.Core.List.{List, [], _∷_}
 use Prim.Native.Nat.{ℕ, min}
 use lib.Dec.{eqb, ltb}
 use lib.ListN.{length, take}
 use Rattle.word.specs.Word.{badWidth}
-use Rattle.word.specs.Reply.{Test, _when_, Reply, answer, refusal, reply, lent}
+use Rattle.word.specs.Reply.{Test, _when_, Reply, answer, refusal, firstOf, reply, lent}
 use Rattle.rows.specs.Lists.{spareIn, valuedUnknown}
 use Rattle.register.specs.Circuit.{Circuit, circuit, badTaps, badInversion, badChains, tooManySlices}
 use Rattle.chains.specs.Driven.{badSpread}
-use Rattle.set_layout.specs.Layout.{chainsAt, spreadAt, slicesAt, headLength, setLength, widthOf, tapsOf, inversionOf, chainsOf, spreadOf, slicesOf, valueRow, markRow, noWords}
+use Rattle.set_layout.specs.Layout.{chainsAt, spreadAt, slicesAt, headLength, setLength, widthOf, tapsOf, inversionOf, chainsOf, spreadOf, slicesOf, circuitOf, valueRow, markRow, noWords}
 use Rattle.set_file.specs.declared.SetAnswer.{SetAnswer}
 use Rattle.set_file.specs.declared.SetAnswer.the-variants.{Read, Refused}
 use Rattle.set_file.specs.declared.Taken.{Taken}
@@ -79,3 +81,14 @@ startOf (Refused n) = 0
 
 abbrev pub takenCircuit : Taken → Circuit
 takenCircuit k = circuit (min (k .register .m) 64) (k .register .taps) (k .register .inversion) (take (k .n) (k .spread))
+
+pub record TakenFrom (set : List ℕ) (k : Taken) : Type 0 where
+  pub none : firstOf (setTests set) ≡ 0
+  pub width : k .register .m ≡ widthOf set
+  pub taps : k .register .taps ≡ tapsOf set
+  pub inversion : k .register .inversion ≡ inversionOf set
+  pub start : k .register .state ≡ 0
+  pub chains : k .n ≡ chainsOf set
+  pub slices : k .s ≡ slicesOf set
+  pub spread : take (k .n) (k .spread) ≡ spreadOf set
+  pub circuit : takenCircuit k ≡ circuitOf set

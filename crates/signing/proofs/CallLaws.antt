@@ -14,10 +14,9 @@ use Rattle.rows.specs.Row.{rowBytes}
 use Rattle.rows.specs.Lists.{listRow, spareIn}
 use Rattle.register.specs.Circuit.{Circuit}
 use Rattle.set_layout.specs.Layout.{circuitOf, chainsOf, slicesOf}
-use Rattle.set_file.specs.Reading.{setTests, setReply, takenCircuit}
+use Rattle.set_file.specs.Reading.{setTests, setReply, takenCircuit, TakenFrom}
 use Rattle.set_file.specs.declared.Taken.{Taken}
 use Rattle.set_file.proofs.Laws.{set-numbered, set-refusal-first}
-use Rattle.set_file.proofs.ReadLaws.{TakenFrom}
 use Rattle.signatures.specs.Signature.{signature}
 use Rattle.signatures.specs.Sets.{recordCells}
 use Rattle.signing.specs.Signing.{signTests, signReply}

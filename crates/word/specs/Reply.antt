@@ -11,6 +11,7 @@
 --   numberOf r      the refusal's number; 0 of an answer
 --   front vs l      the list l with vs written over its front
 --   lent r vs l     a lent list l after the reply r: vs at its front after an answer, untouched after a refusal
+--   after r f       two calls in a row: what the next one, f, replies to the answer of r; r's refusal where it refuses
 use mathlib.Core.Bool.{Bool, cond}
 use mathlib.Core.List.{List, [], _∷_, _++_}
 use Prim.Native.Nat.{ℕ, zero, suc}
@@ -45,3 +46,7 @@ front vs l = vs ++ drop (length vs) l
 abbrev pub lent : {A : Type 0} {B : Type 0} → Reply A → List B → List B → List B
 lent (answer a) vs l = front vs l
 lent (refusal n) vs l = l
+
+abbrev pub after : {A : Type 0} {B : Type 0} → Reply A → (A → Reply B) → Reply B
+after (answer a) f = f a
+after (refusal n) f = refusal n

@@ -2,7 +2,7 @@
 use mathlib.Core.Path.{_∙_}
 use borrow.Author.Needs.{needs}
 use Rattle.set_file.specs.declared.Taken.{Taken}
-use Rattle.set_file.proofs.ReadLaws.{refused-set, taken-set, TakenFrom}
+use Rattle.set_file.proofs.ReadLaws.{refused-set, taken-set}
 use Rattle.signing.proofs.RunLaws.{record-rows-cells}
 use Rattle.signing.proofs.CallLaws.{sign-set-refused, sign-wrong-length, sign-spare, sign-answers}
 use Rattle.signing.proofs.sign_record.Statement.{statement}
