@@ -82,7 +82,7 @@ module _ (set l : List ℕ) (k : Taken) (taken : TakenFrom set k) where
     columns-are =
         ap₂ (λ (x : Circuit) (y : ℕ). columnsBelow x y (cellsOf set r) y) (taken .circuit) slices-limited
         ∙ columns-ext (circuitOf set) (slicesOf set) (cellsOf set r) (marks set) (slicesOf set)
-        (λ t c. ap (λ (row : List ℕ). cell row c) (mark-rows-row set r (k .n) e (taken .chains) t))
+        (λ t c l h. ap (λ (row : List ℕ). cell row c) (mark-rows-row set r (k .n) e (taken .chains) t))
 
     pub list-answers : (part : List ℕ) → unknowns ≤ length l
         → part ≡ back (columnsBelow (takenCircuit k) (min (k .s) 512) (cellsOf set r) (min (k .s) 512)) (take unknowns l)

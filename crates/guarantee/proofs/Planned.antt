@@ -2,8 +2,8 @@
 use mathlib.Core.Path.{_≡_, refl, sym, ap, _∙_}
 use mathlib.Core.Bool.{Bool, true, false, cond, not, _&&_}
 use mathlib.Core.Logic.{dite}
-use mathlib.Core.List.{List, [], _∷_, _++_, append-assoc}
-use Prim.Native.Nat.{ℕ, _≤_}
+use mathlib.Core.List.{List, [], _∷_}
+use Prim.Native.Nat.{ℕ}
 use native.Mathlib.Decide.{ℕ-discrete}
 use native.Mathlib.Omega.{arith}
 use borrow.Author.Tests.{eqb-false, not-true}
@@ -12,16 +12,17 @@ use lib.ListN.{length}
 use Rattle.word.specs.Reply.{Test, _when_, answer, refusal, replied, firstOf}
 use Rattle.word.proofs.BoolLaws.{and-left, and-right}
 use Rattle.word.proofs.Laws.{parities-lt}
-use Rattle.word.proofs.TestLaws.{numbered, none-and-rest, first-of-later, first-of-sooner, first-of-none, replied-answer, replied-number}
+use Rattle.word.proofs.TestLaws.{numbered, first-of-later, replied-answer, replied-number}
 use Rattle.combinations.specs.Combination.{rank, onlyEmpty}
-use Rattle.combinations.proofs.Theorems.{reduced-list-reduced, only-empty-list}
 use Rattle.set_layout.specs.Layout.{widthOf}
 use Rattle.set_file.specs.Reading.{setTests}
 use Rattle.set_file.proofs.Laws.{Accepted, accepted, accepted-width}
 use Rattle.signatures.specs.Sets.{columnsOf, zeroSignature}
 use Rattle.columns.specs.Listing.{listTests}
 use Rattle.planner.specs.Planning.{wordsOf, expectedOf, earlierTests, planTests, PlanParts, partsOf, planReply}
-use Rattle.planner.proofs.CallLaws.{list-numbered, words-most, planned-parts}
+use Rattle.planner.proofs.NumberLaws as numbers
+use Rattle.planner.proofs.NumberLaws.{plan-sooner, plan-later, listed-set}
+use Rattle.planner.proofs.CallLaws.{planned-parts}
 use Rattle.plan_writer.specs.Writing.{planContent, planBytes}
 use Rattle.plan_writer.proofs.Parts.{Content}
 use Rattle.guarantee.specs.Demand.{planFile}
@@ -61,28 +62,7 @@ earlier-numbered : (set : List ℕ) (k : ℕ) → numbered (earlierTests set k) 
 unfolding earlierTests listTests setTests
 earlier-numbered set k = refl
 
--- the numbers before 17 are those of listing the columns, and 16
-pub earlier-listed : (set : List ℕ) (k : ℕ) → firstOf (earlierTests set k) ≡ 0 → firstOf (listTests set k) ≡ 0
-unfolding earlierTests
-earlier-listed set k h = first-of-none (listTests set k) _ h
-
--- listing the columns meets the set's numbers first
-pub listed-set : (set : List ℕ) (k : ℕ) → firstOf (listTests set k) ≡ 0 → firstOf (setTests set) ≡ 0
-unfolding listTests
-listed-set set k h = first-of-none (setTests set) _ h
-
 module _ (set : List ℕ) (k l : ℕ) where
-  in-order : firstOf (planTests set k l)
-      ≡ firstOf (listTests set k ++ 16 when ltb (widthOf set) (rank (columnsOf set)) ∷ 17 when onlyEmpty (widthOf set) (columnsOf set) ∷ 18 when ltb l (length (wordsOf set)) ∷ [])
-  unfolding planTests earlierTests
-  in-order = ap firstOf (append-assoc (listTests set k) (16 when ltb (widthOf set) (rank (columnsOf set)) ∷ []) _)
-
-  after-list : firstOf (listTests set k) ≡ 0
-      → firstOf (planTests set k l)
-      ≡ cond (ltb (widthOf set) (rank (columnsOf set))) 16
-      (cond (onlyEmpty (widthOf set) (columnsOf set)) 17 (cond (ltb l (length (wordsOf set))) 18 0))
-  after-list h = in-order ∙ first-of-later (listTests set k) _ (list-numbered set k) h
-
   -- 17 means that the set is accepted and no X-free combination but the empty one exists
   pub seventeen-only-empty : planReply set k l ≡ refusal 17 → Accepted set × (onlyEmpty (widthOf set) (columnsOf set) ≡ true)
   unfolding planReply
@@ -91,11 +71,11 @@ module _ (set : List ℕ) (k l : ℕ) where
       let none : firstOf (listTests set k) ≡ 0 =
       dite (ℕ-discrete (firstOf (listTests set k)) 0) (λ (z : firstOf (listTests set k) ≡ 0). z)
       (λ (d : firstOf (listTests set k) ≡ 0 → ⊥).
-      let z : 17 ≡ 0 = first-of-without 17 (listTests set k) (list-without-seventeen set k) (sym (first-of-sooner (listTests set k) _ d) ∙ sym in-order ∙ number) in
+      let z : 17 ≡ 0 = first-of-without 17 (listTests set k) (list-without-seventeen set k) (sym (plan-sooner set k l d) ∙ number) in
       let no : ⊥ = omega arith in
       absurd no)
       in
-      (accepted set (listed-set set k none), seventeen-among (ltb (widthOf set) (rank (columnsOf set))) _ (ltb l (length (wordsOf set))) (sym (after-list none) ∙ number))
+      (accepted set (listed-set set k none), seventeen-among (ltb (widthOf set) (rank (columnsOf set))) _ (ltb l (length (wordsOf set))) (sym (plan-later set k l none) ∙ number))
 
   -- .. and where that is so and no earlier number applies, 17 it is
   pub only-empty-seventeen : firstOf (earlierTests set k) ≡ 0 → onlyEmpty (widthOf set) (columnsOf set) ≡ true → planReply set k l ≡ refusal 17
@@ -107,38 +87,23 @@ module _ (set : List ℕ) (k l : ℕ) where
 -- ---- planning's answer
 
 module _ (set : List ℕ) (k l : ℕ) (p : PlanParts) (h : planReply set k l ≡ answer p) where
-  planned-none : firstOf (planTests set k l) ≡ 0
+  pub planned-none : firstOf (planTests set k l) ≡ 0
   unfolding planReply
   planned-none = replied-answer (firstOf (planTests set k l)) (partsOf set) p h .0
 
-  list-none : firstOf (listTests set k) ≡ 0
-  unfolding planTests
-  list-none = earlier-listed set k (first-of-none (earlierTests set k) _ planned-none)
-
   pub planned-accepted : Accepted set
-  planned-accepted = accepted set (listed-set set k list-none)
-
-  some-words : onlyEmpty (widthOf set) (columnsOf set) ≡ false
-  some-words =
-      let later = none-and-rest (ltb (widthOf set) (rank (columnsOf set))) 15 _ (sym (after-list set k l list-none) ∙ planned-none) in
-      none-and-rest (onlyEmpty (widthOf set) (columnsOf set)) 16 _ (later .1) .0
-
-  words-count : (1 ≤ length (wordsOf set)) × (length (wordsOf set) ≤ widthOf set)
-  unfolding wordsOf columnsOf
-  words-count =
-      let positive : length (wordsOf set) ≡ 0 → ⊥ = eqb-false (length (wordsOf set)) 0 (sym (only-empty-list (widthOf set) (columnsOf set)) ∙ some-words) in
-      (omega arith, words-most set planned-accepted)
+  planned-accepted = numbers.planned-accepted set k l planned-none
 
   -- the plan writer takes m, the words and the expected bits
   pub planned-content : Content (planContent (widthOf set) (wordsOf set) (expectedOf set))
-  unfolding wordsOf columnsOf expectedOf
+  unfolding expectedOf
   planned-content =
       record {
         width-positive = accepted-width set planned-accepted .0;
         width-most = accepted-width set planned-accepted .1;
-        count-positive = words-count .0;
-        count-most = words-count .1;
-        reduced = reduced-list-reduced (widthOf set) (columnsOf set) (accepted-width set planned-accepted .1);
+        count-positive = numbers.words-count set k l planned-none .0;
+        count-most = numbers.words-count set k l planned-none .1;
+        reduced = numbers.words-reduced set k l planned-none;
         expected-inside = parities-lt (wordsOf set) (zeroSignature set);
       }
 

@@ -4,6 +4,7 @@
 --   seventeen-exactly   .. so it gives 17 only when every signature of the register's width is explained, and always then where no
 --                       number before 17 applies
 --   planned-seventeen   planning itself
+--   words-seventeen     the call that gives the words alone
 --   record-seventeen    judging a record by the plan of its set; each of two records
 --   text-seventeen      the plan printer's text, for any column places and word places: its line `refused 17`
 -- Assumes nothing.
@@ -12,20 +13,21 @@ use mathlib.Core.Bool.{true}
 use mathlib.Core.List.{List}
 use Prim.Native.Nat.{ℕ, _^_, _<_}
 use native.Mathlib.Omega.{arith}
-use Rattle.word.specs.Reply.{Test, Reply, answer, refusal, replied, firstOf}
+use Rattle.word.specs.Reply.{Test, Reply, answer, refusal, replied, firstOf, after}
 use Rattle.word.proofs.TestLaws.{replied-number}
 use Rattle.set_layout.specs.Layout.{widthOf}
 use Rattle.set_file.specs.Reading.{setTests}
 use Rattle.signatures.specs.Sets.{Explained}
 use Rattle.signing.specs.Signing.{signTests, signReply}
-use Rattle.planner.specs.Planning.{wordsOf, PlanParts, earlierTests, planReply}
+use Rattle.planner.specs.Planning.{wordsOf, WordParts, wordsReply, PlanParts, earlierTests, planReply}
+use Rattle.planner.proofs.InARow.{words-of-plan}
 use Rattle.plan_file.specs.Checking.{planFileTests}
 use Rattle.plan_writer.specs.Writing.{PlanContent, planContent, planWriteTests, planWriteReply}
 use Rattle.judge.specs.Verdict.{judgeTests, judgeReply}
 use Rattle.plan_lines.specs.Lines.{refusedLine}
 use Rattle.plan_text.specs.PlanText.{planText}
 use Rattle.plan_text.proofs.RefusalLaws.{refused-text}
-use Rattle.guarantee.specs.AtWork.{after, madeReply, planOf, signedReply, recordReply}
+use Rattle.guarantee.specs.AtWork.{madeReply, planOf, signedReply, recordReply}
 use Rattle.guarantee.proofs.Planned.{without, first-of-without}
 use Rattle.guarantee.proofs.Theorems.{seventeen-explained, explained-seventeen}
 
@@ -62,6 +64,17 @@ pub planned-seventeen : (set : List ℕ) (k l : ℕ)
     → (planReply set k l ≡ refusal 17 → (y : ℕ) → y < 2 ^ widthOf set → Explained set y)
     × (firstOf (earlierTests set k) ≡ 0 → ((y : ℕ) → y < 2 ^ widthOf set → Explained set y) → planReply set k l ≡ refusal 17)
 planned-seventeen set k l = (seventeen-explained set k l, explained-seventeen set k l)
+
+-- the call that gives the words is planning without its last part
+answered-never : (p : PlanParts) → _≡_ {A = Reply WordParts} (answer (record { m = p .m; q = p .q })) (refusal 17) → ⊥
+answered-never p h = let z : _≡_ {A = ℕ} 0 1 = cc in omega arith
+
+pub words-seventeen : (set : List ℕ) (k l : ℕ)
+    → (wordsReply set k l ≡ refusal 17 → (y : ℕ) → y < 2 ^ widthOf set → Explained set y)
+    × (firstOf (earlierTests set k) ≡ 0 → ((y : ℕ) → y < 2 ^ widthOf set → Explained set y) → wordsReply set k l ≡ refusal 17)
+words-seventeen set k l =
+    let both = seventeen-exactly set k l (λ (p : PlanParts). answer (record { m = p .m; q = p .q })) answered-never in
+    ((λ h. both .0 (sym (words-of-plan set k l) ∙ h)), (λ h e. words-of-plan set k l ∙ both .1 h e))
 
 -- ---- judging a record by the plan of its set
 

@@ -5,7 +5,7 @@ use Prim.Native.Nat.{ℕ, _≤_}
 use native.Mathlib.Omega.{arith}
 use lib.ListN.{length, take}
 use Rattle.word.specs.Parities.{parities}
-use Rattle.word.specs.Reply.{Reply, answer, refusal, firstOf, lent, numberOf}
+use Rattle.word.specs.Reply.{Reply, answer, refusal, firstOf, lent, numberOf, after}
 use Rattle.word.proofs.ReplyLaws.{front-part}
 use Rattle.word.proofs.TestLaws.{replied-answer}
 use Rattle.signing.specs.Signing.{signReply, saidSigned}
@@ -20,7 +20,7 @@ use Rattle.plan_writer.specs.declared.Written.{Written}
 use Rattle.plan_writer.proofs.WriteLaws.{length-plan-bytes}
 use Rattle.judge.specs.Verdict.{Finding, verdict, judgeReply}
 use Rattle.guarantee.specs.Demand.{Alike, planFile}
-use Rattle.guarantee.specs.AtWork.{after, madeReply, planOf, fileAfter, signedReply, recordReply}
+use Rattle.guarantee.specs.AtWork.{madeReply, planOf, fileAfter, signedReply, recordReply}
 use Rattle.guarantee.proofs.Theorems.{planned-parts, plan-written, plan-judged, signed-within, same-for-alike-records}
 
 -- ---- one call after another

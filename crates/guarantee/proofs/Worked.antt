@@ -1,9 +1,11 @@
 -- The starred lines of document 01, "Worked on paper", proved of the definitions as one table: each line through the reply of the
--- call that it is about; and behind them the clock and the sample with an inversion word, 5, worked by hand. Assumes nothing.
+-- call that it is about; and behind them, worked by hand, the clock and the sample with an inversion word, 5, and planning in two calls:
+-- the sample's words, and the expected bits of its own words, of others, and of lists that are refused. Assumes nothing.
 --
 --   wrote r vs         what a call with the reply r writes to a lent list: vs after an answer
 --   next r             the state that the clock's reply r gives
 --   expectedIn r       the expected bits in planning's reply r
+--   bitsIn r           the expected bits in the reply r of the call that gives them; a refusal's number twice
 --   indexIn r          judging's reply r as a list: nothing where the signature passes, the index where it fails
 use mathlib.Core.Path.{_≡_, refl}
 use mathlib.Core.Bool.{true}
@@ -33,7 +35,8 @@ use Rattle.signatures.specs.Signature.{runs, column}
 use Rattle.signatures.specs.Columns.{sliceColumns, columnsBelow}
 use Rattle.signatures.specs.Sets.{columnsOf, unknownsOf, zeroSignature}
 use Rattle.columns.specs.Listing.{listTests, listReply}
-use Rattle.planner.specs.Planning.{wordsOf, expectedOf, PlanParts, partsOf, earlierTests, planTests, planReply}
+use Rattle.expectation.specs.Expecting.{expectTests, expectReply}
+use Rattle.planner.specs.Planning.{wordsOf, expectedOf, wordsReply, PlanParts, partsOf, earlierTests, planTests, planReply}
 use Rattle.reduced_list.specs.WordCount.{badWordCount}
 use Rattle.plan_file.specs.Checking.{badPlanWidth, badPlanCount, badPlanEnd, planFileTests}
 use Rattle.plan_writer.specs.Writing.{planBytes}
@@ -53,6 +56,10 @@ rankIn (refusal n) = []
 abbrev expectedIn : Reply PlanParts → List ℕ
 expectedIn (answer p) = p .expected ∷ []
 expectedIn (refusal n) = n ∷ n ∷ []
+
+abbrev bitsIn : Reply ℕ → List ℕ
+bitsIn (answer e) = e ∷ []
+bitsIn (refusal n) = n ∷ n ∷ []
 
 abbrev indexOf : Outcome → List ℕ
 indexOf passes = []
@@ -100,8 +107,15 @@ worked =
     ∷ record { given = indexIn (sampleJudged 5 7); printed = [] }
     ∷ record { given = indexIn (sampleJudged 5 4); printed = [] }
     ∷ record { given = indexIn (sampleJudged 5 3); printed = 1 ∷ [] }
+    ∷ record { given = wrote (wordsReply (sample 0) 1 2) (wordsOf (sample 0)); printed = 3 ∷ 4 ∷ [] }
+    ∷ record { given = bitsIn (expectReply (sample 0) (3 ∷ 4 ∷ [])); printed = 0 ∷ [] }
+    ∷ record { given = bitsIn (expectReply (sample 0) (1 ∷ 2 ∷ 4 ∷ [])); printed = 3 ∷ [] }
+    ∷ record { given = bitsIn (expectReply (sample 0) []); printed = 20 ∷ 20 ∷ [] }
+    ∷ record { given = bitsIn (expectReply (sample 0) (4 ∷ 3 ∷ 2 ∷ 1 ∷ [])); printed = 20 ∷ 20 ∷ [] }
+    ∷ record { given = bitsIn (expectReply (sample 0) (4 ∷ 3 ∷ [])); printed = 21 ∷ 21 ∷ [] }
+    ∷ record { given = bitsIn (expectReply (sample 5) (1 ∷ 2 ∷ 4 ∷ [])); printed = 7 ∷ [] }
     ∷ []
 
 pub worked-agrees : agrees worked ≡ true
-unfolding worked sample eliminationReply eliminationTests clockReply clockTests listReply listTests setTests planReply planTests earlierTests judgeReply judgeTests planFileTests planFile planBytes badWidth badTaps badChains badSpread badSlices badPlanWidth badPlanCount badPlanEnd badWordCount spareSet beyond anyBelow anyOf allOf front number numberAt wordsAt bytesOf wordBytes joined parities parity ones onesIn highestBit leadingZeros rank rankAfter grown xFree onlyEmpty reducedList wordsBelow independent made xorRows isReduced ascending topsClear advanced driven clocked valueRow markRow runs column sliceColumns columnsBelow columnsOf unknownsOf total zeroSignature wordsOf expectedOf verdictFrom
+unfolding worked sample eliminationReply eliminationTests clockReply clockTests listReply listTests setTests expectReply expectTests wordsReply planReply planTests earlierTests judgeReply judgeTests planFileTests planFile planBytes badWidth badTaps badChains badSpread badSlices badPlanWidth badPlanCount badPlanEnd badWordCount spareSet beyond anyBelow anyOf allOf front number numberAt wordsAt bytesOf wordBytes joined parities parity ones onesIn highestBit leadingZeros rank rankAfter grown xFree onlyEmpty reducedList wordsBelow independent made xorRows isReduced ascending topsClear advanced driven clocked valueRow markRow runs column sliceColumns columnsBelow columnsOf unknownsOf total zeroSignature wordsOf expectedOf verdictFrom
 worked-agrees = refl

@@ -4,6 +4,7 @@
 --
 --   Alike set r v       the records r and v are alike in every known cell of the set
 --   planFile set p      the plan file that the plan writer makes of planning's answer p for the set
+--   withExpected file e  the plan file that the plan writer makes of the plan in a file with the expected bits e in place of its own
 --   FirstDisagrees      word i of the plan is the first whose cancelled bit for the signature y isn't the expected bit
 use mathlib.Core.Path.{_≡_}
 use mathlib.Core.List.{List}
@@ -13,6 +14,7 @@ use Rattle.word.specs.Word.{parity}
 use Rattle.set_layout.specs.Layout.{chainsOf}
 use Rattle.signatures.specs.Sets.{Known, recordCells, zeroSignature}
 use Rattle.planner.specs.Planning.{PlanParts, wordsOf}
+use Rattle.plan_file.specs.Layout.{fileWidth, fileWords}
 use Rattle.plan_writer.specs.Writing.{planContent, planBytes}
 
 abbrev pub Alike : List ℕ → List ℕ → List ℕ → Type 0
@@ -21,6 +23,9 @@ Alike set r v =
 
 unfoldable pub planFile : List ℕ → PlanParts → List ℕ
 planFile set p = planBytes (planContent (p .m) (wordsOf set) (p .expected))
+
+unfoldable pub withExpected : List ℕ → ℕ → List ℕ
+withExpected file e = planBytes (planContent (fileWidth file) (fileWords file) e)
 
 pub record FirstDisagrees (set : List ℕ) (y i : ℕ) : Type 0 where
   pub listed : i < length (wordsOf set)

@@ -15,7 +15,8 @@ use Rattle.columns.specs.Listing.{listTests, columnsAfter}
 use Rattle.planner.specs.Planning.{PlanParts, wordsOf, earlierTests, planTests, partsOf, planReply, said}
 use Rattle.planner.specs.declared.Planned.{Planned}
 use Rattle.planner.specs.declared.Planned.the-variants.{Plan, Refused}
-use Rattle.planner.proofs.CallLaws.{Ends, words-few, planned-parts, words-front}
+use Rattle.planner.proofs.NumberLaws.{words-few}
+use Rattle.planner.proofs.CallLaws.{Ends, planned-parts, words-front}
 use Rattle.text.specs.Text.{Put}
 use Rattle.text.proofs.PutLaws.{put-then, put-front}
 use Rattle.plan_lines.specs.Lines.{setLine, wordLines, endLine, refusedLine}

@@ -1,3 +1,4 @@
 pub mod NumberLaws
 pub mod CallLaws
 pub mod InARow
+pub mod Revised

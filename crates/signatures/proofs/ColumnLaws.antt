@@ -130,16 +130,17 @@ module _ (k : Circuit) (s : ℕ) (u : Response) where
 
   -- ---- the marks alone decide which columns there are
 
-  slice-columns-ext : (v : Response) (t c : ℕ) → ((d : ℕ) → u t d ≡ v t d) → sliceColumns k s u t c ≡ sliceColumns k s v t c
+  slice-columns-ext : (v : Response) (t c : ℕ) → ((d : ℕ) → d < c → u t d ≡ v t d) → sliceColumns k s u t c ≡ sliceColumns k s v t c
   unfolding sliceColumns
   slice-columns-ext v t zero h = refl
   slice-columns-ext v t (suc c) h =
-      ap₂ _++_ (slice-columns-ext v t c h) (ap (λ (d : ℕ). listed d (column k s t c)) (h c))
+      ap₂ _++_ (slice-columns-ext v t c (λ d l. h d (omega (arith, l)))) (ap (λ (d : ℕ). listed d (column k s t c)) (h c (omega arith)))
 
-  pub columns-ext : (v : Response) (t : ℕ) → ((t c : ℕ) → u t c ≡ v t c) → columnsBelow k s u t ≡ columnsBelow k s v t
+  pub columns-ext : (v : Response) (t : ℕ) → ((i c : ℕ) → i < t → c < chains k → u i c ≡ v i c) → columnsBelow k s u t ≡ columnsBelow k s v t
   unfolding columnsBelow
   columns-ext v zero h = refl
-  columns-ext v (suc t) h = ap₂ _++_ (columns-ext v t h) (slice-columns-ext v t (chains k) (h t))
+  columns-ext v (suc t) h =
+      ap₂ _++_ (columns-ext v t (λ i c l. h i c (omega (arith, l)))) (slice-columns-ext v t (chains k) (λ c. h t c (omega arith)))
 
   -- ---- no column has a bit at or above the width
 

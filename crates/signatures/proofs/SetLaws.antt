@@ -1,5 +1,5 @@
 -- The columns and the signature for all unknowns 0 of a taken set. Assumes nothing.
-use mathlib.Core.Path.{_≡_, refl, sym, ap, _∙_}
+use mathlib.Core.Path.{_≡_, refl, sym, ap, ap₂, _∙_}
 use mathlib.Core.Bool.{Bool, true, false, cond}
 use mathlib.Core.Logic.{⊎-elim}
 use mathlib.Core.List.{List}
@@ -14,17 +14,18 @@ use Rattle.rows.proofs.CellLaws.{cell-lt}
 use Rattle.rows.proofs.MarkLaws.{total-ext, row-total}
 use Rattle.rows.specs.Row.{cell}
 use Rattle.rows.specs.Marks.{total}
-use Rattle.register.specs.Circuit.{chains}
+use Rattle.register.specs.Circuit.{Circuit, chains}
 use Rattle.register.proofs.Laws.{good-taps, good-inversion}
 use Rattle.chains.proofs.Laws.{good-spread}
 use Rattle.set_layout.specs.Layout.{widthOf, tapsOf, inversionOf, chainsOf, spreadOf, slicesOf, circuitOf, valueRow, markRow, values, marks}
 use Rattle.set_layout.proofs.LayoutLaws.{spread-length}
 use Rattle.set_file.proofs.Laws.{Accepted, accepted-chains, mark-row-length, mark-row-clean, unknown-unvalued}
 use Rattle.signatures.specs.Signature.{Response, signature}
+use Rattle.signatures.specs.Columns.{columnsBelow}
 use Rattle.signatures.specs.Given.{zeroed}
-use Rattle.signatures.specs.Sets.{given, columnsOf, unknownsOf, placesOf, zeroSignature}
+use Rattle.signatures.specs.Sets.{given, columnsOf, unknownsOf, placesOf, zeroSignature, Revised}
 use Rattle.signatures.proofs.SignatureLaws.{signature-ext, signature-lt}
-use Rattle.signatures.proofs.ColumnLaws.{length-columns-below, columns-within}
+use Rattle.signatures.proofs.ColumnLaws.{length-columns-below, columns-ext, columns-within}
 
 module _ (set : List ℕ) where
   pub values-lt : (t c : ℕ) → values set t c < 2
@@ -37,6 +38,16 @@ module _ (set : List ℕ) where
   pub length-columns : length (columnsOf set) ≡ unknownsOf set
   unfolding columnsOf unknownsOf
   length-columns = length-columns-below (circuitOf set) (slicesOf set) (marks set) marks-lt (slicesOf set)
+
+-- a set with other values has the same columns, and as many unknown cells
+pub revised-columns : (old new : List ℕ) → Revised old new → columnsOf old ≡ columnsOf new
+unfolding columnsOf
+revised-columns old new r =
+    columns-ext (circuitOf old) (slicesOf old) (marks old) (marks new) (slicesOf old) (r .marks)
+    ∙ ap₂ (λ (k : Circuit) (s : ℕ). columnsBelow k s (marks new) s) (r .wiring) (r .slices)
+
+pub revised-unknowns : (old new : List ℕ) → Revised old new → unknownsOf old ≡ unknownsOf new
+revised-unknowns old new r = sym (length-columns old) ∙ ap length (revised-columns old new r) ∙ length-columns new
 
 module _ (set : List ℕ) (a : Accepted set) where
   -- no column has a bit at or above the width

@@ -10,6 +10,8 @@
 --   unknownsFor g       document 01: the number of unknown cells
 --   zeroed g            the filling that gives every unknown cell a 0
 --   zeroSignatureFor g  document 01: the signature for all unknowns 0
+--   RevisedFrom g h     h has the register, the chains, the number of slices and the marks of g; its values may be others. Document 02,
+--                       No. 2: "Designers correct expected values weekly while the unknown marks stay."
 use mathlib.Core.Path.{_≡_}
 use mathlib.Core.Bool.{cond}
 use mathlib.Core.List.{List}
@@ -51,3 +53,8 @@ zeroed g t c = cond (eqb (g .marks t c) 0) (g .values t c) 0
 
 abbrev pub zeroSignatureFor : Given → ℕ
 zeroSignatureFor g = signature (g .wiring) (zeroed g) (g .slices)
+
+pub record RevisedFrom (g h : Given) : Type 0 where
+  pub wiring : g .wiring ≡ h .wiring
+  pub slices : g .slices ≡ h .slices
+  pub marks : (t c : ℕ) → t < g .slices → c < chains (g .wiring) → g .marks t c ≡ h .marks t c

@@ -8,6 +8,7 @@
 --   unknownsOf set      document 01: the number of unknown cells
 --   placesOf set        the places that a list of the set's columns needs
 --   zeroSignature set   document 01: the signature for all unknowns 0
+--   Revised old new     the set `new` is `old` with other values
 --   recordCells n r     the cells of a record r of n chains. Document 01: "Record: s value rows and nothing else"
 use mathlib.Core.List.{List}
 use Prim.Native.Nat.{ℕ}
@@ -15,7 +16,7 @@ use Rattle.rows.specs.Row.{cell}
 use Rattle.rows.specs.Lists.{listRow}
 use Rattle.set_layout.specs.Layout.{circuitOf, slicesOf, values, marks}
 use Rattle.signatures.specs.Signature.{Response}
-use Rattle.signatures.specs.Given.{Given, KnownCell, FillingOf, ExplainedBy, columnsFor, unknownsFor, zeroSignatureFor}
+use Rattle.signatures.specs.Given.{Given, KnownCell, FillingOf, ExplainedBy, columnsFor, unknownsFor, zeroSignatureFor, RevisedFrom}
 
 abbrev pub given : List ℕ → Given
 given set = record { wiring = circuitOf set; slices = slicesOf set; values = values set; marks = marks set }
@@ -40,6 +41,9 @@ placesOf set = unknownsOf set
 
 unfoldable pub zeroSignature : List ℕ → ℕ
 zeroSignature set = zeroSignatureFor (given set)
+
+abbrev pub Revised : List ℕ → List ℕ → Type 0
+Revised old new = RevisedFrom (given old) (given new)
 
 abbrev pub recordCells : ℕ → List ℕ → Response
 recordCells n r t = cell (listRow n r t)

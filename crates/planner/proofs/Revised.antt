@@ -1,0 +1,78 @@
+-- The reason for the split. Document 02, No. 2: "Designers correct expected values weekly while the unknown marks stay." Sets with the same
+-- register, chains, slice count and marks have the same words, whatever their values.
+--
+--   same-words          the words
+--   same-width          the registers' widths
+--   same-number         the first number that planning meets, where both sets meet none of the set's numbers
+--   same-words-reply    .. so the whole reply of the call that gives the words
+--   same-columns-after  .. and the column list that it leaves
+-- Assumes nothing.
+use mathlib.Core.Path.{_≡_, refl, sym, ap, ap₂, _∙_}
+use mathlib.Core.List.{List, [], _∷_, _++_}
+use Prim.Native.Nat.{ℕ, zero, suc}
+use native.Mathlib.Omega.{arith}
+use lib.Dec.{ltb}
+use lib.ListN.{length}
+use Rattle.word.specs.Reply.{Test, _when_, Reply, replied, firstOf, lent}
+use Rattle.word.proofs.TestLaws.{first-of-later}
+use Rattle.combinations.specs.Combination.{rank, onlyEmpty}
+use Rattle.combinations.specs.Reduced.{reducedList}
+use Rattle.register.specs.Circuit.{Circuit}
+use Rattle.set_layout.specs.Layout.{widthOf}
+use Rattle.set_file.specs.Reading.{setTests}
+use Rattle.set_file.proofs.Laws.{set-numbered}
+use Rattle.signatures.specs.Sets.{columnsOf, unknownsOf, placesOf, Revised}
+use Rattle.signatures.proofs.SetLaws.{revised-columns, revised-unknowns}
+use Rattle.columns.specs.Listing.{listTests, listReply, columnsAfter}
+use Rattle.planner.specs.Planning.{wordsOf, planTests, WordParts, wordPartsOf, wordsReply}
+use Rattle.planner.proofs.NumberLaws.{later, plan-sooner, plan-later}
+
+-- the first number of two lists of tests, by that of each
+abbrev firstNumber : ℕ → ℕ → ℕ
+firstNumber zero n = n
+firstNumber (suc k) n = suc k
+
+plan-number : (set : List ℕ) (k l : ℕ) → firstOf (planTests set k l) ≡ firstNumber (firstOf (listTests set k)) (firstOf (later set l))
+plan-number set k l = go (firstOf (listTests set k)) refl
+  where
+    go : (n : ℕ) → firstOf (listTests set k) ≡ n → firstOf (planTests set k l) ≡ firstNumber n (firstOf (later set l))
+    go zero h = plan-later set k l h
+    go (suc n) h = plan-sooner set k l (λ z. omega (arith, h, z)) ∙ h
+
+module _ (old new : List ℕ) (r : Revised old new) where
+  pub same-width : widthOf old ≡ widthOf new
+  same-width = ap (λ (k : Circuit). k .width) (r .wiring)
+
+  pub same-words : wordsOf old ≡ wordsOf new
+  unfolding wordsOf columnsOf
+  same-words = ap₂ reducedList same-width (revised-columns old new r)
+
+  module _ (ho : firstOf (setTests old) ≡ 0) (hn : firstOf (setTests new) ≡ 0) where
+    list-first : (set : List ℕ) (k : ℕ) → firstOf (setTests set) ≡ 0 → firstOf (listTests set k) ≡ firstOf (14 when ltb k (placesOf set) ∷ [])
+    unfolding listTests
+    list-first set k h = first-of-later (setTests set) _ (set-numbered set) h
+
+    same-list : (k : ℕ) → firstOf (listTests old k) ≡ firstOf (listTests new k)
+    same-list k =
+        list-first old k ho ∙ ap (λ (u : ℕ). firstOf (14 when ltb k u ∷ [])) (revised-unknowns old new r) ∙ sym (list-first new k hn)
+
+    same-later : (l : ℕ) → firstOf (later old l) ≡ firstOf (later new l)
+    same-later l =
+        rw (same-width, revised-columns old new r, same-words) refl
+
+    pub same-number : (k l : ℕ) → firstOf (planTests old k l) ≡ firstOf (planTests new k l)
+    same-number k l = plan-number old k l ∙ ap₂ firstNumber (same-list k) (same-later l) ∙ sym (plan-number new k l)
+
+    pub same-words-reply : (k l : ℕ) → wordsReply old k l ≡ wordsReply new k l
+    unfolding wordsReply
+    same-words-reply k l =
+        ap₂ (λ (n : ℕ) (p : WordParts). replied n p) (same-number k l) parts
+      where
+        parts : wordPartsOf old ≡ wordPartsOf new
+        parts = ap₂ (λ (m q : ℕ). record { m = m; q = q }) same-width (ap length same-words)
+
+    pub same-columns-after : (cs : List ℕ) → columnsAfter old cs ≡ columnsAfter new cs
+    unfolding listReply
+    same-columns-after cs =
+        ap₂ (λ (n : ℕ) (vs : List ℕ). lent (replied n (unknownsOf old)) vs cs) (same-list (length cs)) (revised-columns old new r)
+        ∙ ap (λ (u : ℕ). lent (replied (firstOf (listTests new (length cs))) u) (columnsOf new) cs) (revised-unknowns old new r)
