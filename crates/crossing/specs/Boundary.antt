@@ -72,10 +72,6 @@ abbrev pub wordedOf : Reply WordParts → CWorded
 wordedOf (answer p) = record { refusal = 0; m = p .m; q = p .q }
 wordedOf (refusal k) = record { refusal = k; m = 0; q = 0 }
 
-abbrev pub expectedTo : Reply ℕ → CExpected
-expectedTo (answer e) = record { refusal = 0; expected = e }
-expectedTo (refusal k) = record { refusal = k; expected = 0 }
-
 abbrev pub plannedOf : Reply PlanParts → CPlanned
 plannedOf (answer p) = record { refusal = 0; m = p .m; q = p .q; expected = p .expected }
 plannedOf (refusal k) = record { refusal = k; m = 0; q = 0; expected = 0 }
@@ -83,6 +79,10 @@ plannedOf (refusal k) = record { refusal = k; m = 0; q = 0; expected = 0 }
 abbrev pub readOf : Reply PlanFileParts → CPlanned
 readOf (answer p) = plannedOf (answer (record { m = p .m; q = p .q; expected = p .expected }))
 readOf (refusal k) = plannedOf (refusal k)
+
+abbrev pub expectedTo : Reply ℕ → CExpected
+expectedTo (answer e) = record { refusal = 0; expected = e }
+expectedTo (refusal k) = record { refusal = k; expected = 0 }
 
 abbrev pub judgedFor : ℕ → Outcome → CJudged
 judgedFor b passes = record { refusal = 0; cancelled = b; failed = 0; index = 0 }

@@ -15,7 +15,8 @@ use Rattle.elimination.specs.Elimination.{Counts, eliminationReply, said as eli
 use Rattle.elimination.specs.declared.Eliminated.{Eliminated}
 use Rattle.elimination.proofs.Theorems.{later-numbers}
 use Rattle.set_layout.specs.Layout.{widthOf}
-use Rattle.set_file.proofs.Laws.{Accepted}
+use Rattle.set_file.specs.Reading.{setTests}
+use Rattle.set_file.proofs.Laws.{Accepted, accepted}
 use Rattle.signatures.specs.Sets.{columnsOf, unknownsOf}
 use Rattle.signatures.proofs.SetLaws.{length-columns, columns-of-within}
 use Rattle.columns.proofs.CallLaws.{Lists}
@@ -25,7 +26,7 @@ use Rattle.planner.specs.Planning.{wordsOf, expectedOf, planTests, WordP
 use Rattle.planner.specs.declared.Worded.{Worded}
 use Rattle.planner.specs.declared.Planned.{Planned}
 use Rattle.planner.specs.declared.Planned.the-variants.{Plan, Refused}
-use Rattle.planner.proofs.NumberLaws.{later, plan-sooner, plan-later, words-few, planned-accepted}
+use Rattle.planner.proofs.NumberLaws.{later, plan-sooner, plan-later, words-few, planned-none}
 
 -- what the call that gives the words answers, w, and leaves in the column list cs, cs′, and in the word list ws, ws′
 abbrev pub WordsEnd : List ℕ → List ℕ → List ℕ → Worded → List ℕ → List ℕ → Type 0
@@ -165,6 +166,10 @@ module _ (set cs ws cs′ ws′ : List ℕ) (w : Worded) (end : WordsEnd set cs 
     unfolding wordsReply
     worded-both = replied-answer (firstOf (planTests set (length cs) (length ws))) (wordPartsOf set) (record { m = m; q = q }) worded
 
+    -- the set meets none of its numbers
+    pub worded-set : firstOf (setTests set) ≡ 0
+    worded-set = planned-none set (length cs) (length ws) (worded-both .0)
+
     pub worded-words : (q ≤ length ws′) × (take q ws′ ≡ wordsOf set)
     worded-words =
         front-part (wordsOf set) ws ws′ q (end .1 .1 ∙ ap (λ (x : Reply WordParts). lent x (wordsOf set) ws) worded)
@@ -172,7 +177,7 @@ module _ (set cs ws cs′ ws′ : List ℕ) (w : Worded) (end : WordsEnd set cs 
 
     pub worded-few : length (take q ws′) ≤ 64
     worded-few =
-        omega (arith, ap length (worded-words .1), words-few set (planned-accepted set (length cs) (length ws) (worded-both .0)))
+        omega (arith, ap length (worded-words .1), words-few set (accepted set worded-set))
 
     pub ends-planned : (y : ℕ) → y ≡ expectedFor set (take q ws′) → Ends set cs ws (Plan m q y) cs′ ws′
     unfolding planReply expectedOf

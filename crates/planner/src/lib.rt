@@ -2,11 +2,12 @@
 // list of words. Planning is the two calls in a row: the words, then the expected bits for them.
 ghost use mathlib.Core.Path.{_≡_};
 ghost use lib.ListN.{length};
-ghost use Rattle.word.specs.Reply.{lent, numberOf};
-ghost use Rattle.set_file.specs.Reading.{TakenFrom};
+ghost use Rattle.word.specs.Reply.{firstOf, lent, numberOf};
+ghost use Rattle.set_file.specs.Reading.{setTests, TakenFrom};
 ghost use Rattle.columns.specs.Listing.{columnsAfter};
 ghost use Rattle.planner.specs.Planning.{wordsOf, wordsReply, saidWorded, planReply, said};
 use elimination::Eliminated;
+use register::Register;
 use set_file::SetAnswer;
 use set_file::Taken;
 
@@ -22,7 +23,13 @@ pub enum Planned {
     Refused { number: u64 },
 }
 
-// The words of a taken set, which both calls make: past the set's numbers it meets 14, 16, 17 and 18. It reads the marks and no value.
+// What both calls make: the answer about the words, and the set as it was taken.
+struct Made {
+    worded: Worded,
+    taken: Taken,
+}
+
+// The words of a taken set. Past the set's numbers it meets 14, 16, 17 and 18. It reads the marks and no value.
 fn fill_words(taken: Taken, set: &[u8], columns: &mut [u64], words: &mut [u64]) -> Worded
     ensures { λ r. ⌜ (TakenFrom (now (set .entry)) taken → (saidWorded r ≡ wordsReply (now (set .entry)) (length (now (columns .entry))) (length (now (words .entry)))) × ((now (columns .exit) ≡ columnsAfter (now (set .entry)) (now (columns .entry))) × (now (words .exit) ≡ lent (wordsReply (now (set .entry)) (length (now (columns .entry))) (length (now (words .entry)))) (wordsOf (now (set .entry))) (now (words .entry))))) ⌝ }
 {
@@ -44,6 +51,39 @@ fn fill_words(taken: Taken, set: &[u8], columns: &mut [u64], words: &mut [u64]) 
     Worded::Words { m, q }
 }
 
+// The set read and its words made, for both calls: what is answered, and the set as it was taken. Meets the set's numbers, then 14, 16,
+// 17 and 18.
+fn make_words(set: &[u8], columns: &mut [u64], words: &mut [u64]) -> Made
+    ensures taken { λ r. ⌜ (firstOf (setTests (now (set .entry))) ≡ 0 → TakenFrom (now (set .entry)) (r .taken)) ⌝ }
+    ensures answer { λ r. ⌜ saidWorded (r .worded) ≡ wordsReply (now (set .entry)) (length (now (columns .entry))) (length (now (words .entry))) ⌝ }
+    ensures columns { λ _. ⌜ now (columns .exit) ≡ columnsAfter (now (set .entry)) (now (columns .entry)) ⌝ }
+    ensures words { λ _. ⌜ now (words .exit) ≡ lent (wordsReply (now (set .entry)) (length (now (columns .entry))) (length (now (words .entry)))) (wordsOf (now (set .entry))) (now (words .entry)) ⌝ }
+{
+    let read = set_file::read_set(set);
+    let answer = read.answer;
+    let spread = read.spread;
+    let SetAnswer::Read { register, n, s } = answer else {
+        let number = set_file::number_of(answer);
+        return Made {
+            worded: Worded::Refused { number },
+            taken: Taken {
+                register: Register::fresh(0, 0, 0),
+                n: 0,
+                s: 0,
+                spread,
+            },
+        };
+    };
+    let taken = Taken {
+        register,
+        n,
+        s,
+        spread,
+    };
+    let worded = fill_words(taken, set, columns, words);
+    Made { worded, taken }
+}
+
 // The words of a set, the first of the two calls of document 02. Answers with m and q, and writes the q words over the front of
 // `words`. Meets the set's numbers, then 14, 16, 17 and 18. A refusal writes nothing, but that past 14 the front of `columns` holds the
 // columns.
@@ -52,21 +92,8 @@ pub fn plan_words(set: &[u8], columns: &mut [u64], words: &mut [u64]) -> Worded
     ensures columns { λ _. ⌜ now (columns .exit) ≡ columnsAfter (now (set .entry)) (now (columns .entry)) ⌝ }
     ensures words { λ _. ⌜ now (words .exit) ≡ lent (wordsReply (now (set .entry)) (length (now (columns .entry))) (length (now (words .entry)))) (wordsOf (now (set .entry))) (now (words .entry)) ⌝ }
 {
-    let read = set_file::read_set(set);
-    let answer = read.answer;
-    let SetAnswer::Read { register, n, s } = answer else {
-        return Worded::Refused {
-            number: set_file::number_of(answer),
-        };
-    };
-    let spread = read.spread;
-    let taken = Taken {
-        register,
-        n,
-        s,
-        spread,
-    };
-    fill_words(taken, set, columns, words)
+    let made = make_words(set, columns, words);
+    made.worded
 }
 
 // The number of a refusal to give words; 0 of an answer.
@@ -87,21 +114,9 @@ pub fn plan(set: &[u8], columns: &mut [u64], words: &mut [u64]) -> Planned
     ensures columns { λ _. ⌜ now (columns .exit) ≡ columnsAfter (now (set .entry)) (now (columns .entry)) ⌝ }
     ensures words { λ _. ⌜ now (words .exit) ≡ lent (planReply (now (set .entry)) (length (now (columns .entry))) (length (now (words .entry)))) (wordsOf (now (set .entry))) (now (words .entry)) ⌝ }
 {
-    let read = set_file::read_set(set);
-    let answer = read.answer;
-    let SetAnswer::Read { register, n, s } = answer else {
-        return Planned::Refused {
-            number: set_file::number_of(answer),
-        };
-    };
-    let spread = read.spread;
-    let taken = Taken {
-        register,
-        n,
-        s,
-        spread,
-    };
-    let worded = fill_words(taken, set, columns, words);
+    let made = make_words(set, columns, words);
+    let worded = made.worded;
+    let taken = made.taken;
     let Worded::Words { m, q } = worded else {
         return Planned::Refused {
             number: words_number(worded),

@@ -24,22 +24,16 @@ slice-aggregate-eliminate c = sym (length-take-le _ _ (search needs))
 returns-2 : tie.Need-returns-2
 returns-2 c =
     let args = c .before .before .before .before .before .before .before .before .before .before .before .before .before .before .before .before .before .before .before .args in
-    let eliminated = c .before .before .before .before .before .eliminate .ensures in
     λ taken.
-    words-uneliminated _ (args .columns .now) _ (args .words .now) (accepted _ (taken .none)) _
-    (list-answers _ (args .columns .now) _ taken _ (c .before .before .before .before .before .before .before .before .before .before .before .before .before .before .mark-rows .ensures) _ (c .before .before .before .before .before .before .before .before .before .before .before .before .before .count-marks .ensures) _ (search needs)
-    (c .before .before .before .before .before .before .before .before .before .before .fill-columns .ensures))
-    _ (taken .width) _ _ (told _ _ _ (c .before .enum-told .given .1) (c .number-of .ensures) ∙ eliminated .0) (eliminated .1)
+    words-uneliminated _ (args .columns .now) _ (args .words .now) (accepted _ (taken .none)) _ (list-answers _ (args .columns .now) _ taken _ (c .before .before .before .before .before .before .before .before .before .before .before .before .before .before .mark-rows .ensures) _ (c .before .before .before .before .before .before .before .before .before .before .before .before .before .count-marks .ensures) _ (search needs) (c .before .before .before .before .before .before .before .before .before .before .fill-columns .ensures)) _ (taken .width) _ _
+    (told _ _ _ (c .before .enum-told .given .1) (c .number-of .ensures) ∙ c .before .before .before .before .before .eliminate .ensures .0) (c .before .before .before .before .before .eliminate .ensures .1)
 
 returns-3 : tie.Need-returns-3
 returns-3 c =
     let args = c .before .before .before .before .before .before .before .before .before .before .before .before .before .before .before .before .before .before .before .args in
-    let eliminated = c .before .before .before .before .before .eliminate .ensures in
     λ taken.
-    words-answered _ (args .columns .now) _ (args .words .now) (accepted _ (taken .none)) _
-    (list-answers _ (args .columns .now) _ taken _ (c .before .before .before .before .before .before .before .before .before .before .before .before .before .before .mark-rows .ensures) _ (c .before .before .before .before .before .before .before .before .before .before .before .before .before .count-marks .ensures) _ (search needs)
-    (c .before .before .before .before .before .before .before .before .before .before .fill-columns .ensures))
-    _ (taken .width) _ _ _ (answered _ _ _ (c .before .eliminated .given .1) ∙ eliminated .0) (eliminated .1)
+    words-answered _ (args .columns .now) _ (args .words .now) (accepted _ (taken .none)) _ (list-answers _ (args .columns .now) _ taken _ (c .before .before .before .before .before .before .before .before .before .before .before .before .before .before .mark-rows .ensures) _ (c .before .before .before .before .before .before .before .before .before .before .before .before .before .count-marks .ensures) _ (search needs) (c .before .before .before .before .before .before .before .before .before .before .fill-columns .ensures)) _ (taken .width) _ _ _
+    (answered _ _ _ (c .before .eliminated .given .1) ∙ c .before .before .before .before .before .eliminate .ensures .0) (c .before .before .before .before .before .eliminate .ensures .1)
 
 pub fill-words-spec : {M : Type 1} → statement M
 fill-words-spec =
