@@ -1,17 +1,16 @@
 -- Each way out of the call that gives the expected bits of a list of words, and what it answers; and what the call answers for a list that
 -- meets no number (expect-answered). Assumes nothing.
 use mathlib.Core.Path.{_≡_, refl, sym, ap, ap₂, _∙_}
-use mathlib.Core.Bool.{Bool, true, false, not}
-use mathlib.Core.List.{List, [], _∷_}
+use mathlib.Core.Bool.{true, false}
+use mathlib.Core.List.{List}
 use Prim.Native.Nat.{ℕ, _≤_}
 use native.Mathlib.Omega.{arith}
-use borrow.Author.Tests.{not-true, not-false}
 use lib.ListN.{length, take}
 use lib.Seq.{take-all}
 use Rattle.word.specs.Parities.{parities}
-use Rattle.word.specs.Reply.{_when_, answer, refusal, firstOf}
+use Rattle.word.specs.Reply.{answer, refusal, firstOf}
 use Rattle.word.proofs.ReplyLaws.{replied-answered, refused-reply}
-use Rattle.word.proofs.TestLaws.{first-of-later, first-sooner}
+use Rattle.word.proofs.TestLaws.{none-and-rest, first-of-later, first-sooner}
 use Rattle.combinations.specs.Reduced.{isReduced}
 use Rattle.reduced_list.specs.WordCount.{badWordCount}
 use Rattle.reduced_list.proofs.CountLaws.{good-count}
@@ -24,7 +23,7 @@ use Rattle.signatures.specs.Signature.{signature}
 use Rattle.signatures.specs.Sets.{zeroSignature}
 use Rattle.signatures.proofs.SetLaws.{zero-of-values}
 use Rattle.signing.specs.Signing.{valueCells}
-use Rattle.expectation.specs.Expecting.{expectedFor, expectTests, expectReply}
+use Rattle.expectation.specs.Expecting.{expectedFor, wordTests, expectTests, expectReply}
 
 -- the signature of a taken set's value rows is that for all unknowns 0
 pub expected-taken : (set ws : List ℕ) (k : Taken) (y : ℕ) → TakenFrom set k → length ws ≤ 64
@@ -44,43 +43,35 @@ expect-set-refused set ws n e h = refused-reply _ n _ (first-sooner (setTests se
 -- ---- past the set's numbers
 
 module _ (set ws : List ℕ) (none : firstOf (setTests set) ≡ 0) where
-  expect-later : firstOf (expectTests set ws)
-      ≡ firstOf (20 when badWordCount (widthOf set) (length ws) ∷ 21 when not (isReduced (widthOf set) ws) ∷ [])
+  expect-later : firstOf (expectTests set ws) ≡ firstOf (wordTests (widthOf set) ws)
   unfolding expectTests
-  expect-later = first-of-later (setTests set) _ (set-numbered set) none
+  expect-later = first-of-later (setTests set) (wordTests (widthOf set) ws) (set-numbered set) none
 
-  -- no words, or more than m
-  pub expect-miscounted : (m : ℕ) (b : Bool) → m ≡ widthOf set → b ≡ badWordCount m (length ws) → b ≡ true → refusal 20 ≡ expectReply set ws
+  -- the words are refused with the number n
+  pub expect-words-refused : (m n : ℕ) → m ≡ widthOf set → n ≡ firstOf (wordTests m ws) → (n ≡ 0 → ⊥) → refusal n ≡ expectReply set ws
   unfolding expectReply
-  expect-miscounted m b em eb on =
-      let bad : badWordCount (widthOf set) (length ws) ≡ true = ap (λ (x : ℕ). badWordCount x (length ws)) (sym em) ∙ sym eb ∙ on in
-      refused-reply _ 20 _ (sym (expect-later ∙ (rw bad))) (λ (z : 20 ≡ 0). omega arith)
+  expect-words-refused m n em e h =
+      refused-reply _ n _ (e ∙ ap (λ (x : ℕ). firstOf (wordTests x ws)) em ∙ sym expect-later) h
 
-  -- .. not reduced
-  pub expect-unreduced : (m : ℕ) (b r : Bool) → m ≡ widthOf set → b ≡ badWordCount m (length ws) → b ≡ false → r ≡ isReduced m ws → not r ≡ true
-      → refusal 21 ≡ expectReply set ws
+  -- words that meet neither number get their expected bits, whichever set they were made of
+  pub expect-answered : firstOf (wordTests (widthOf set) ws) ≡ 0 → expectReply set ws ≡ answer (expectedFor set ws)
   unfolding expectReply
-  expect-unreduced m b r em eb off er ne =
-      let good : badWordCount (widthOf set) (length ws) ≡ false = ap (λ (x : ℕ). badWordCount x (length ws)) (sym em) ∙ sym eb ∙ off in
-      let unreduced : isReduced (widthOf set) ws ≡ false = ap (λ (x : ℕ). isReduced x ws) (sym em) ∙ sym er ∙ not-true r ne in
-      refused-reply _ 21 _ (sym (expect-later ∙ (rw (good, unreduced)))) (λ (z : 21 ≡ 0). omega arith)
+  expect-answered h = replied-answered (firstOf (expectTests set ws)) (expectedFor set ws) (expect-later ∙ h)
 
-  -- a reduced list of as many words as there can be gets its expected bits, whichever set it was made of
-  pub expect-answered : badWordCount (widthOf set) (length ws) ≡ false → isReduced (widthOf set) ws ≡ true
-      → expectReply set ws ≡ answer (expectedFor set ws)
-  unfolding expectReply
-  expect-answered good reduced =
-      let first : firstOf (expectTests set ws) ≡ 0 = expect-later ∙ (rw (good, reduced)) in
-      replied-answered (firstOf (expectTests set ws)) (expectedFor set ws) first
+-- a reduced list of as many words as there can be meets neither
+pub no-word-test : (m : ℕ) (ws : List ℕ) → badWordCount m (length ws) ≡ false → isReduced m ws ≡ true → firstOf (wordTests m ws) ≡ 0
+unfolding wordTests
+no-word-test m ws good reduced = rw (good, reduced)
 
--- ..
-pub expect-answers : (set ws : List ℕ) (k : Taken) (b r : Bool) (y : ℕ) → TakenFrom set k → b ≡ badWordCount (k .register .m) (length ws) → b ≡ false
-    → r ≡ isReduced (k .register .m) ws → not r ≡ false → y ≡ parities (take 64 ws) (signature (takenCircuit k) (valueCells (k .n) set) (k .s))
-    → answer y ≡ expectReply set ws
-expect-answers set ws k b r y taken eb off er on ey =
-    let good : badWordCount (widthOf set) (length ws) ≡ false = ap (λ (x : ℕ). badWordCount x (length ws)) (sym (taken .width)) ∙ sym eb ∙ off in
-    let reduced : isReduced (widthOf set) ws ≡ true = ap (λ (x : ℕ). isReduced x ws) (sym (taken .width)) ∙ sym er ∙ not-false r on in
-    let few : length ws ≤ 64 =
-    omega (arith, good-count (widthOf set) (length ws) good .1, accepted-width set (accepted set (taken .none)) .1)
-    in
-    ap answer (expected-taken set ws k y taken few ey) ∙ sym (expect-answered set ws (taken .none) good reduced)
+-- .. so there are at most 64
+words-limited : (m : ℕ) (ws : List ℕ) → m ≤ 64 → firstOf (wordTests m ws) ≡ 0 → length ws ≤ 64
+unfolding wordTests
+words-limited m ws h none =
+    omega (arith, good-count m (length ws) (none-and-rest (badWordCount m (length ws)) 19 _ none .0) .1)
+
+pub expect-answers : (set ws : List ℕ) (k : Taken) (n y : ℕ) → TakenFrom set k → n ≡ firstOf (wordTests (k .register .m) ws) → n ≡ 0
+    → y ≡ parities (take 64 ws) (signature (takenCircuit k) (valueCells (k .n) set) (k .s)) → answer y ≡ expectReply set ws
+expect-answers set ws k n y taken e z ey =
+    let neither : firstOf (wordTests (widthOf set) ws) ≡ 0 = ap (λ (x : ℕ). firstOf (wordTests x ws)) (sym (taken .width)) ∙ sym e ∙ z in
+    let few : length ws ≤ 64 = words-limited (widthOf set) ws (accepted-width set (accepted set (taken .none)) .1) neither in
+    ap answer (expected-taken set ws k y taken few ey) ∙ sym (expect-answered set ws (taken .none) neither)

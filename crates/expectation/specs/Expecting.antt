@@ -4,7 +4,8 @@
 -- signature for all unknowns 0."
 --
 --   expectedFor set ws   the expected bits of the words ws for a set as one word, bit i for word i
---   expectTests set ws   the numbers that the call meets, in order: the set's, 20, 21
+--   wordTests m ws       the numbers about the words, in order, for a register of m bits: 20 and 21
+--   expectTests set ws   the numbers that the call meets, in order: the set's, then these
 --   expectReply set ws   its reply: the expected bits
 --   saidExpected e       the paper's reading of what the call hands back
 use mathlib.Core.Bool.{not}
@@ -24,12 +25,14 @@ use Rattle.expectation.specs.declared.Expected.the-variants.{Bits, Refus
 abbrev pub expectedFor : List ℕ → List ℕ → ℕ
 expectedFor set ws = parities ws (zeroSignature set)
 
-unfoldable pub expectTests : List ℕ → List ℕ → List Test
-expectTests set ws =
-    setTests set
-    ++ 20 when badWordCount (widthOf set) (length ws)
-    ∷ 21 when not (isReduced (widthOf set) ws)
+unfoldable pub wordTests : ℕ → List ℕ → List Test
+wordTests m ws =
+    20 when badWordCount m (length ws)
+    ∷ 21 when not (isReduced m ws)
     ∷ []
+
+unfoldable pub expectTests : List ℕ → List ℕ → List Test
+expectTests set ws = setTests set ++ wordTests (widthOf set) ws
 
 unfoldable pub expectReply : List ℕ → List ℕ → Reply ℕ
 expectReply set ws = reply (expectTests set ws) (expectedFor set ws)

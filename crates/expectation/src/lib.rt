@@ -1,12 +1,15 @@
 // Expectations: the expected bits of a list of words for a set, whether or not the words are the set's own. It sees the signature for
 // all unknowns 0 and the test for a reduced list, and nothing of how words are made.
 ghost use mathlib.Core.Path.{_≡_};
+ghost use mathlib.Core.Bool.{not};
 ghost use lib.ListN.{take};
+ghost use Rattle.word.specs.Reply.{firstOf};
 ghost use Rattle.word.specs.Parities.{parities};
+ghost use Rattle.combinations.specs.Reduced.{isReduced};
 ghost use Rattle.set_file.specs.Reading.{takenCircuit};
 ghost use Rattle.signatures.specs.Signature.{signature};
 ghost use Rattle.signing.specs.Signing.{valueCells};
-ghost use Rattle.expectation.specs.Expecting.{expectReply, saidExpected};
+ghost use Rattle.expectation.specs.Expecting.{wordTests, expectReply, saidExpected};
 use set_file::SetAnswer;
 use set_file::Taken;
 
@@ -25,6 +28,26 @@ pub fn expected_bits(taken: Taken, set: &[u8], words: &[u64]) -> u64
     word::word_parities(words, zero)
 }
 
+// Number 21: whether the words aren't a reduced list for m.
+fn is_unreduced(m: u64, words: &[u64]) -> bool
+    ensures { λ r. ⌜ r ≡ not (isReduced m (now (words .entry))) ⌝ }
+{
+    !reduced_list::is_reduced(m, words)
+}
+
+// The first of 20 and 21 that applies to a list of words for a register of m bits; 0 where neither does.
+fn words_refusal(m: u64, words: &[u64]) -> u64
+    ensures { λ r. ⌜ r ≡ firstOf (wordTests m (now (words .entry))) ⌝ }
+{
+    if reduced_list::is_bad_word_count(m, words.len() as u64) {
+        return 20;
+    }
+    if is_unreduced(m, words) {
+        return 21;
+    }
+    0
+}
+
 // The expected bits of a set for a list of words, of document 02: each word's parity, whichever set the words were made of. It meets
 // the set's numbers, then 20 for how many words there are and 21 for a list that isn't reduced for m.
 pub fn expect(set: &[u8], words: &[u64]) -> Expected
@@ -37,12 +60,9 @@ pub fn expect(set: &[u8], words: &[u64]) -> Expected
             number: set_file::number_of(answer),
         };
     };
-    let m = register.m;
-    if reduced_list::is_bad_word_count(m, words.len() as u64) {
-        return Expected::Refused { number: 20 };
-    }
-    if !reduced_list::is_reduced(m, words) {
-        return Expected::Refused { number: 21 };
+    let number = words_refusal(register.m, words);
+    if number != 0 {
+        return Expected::Refused { number };
     }
     let spread = read.spread;
     let taken = Taken {

@@ -11,7 +11,7 @@ use Prim.Native.Nat.{ℕ, zero, suc}
 use Rattle.word.specs.Reply.{Reply, answer, replied, firstOf, after}
 use Rattle.reduced_list.proofs.CountLaws.{not-bad-count}
 use Rattle.expectation.specs.Expecting.{expectReply}
-use Rattle.expectation.proofs.CallLaws.{expect-answered}
+use Rattle.expectation.proofs.CallLaws.{expect-answered, no-word-test}
 use Rattle.planner.specs.Planning.{wordsOf, expectedOf, planTests, WordParts, wordPartsOf, wordsReply, PlanParts, partsOf, planReply}
 use Rattle.planner.proofs.NumberLaws.{planned-none, words-count, words-reduced}
 
@@ -24,7 +24,8 @@ pub own-expected : (set : List ℕ) (k l : ℕ) → firstOf (planTests set k l) 
 unfolding expectedOf
 own-expected set k l none =
     let many = words-count set k l none in
-    expect-answered set (wordsOf set) (planned-none set k l none) (not-bad-count _ _ (many .0) (many .1)) (words-reduced set k l none)
+    expect-answered set (wordsOf set) (planned-none set k l none)
+    (no-word-test _ (wordsOf set) (not-bad-count _ _ (many .0) (many .1)) (words-reduced set k l none))
 
 pub plan-in-a-row : (set : List ℕ) (k l : ℕ)
     → planReply set k l ≡ after (wordsReply set k l) (λ w. after (expectReply set (wordsOf set)) (λ e. answer (withBits w e)))

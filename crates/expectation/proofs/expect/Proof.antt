@@ -1,7 +1,7 @@
--- `expect` meets its contract, by the reader's answer and then by the words: how many there are, and whether they are reduced.
+-- `expect` meets its contract, by the reader's answer and then by the numbers about the words.
 use borrow.Author.Needs.{needs}
 use Rattle.set_file.proofs.ReadLaws.{refused-set, taken-set}
-use Rattle.expectation.proofs.CallLaws.{expect-set-refused, expect-miscounted, expect-unreduced, expect-answers}
+use Rattle.expectation.proofs.CallLaws.{expect-set-refused, expect-words-refused, expect-answers}
 use Rattle.expectation.proofs.expect.Statement.{statement}
 use Rattle.expectation.proofs.expect.Tie as tie
 
@@ -13,19 +13,12 @@ returns c =
 returns-2 : tie.Need-returns-2
 returns-2 c =
     let taken = taken-set _ _ _ _ _ _ (c .before .before .before .before .before .read-set .ensures) (c .before .before .before .answer .given .1) in
-    expect-miscounted _ (c .before .before .before .before .before .before .before .before .args .words .now) (taken .none) _ _ (taken .width) (c .before .is-bad-word-count .ensures) (c .if1 .taken)
+    expect-words-refused _ (c .before .before .before .before .before .before .before .before .args .words .now) (taken .none) _ _ (taken .width) (c .before .words-refusal .ensures) (c .if1 .taken)
 
 returns-3 : tie.Need-returns-3
 returns-3 c =
     let taken = taken-set _ _ _ _ _ _ (c .before .before .before .before .before .before .before .read-set .ensures) (c .before .before .before .before .before .answer .given .1) in
-    expect-unreduced _ (c .before .before .before .before .before .before .before .before .before .before .args .words .now) (taken .none) _ _ _ (taken .width) (c .before .before .before .is-bad-word-count .ensures) (c .before .before .if1 .left)
-    (c .before .is-reduced .ensures) (c .if2 .taken)
-
-returns-4 : tie.Need-returns-4
-returns-4 c =
-    let taken = taken-set _ _ _ _ _ _ (c .before .before .before .before .before .before .before .before .before .read-set .ensures) (c .before .before .before .before .before .before .before .answer .given .1) in
-    expect-answers _ (c .before .before .before .before .before .before .before .before .before .before .before .before .args .words .now) _ _ _ _ taken (c .before .before .before .before .before .is-bad-word-count .ensures) (c .before .before .before .before .if1 .left)
-    (c .before .before .before .is-reduced .ensures) (c .before .before .if2 .left) (c .expected-bits .ensures)
+    expect-answers _ (c .before .before .before .before .before .before .before .before .before .before .args .words .now) _ _ _ taken (c .before .before .before .words-refusal .ensures) (c .before .before .if1 .left) (c .expected-bits .ensures)
 
 pub expect-spec : {M : Type 1} → statement M
 expect-spec =
@@ -39,6 +32,4 @@ expect-spec =
     (λ c κs. search needs)
     returns-2
     (λ c κs. search needs)
-    returns-3
-    (λ c κs. search needs)
-    returns-4)
+    returns-3)
