@@ -1,13 +1,17 @@
 // Planning: the words of a set, and its words with their expected bits. It sees the columns, the elimination and the expected bits of a
 // list of words. Planning is the two calls in a row: the words, then the expected bits for them.
 ghost use mathlib.Core.Path.{_≡_};
+ghost use Prim.Native.Nat.{_*_};
 ghost use lib.ListN.{length};
 ghost use Rattle.word.specs.Reply.{firstOf, lent, numberOf};
+ghost use Rattle.rows.specs.Row.{rowBytes};
+ghost use Rattle.set_layout.specs.Layout.{markAt};
 ghost use Rattle.set_file.specs.Reading.{setTests, TakenFrom};
 ghost use Rattle.columns.specs.Listing.{columnsAfter};
 ghost use Rattle.planner.specs.Planning.{wordsOf, wordsReply, saidWorded, planReply, said};
 use elimination::Eliminated;
 use register::Register;
+use rows::Rows;
 use set_file::SetAnswer;
 use set_file::Taken;
 
@@ -29,13 +33,20 @@ struct Made {
     taken: Taken,
 }
 
+// Where the marks of the unknown cells stand, in a set of n chains.
+fn unknown_rows(n: u16) -> Rows
+    ensures { λ r. ⌜ (r .at ≡ markAt n 0) × (r .stride ≡ 2 * rowBytes n) × (r .bytes ≡ rowBytes n) ⌝ }
+{
+    set_layout::mark_rows(n)
+}
+
 // The words of a taken set. Past the set's numbers it meets 14, 16, 17 and 18. It reads the marks and no value.
 fn fill_words(taken: Taken, set: &[u8], columns: &mut [u64], words: &mut [u64]) -> Worded
     ensures { λ r. ⌜ (TakenFrom (now (set .entry)) taken → (saidWorded r ≡ wordsReply (now (set .entry)) (length (now (columns .entry))) (length (now (words .entry)))) × ((now (columns .exit) ≡ columnsAfter (now (set .entry)) (now (columns .entry))) × (now (words .exit) ≡ lent (wordsReply (now (set .entry)) (length (now (columns .entry))) (length (now (words .entry)))) (wordsOf (now (set .entry))) (now (words .entry))))) ⌝ }
 {
     let register = taken.register;
     let m = register.m;
-    let marks = set_layout::mark_rows(taken.n);
+    let marks = unknown_rows(taken.n);
     let unknowns = marked_words::count_marks(set, marks, taken.s);
     if (columns.len() as u64) < unknowns {
         return Worded::Refused { number: 14 };

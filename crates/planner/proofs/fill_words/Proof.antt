@@ -13,7 +13,7 @@ returns c =
     let args = c .before .before .before .before .before .before .before .args in
     λ taken.
     words-unlisted _ _ (args .words .now) _
-    (list-short _ (args .columns .now) _ taken _ (c .before .before .mark-rows .ensures) _ (c .before .count-marks .ensures) (c .if1 .taken))
+    (list-short _ (args .columns .now) _ taken _ (c .before .before .unknown-rows .ensures) _ (c .before .count-marks .ensures) (c .if1 .taken))
 
 slice-aggregate-fill-columns : tie.Need-slice-aggregate-fill-columns
 slice-aggregate-fill-columns c = sym (length-take-le _ _ (search needs))
@@ -25,14 +25,14 @@ returns-2 : tie.Need-returns-2
 returns-2 c =
     let args = c .before .before .before .before .before .before .before .before .before .before .before .before .before .before .before .before .before .before .before .args in
     λ taken.
-    words-uneliminated _ (args .columns .now) _ (args .words .now) (accepted _ (taken .none)) _ (list-answers _ (args .columns .now) _ taken _ (c .before .before .before .before .before .before .before .before .before .before .before .before .before .before .mark-rows .ensures) _ (c .before .before .before .before .before .before .before .before .before .before .before .before .before .count-marks .ensures) _ (search needs) (c .before .before .before .before .before .before .before .before .before .before .fill-columns .ensures)) _ (taken .width) _ _
+    words-uneliminated _ (args .columns .now) _ (args .words .now) (accepted _ (taken .none)) _ (list-answers _ (args .columns .now) _ taken _ (c .before .before .before .before .before .before .before .before .before .before .before .before .before .before .unknown-rows .ensures) _ (c .before .before .before .before .before .before .before .before .before .before .before .before .before .count-marks .ensures) _ (search needs) (c .before .before .before .before .before .before .before .before .before .before .fill-columns .ensures)) _ (taken .width) _ _
     (told _ _ _ (c .before .enum-told .given .1) (c .number-of .ensures) ∙ c .before .before .before .before .before .eliminate .ensures .0) (c .before .before .before .before .before .eliminate .ensures .1)
 
 returns-3 : tie.Need-returns-3
 returns-3 c =
     let args = c .before .before .before .before .before .before .before .before .before .before .before .before .before .before .before .before .before .before .before .args in
     λ taken.
-    words-answered _ (args .columns .now) _ (args .words .now) (accepted _ (taken .none)) _ (list-answers _ (args .columns .now) _ taken _ (c .before .before .before .before .before .before .before .before .before .before .before .before .before .before .mark-rows .ensures) _ (c .before .before .before .before .before .before .before .before .before .before .before .before .before .count-marks .ensures) _ (search needs) (c .before .before .before .before .before .before .before .before .before .before .fill-columns .ensures)) _ (taken .width) _ _ _
+    words-answered _ (args .columns .now) _ (args .words .now) (accepted _ (taken .none)) _ (list-answers _ (args .columns .now) _ taken _ (c .before .before .before .before .before .before .before .before .before .before .before .before .before .before .unknown-rows .ensures) _ (c .before .before .before .before .before .before .before .before .before .before .before .before .before .count-marks .ensures) _ (search needs) (c .before .before .before .before .before .before .before .before .before .before .fill-columns .ensures)) _ (taken .width) _ _ _
     (answered _ _ _ (c .before .eliminated .given .1) ∙ c .before .before .before .before .before .eliminate .ensures .0) (c .before .before .before .before .before .eliminate .ensures .1)
 
 pub fill-words-spec : {M : Type 1} → statement M
