@@ -8,7 +8,7 @@
 # make bench  the benchmark's tables, and the picture docs/growth.svg
 # make faults  each fault of reference/faults/ put into the second implementation, and what the tests say of it (not in the gate)
 # make wrong  each must-fail edit as a program without proof, run beside the library: an edit that behaves the same is no wrong
-#             program (not in the gate; make wrong EDITS="judge planner/expected_bits_all_zero": a crate's edits and one edit)
+#             program (not in the gate; make wrong EDITS="judge expectation/expected_bits_all_zero": a crate's edits and one edit)
 # make bench-instructions   instructions of each call, by valgrind's callgrind
 # make bench-against BEFORE=folder   each call beside that of another folder of this repository (make lib has been run there), in
 #             one run
