@@ -29,6 +29,9 @@ const ALL: [(&str, &str); 25] = [
     ("the inversion word has a bit at or above m", "mend the inversion word: all its bits are below m. A set of version 1 has no inversion word: make it again"),
 ];
 
+/// The number of a set that has no words: every signature is explained.
+pub const NO_WORDS: u64 = 17;
+
 /// The sentence of a number that the library gave.
 pub fn sentence(number: u64) -> &'static str {
     meaning(number).map_or("a number that this command does not know", |(why, _)| why)

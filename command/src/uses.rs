@@ -13,6 +13,7 @@ mod version;
 mod words;
 
 use crate::arguments::{self, Given};
+use crate::canceller::{self, Plan, Reply, PLAN_MAX};
 use crate::ending::{of, unusable, Outcome};
 use crate::files;
 use std::ffi::{OsStr, OsString};
@@ -116,7 +117,14 @@ impl Input {
     }
 
     /// What the library says of it.
-    fn ask<T>(&self, call: impl Fn(&[u8]) -> crate::canceller::Reply<T>) -> Outcome<T> {
+    fn ask<T>(&self, call: impl Fn(&[u8]) -> Reply<T>) -> Outcome<T> {
         of(&self.name, call(&self.bytes))
     }
+}
+
+/// A plan file, and what is in it.
+fn plan_in(path: &OsStr) -> Outcome<(Input, Plan)> {
+    let file = Input::read(path, PLAN_MAX)?;
+    let plan = file.ask(canceller::read_plan)?;
+    Ok((file, plan))
 }

@@ -2,16 +2,14 @@
 
 mod common;
 
-use common::{ended, sample, stored, Folder};
+use common::{ended, sample, stored, with_planned_sample, Folder};
 use std::fs::File;
 use std::os::unix::fs::{symlink, PermissionsExt};
 use std::process::{Command, Stdio};
 
 fn with_sample(name: &str) -> Folder {
-    let folder = Folder::new(name);
+    let folder = with_planned_sample(name);
     folder.put("sample.txt", sample("sample.txt"));
-    folder.put("sample.set", sample("sample.set"));
-    folder.done(&["plan", "sample.set", "-o", "sample.plan"]);
     folder.put("dies.csv", sample("dies.csv"));
     folder
 }

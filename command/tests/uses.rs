@@ -74,7 +74,6 @@ fn standard_input_and_output() {
     let record = sample("sample-unknown-1.record");
     let signed = folder.run_with(&["sign", "sample.set", "-"], &record);
     assert_eq!(signed.text(), "0\n");
-    assert_eq!(folder.run(&["sign", "-", "-"]).status, 3);
 }
 
 /// The command has room for every column, where the plan printer has 4,096 places.
@@ -427,7 +426,7 @@ fn the_help_fits_a_screen() {
 #[test]
 fn wrong_usage() {
     let folder = with_sample("usage");
-    let cases: [(&[&str], &str); 16] = [
+    let cases: [(&[&str], &str); 17] = [
         (&["jugde"], "no use 'jugde': did you mean 'canceller judge'?"),
         (&["colums", "x"], "no use 'colums': did you mean 'canceller columns'?"),
         (&["frobnicate"], "no use 'frobnicate': 'canceller --help' lists the uses"),
@@ -437,6 +436,7 @@ fn wrong_usage() {
         (&["plan", "a", "-o"], "plan: -o needs a value"),
         (&["plan", "a", "-o", "b", "-o", "c"], "plan: -o is given twice"),
         (&["plan", "a", "--csv", "b"], "plan: no option --csv"),
+        (&["sign", "-", "-"], "sign: standard input can't be both the set and the record"),
         (&["judge", "sample.plan"], "judge: no signature is given"),
         (&["judge", "sample.plan", "1", "--csv", "a"], "judge: signatures and --csv don't go together"),
         (&["judge", "sample.plan", "1", "--map", "a"], "judge: --map goes with --csv"),
