@@ -2,6 +2,7 @@
 
 mod columns;
 mod draw;
+mod expect;
 mod explain;
 mod help;
 mod judge;
@@ -36,10 +37,11 @@ pub struct Use {
 }
 
 /// Every use, in the order in which the help lists them.
-pub const ALL: [&Use; 11] = [
+pub const ALL: [&Use; 12] = [
     &pack::USE,
     &show::USE,
     &plan::USE,
+    &expect::USE,
     &words::USE,
     &sign::USE,
     &judge::USE,
