@@ -3,7 +3,7 @@
 use crate::ending::{unusable, Outcome};
 use crate::files;
 use crate::uses::Use;
-use std::ffi::OsString;
+use std::ffi::{OsStr, OsString};
 
 /// What a use was given.
 pub struct Given {
@@ -62,6 +62,14 @@ fn counted(one: &Use, given: Given) -> Outcome<Given> {
         return wrong(one, &format!("'{extra}' is one too many"));
     }
     Ok(given)
+}
+
+/// Standard input can be one of two inputs, which are these, but not both.
+pub fn not_both_standard(one: &Use, inputs: [&OsStr; 2], these: &str) -> Outcome<()> {
+    if inputs.into_iter().all(files::is_standard) {
+        return wrong(one, &format!("standard input can't be both {these}"));
+    }
+    Ok(())
 }
 
 /// What is wrong with the words behind a use, and how it is used.

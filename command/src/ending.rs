@@ -12,7 +12,7 @@ pub enum Status {
     Done = 0,
     /// Some signature fails.
     Fails = 1,
-    /// The library declined.
+    /// The library declined; or the words of a plan aren't those of a set.
     Refused = 2,
     /// Usage, or input that can't be read or written.
     Unusable = 3,

@@ -21,13 +21,16 @@ const ALL: [(&str, &str); 25] = [
     ("no X-free combination but the empty one exists", "too many unknown cells reach the register independently: every signature is good. Fewer unknowns, or a wider register"),
     ("the word list is shorter than q", "lend more places: 64 always do"),
     ("the plan has fewer than 2 bytes, or its m isn't 1 to 64", "not a plan file"),
-    ("the plan's word count is absent, 0 or above m, or the plan ends before its last word", "the plan is damaged"),
-    ("the plan's words aren't a reduced list for m", "the plan was changed by hand, or is damaged"),
+    ("the plan's word count is absent, 0 or above m, or the plan ends before its last word", "the plan is damaged, or no words or more than m were handed over"),
+    ("the plan's words aren't a reduced list for m", "the plan was changed by hand or is damaged, or the words handed over are of another register"),
     ("the second count, the length or a spare bit of the plan is wrong", "the plan is damaged"),
     ("a signature has a bit at or above m", "the signature is of another register"),
     ("the output is shorter than the file to be written", "lend more bytes: 34,838 for a set, 526 for a plan always do"),
     ("the inversion word has a bit at or above m", "mend the inversion word: all its bits are below m. A set of version 1 has no inversion word: make it again"),
 ];
+
+/// The number of a set that has no words: every signature is explained.
+pub const NO_WORDS: u64 = 17;
 
 /// The sentence of a number that the library gave.
 pub fn sentence(number: u64) -> &'static str {

@@ -2,6 +2,7 @@
 
 mod columns;
 mod draw;
+mod expect;
 mod explain;
 mod help;
 mod judge;
@@ -13,6 +14,7 @@ mod version;
 mod words;
 
 use crate::arguments::{self, Given};
+use crate::canceller::{self, Plan, Reply, PLAN_MAX};
 use crate::ending::{of, unusable, Outcome};
 use crate::files;
 use std::ffi::{OsStr, OsString};
@@ -35,10 +37,11 @@ pub struct Use {
 }
 
 /// Every use, in the order in which the help lists them.
-pub const ALL: [&Use; 11] = [
+pub const ALL: [&Use; 12] = [
     &pack::USE,
     &show::USE,
     &plan::USE,
+    &expect::USE,
     &words::USE,
     &sign::USE,
     &judge::USE,
@@ -116,7 +119,14 @@ impl Input {
     }
 
     /// What the library says of it.
-    fn ask<T>(&self, call: impl Fn(&[u8]) -> crate::canceller::Reply<T>) -> Outcome<T> {
+    fn ask<T>(&self, call: impl Fn(&[u8]) -> Reply<T>) -> Outcome<T> {
         of(&self.name, call(&self.bytes))
     }
+}
+
+/// A plan file, and what is in it.
+fn plan_in(path: &OsStr) -> Outcome<(Input, Plan)> {
+    let file = Input::read(path, PLAN_MAX)?;
+    let plan = file.ask(canceller::read_plan)?;
+    Ok((file, plan))
 }

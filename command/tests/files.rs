@@ -2,25 +2,24 @@
 
 mod common;
 
-use common::{ended, sample, stored, Folder};
+use common::{ended, sample, stored, with_planned_sample, Folder};
 use std::fs::File;
 use std::os::unix::fs::{symlink, PermissionsExt};
 use std::process::{Command, Stdio};
 
 fn with_sample(name: &str) -> Folder {
-    let folder = Folder::new(name);
+    let folder = with_planned_sample(name);
     folder.put("sample.txt", sample("sample.txt"));
-    folder.put("sample.set", sample("sample.set"));
-    folder.done(&["plan", "sample.set", "-o", "sample.plan"]);
     folder.put("dies.csv", sample("dies.csv"));
     folder
 }
 
 /// Every use that prints.
-const PRINTS: [&[&str]; 10] = [
+const PRINTS: [&[&str]; 11] = [
     &["pack", "sample.txt"],
     &["show", "sample.set"],
     &["plan", "sample.set"],
+    &["expect", "sample.plan", "sample.set"],
     &["words", "sample.plan"],
     &["columns", "sample.set"],
     &["draw", "sample.set"],
@@ -123,10 +122,12 @@ fn inputs_that_cannot_be_read() {
     let missing = "can't be read: No such file or directory (os error 2)";
     let is_folder = "can't be read: Is a directory (os error 21)";
     for (name, why) in [("none", missing), ("folder", is_folder)] {
-        let cases: [&[&str]; 9] = [
+        let cases: [&[&str]; 11] = [
             &["pack", name],
             &["show", name],
             &["plan", name],
+            &["expect", name, "sample.set"],
+            &["expect", "sample.plan", name],
             &["words", name],
             &["sign", name, "sample.set"],
             &["sign", "sample.set", name],
@@ -164,6 +165,7 @@ fn outputs_that_cannot_be_written() {
             &["pack", "sample.txt", "-o", name][..],
             &["draw", "sample.set", "-o", name],
             &["plan", "sample.set", "-o", name],
+            &["expect", "sample.plan", "sample.set", "-o", name],
             &["judge", "sample.plan", "--csv", "dies.csv", "-o", name],
             &[
                 "judge",
@@ -247,6 +249,8 @@ fn files_of_any_size() {
     for (words, number) in [
         (&["plan", "long.set"][..], 8),
         (&["show", "long.set"], 8),
+        (&["expect", "sample.plan", "long.set"], 8),
+        (&["expect", "long.plan", "sample.set"], 22),
         (&["draw", "long.set"], 8),
         (&["words", "long.plan"], 22),
         (&["judge", "long.plan", "3"], 22),

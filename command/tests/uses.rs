@@ -26,7 +26,7 @@ fn every_use_on_the_sample() {
     assert_eq!(folder.get("sample.set"), sample("sample.set"));
     let second = plan(&sample("sample.set"), 1, 64).reply.unwrap();
     assert_eq!(folder.get("sample.plan"), write_plan(&second, 526).unwrap());
-    let prints: [(&[&str], &str); 14] = [
+    let prints: [(&[&str], &str); 16] = [
         (&["show", "sample.set"], "show.txt"),
         (&["plan", "sample.set"], "plan.txt"),
         (&["words", "sample.plan"], "words.txt"),
@@ -41,6 +41,8 @@ fn every_use_on_the_sample() {
         (&["help", "judge"], "help-judge.txt"),
         (&["judge", "--help"], "help-judge.txt"),
         (&["help", "pack"], "help-pack.txt"),
+        (&["help", "expect"], "help-expect.txt"),
+        (&["expect", "-h"], "help-expect.txt"),
     ];
     for (words, name) in prints {
         assert_eq!(folder.done(words), stored(name), "{words:?}");
@@ -74,7 +76,6 @@ fn standard_input_and_output() {
     let record = sample("sample-unknown-1.record");
     let signed = folder.run_with(&["sign", "sample.set", "-"], &record);
     assert_eq!(signed.text(), "0\n");
-    assert_eq!(folder.run(&["sign", "-", "-"]).status, 3);
 }
 
 /// The command has room for every column, where the plan printer has 4,096 places.
@@ -167,6 +168,7 @@ fn every_refusal_number() {
     for (set, number) in bad_sets {
         folder.put("bad.set", set);
         refused(&["plan", "bad.set"], "bad.set", number);
+        refused(&["expect", "sample.plan", "bad.set"], "bad.set", number);
         refused(
             &["sign", "bad.set", "sample-unknown-0.record"],
             "bad.set",
@@ -209,6 +211,7 @@ fn every_refusal_number() {
             number,
         );
         refused(&["words", "bad.plan"], "bad.plan", number);
+        refused(&["expect", "bad.plan", "none.set"], "bad.plan", number);
     }
     refused(&["judge", "sample.plan", "8"], "signature 8", 23);
     met.sort_unstable();
@@ -402,8 +405,8 @@ fn the_manual_page_has_every_use() {
     let manual = manual.split_whitespace().collect::<Vec<&str>>().join(" ");
     let mut count = 0;
     for name in [
-        "pack", "show", "plan", "words", "sign", "judge", "draw", "columns", "explain", "help",
-        "version",
+        "pack", "show", "plan", "expect", "words", "sign", "judge", "draw", "columns", "explain",
+        "help", "version",
     ] {
         let help = folder.done(&["help", name]);
         for form in help.lines().filter_map(|line| line.strip_prefix("usage: ")) {
@@ -411,7 +414,7 @@ fn the_manual_page_has_every_use() {
             count += 1;
         }
     }
-    assert_eq!(count, 13, "forms");
+    assert_eq!(count, 14, "forms");
 }
 
 #[test]
@@ -427,7 +430,7 @@ fn the_help_fits_a_screen() {
 #[test]
 fn wrong_usage() {
     let folder = with_sample("usage");
-    let cases: [(&[&str], &str); 16] = [
+    let cases: [(&[&str], &str); 21] = [
         (&["jugde"], "no use 'jugde': did you mean 'canceller judge'?"),
         (&["colums", "x"], "no use 'colums': did you mean 'canceller columns'?"),
         (&["frobnicate"], "no use 'frobnicate': 'canceller --help' lists the uses"),
@@ -437,6 +440,11 @@ fn wrong_usage() {
         (&["plan", "a", "-o"], "plan: -o needs a value"),
         (&["plan", "a", "-o", "b", "-o", "c"], "plan: -o is given twice"),
         (&["plan", "a", "--csv", "b"], "plan: no option --csv"),
+        (&["expcet", "a", "b"], "no use 'expcet': did you mean 'canceller expect'?"),
+        (&["expect", "sample.plan"], "expect: something is missing"),
+        (&["expect", "sample.plan", "sample.set", "c"], "expect: 'c' is one too many"),
+        (&["expect", "-", "-"], "expect: standard input can't be both the plan and the set"),
+        (&["sign", "-", "-"], "sign: standard input can't be both the set and the record"),
         (&["judge", "sample.plan"], "judge: no signature is given"),
         (&["judge", "sample.plan", "1", "--csv", "a"], "judge: signatures and --csv don't go together"),
         (&["judge", "sample.plan", "1", "--map", "a"], "judge: --map goes with --csv"),

@@ -32,6 +32,8 @@ BELOW = {
     "canceller_sign": ["signing::sign_record"],
     "canceller_list_columns": ["columns::list_columns"],
     "canceller_eliminate": ["elimination::eliminate"],
+    "canceller_plan_words": ["planner::plan_words"],
+    "canceller_expect": ["expectation::expect"],
     "canceller_plan": ["planner::plan"],
     "canceller_write_plan": ["plan_writer::write_plan"],
     "canceller_read_plan": ["plan_file::read_plan", "plan_file::check_plan"],
@@ -97,20 +99,28 @@ class Set:
     def unknowns(self):
         return sum(bin(x).count("1") for _, x in self.slices)
 
-    def left(self):
-        """How many words a plan of this set has: m less the rank of its columns."""
-        top, words, found, basis = 1 << (self.m - 1), list(self.spread), 0, {}
+    def columns(self):
+        """The columns of the unknown cells, from the last slice to the first."""
+        top, words = 1 << (self.m - 1), list(self.spread)
         for _, marks in reversed(self.slices):
             for c in range(self.n):
                 if marks >> c & 1:
-                    w = words[c]
-                    while w and w.bit_length() in basis:
-                        w ^= basis[w.bit_length()]
-                    if w:
-                        basis[w.bit_length()] = w
-                        found += 1
+                    yield words[c]
             words = [(w << 1 & low(self.m)) ^ (self.taps if w & top else 0) for w in words]
-        return self.m - found
+
+    def left(self):
+        """How many words a plan of this set has: m less the rank of its columns."""
+        return self.m - rank_of(self.columns())
+
+    def words(self):
+        """The words of a plan of this set: the reduced list. Each has its highest bit for itself where columns are reduced by their
+        lowest."""
+        return even_with(self.columns(), self.m, lowest)
+
+    def revised(self, values):
+        """This set with other values: for each slice a number for all its cells, of which the known ones count."""
+        slices = [(v & ~x & low_row(self.n), x) for v, (_, x) in zip(values, self.slices)]
+        return Set(self.m, self.taps, self.inversion, self.spread, slices)
 
 
 def sample():
@@ -619,15 +629,6 @@ class Batch:
         for room in (64, places if places is not None else self.random.randint(0, m)):
             self.call("canceller_eliminate", [m], u=columns, v=self.junk_words(room))
 
-    def rank_of(self, columns):
-        basis = {}
-        for w in columns:
-            while w and w.bit_length() in basis:
-                w ^= basis[w.bit_length()]
-            if w:
-                basis[w.bit_length()] = w
-        return len(basis)
-
     def eliminations(self, count):
         for _ in range(count):
             m = self.pick(WIDTHS)
@@ -637,7 +638,7 @@ class Batch:
                 columns += [self.pick(few) ^ self.pick(few) for _ in range(self.random.randrange(20))]
             if self.random.random() < 0.2:
                 columns += [0] * self.random.randrange(4)
-            left = m - self.rank_of(columns)
+            left = m - rank_of(columns)
             self.eliminate(m, columns, left)
             self.eliminate(m, columns, max(0, left - 1))
             if columns:
@@ -684,7 +685,7 @@ class Batch:
                 odd = (1 << outside[0] if kind == 0 else 1 << outside[-1] if kind == 1 else self.bits(m) if kind == 2
                        else 1 << self.pick(outside))
                 columns[at] = odd ^ self.pick([0, 0, even(1), even(2), even(4), even()])
-            q = m - self.rank_of(columns)
+            q = m - rank_of(columns)
             self.call("canceller_eliminate", [m], u=columns, v=self.junk_words(self.pick([64, q, q, max(0, q - 1)])))
 
     def steps(self, count):
@@ -789,6 +790,54 @@ class Batch:
                 self.call("canceller_judge", [y], a=plan_data(m, words, right))
                 for i in {0, q - 1, self.random.randrange(q)}:
                     self.call("canceller_judge", [y], a=plan_data(m, words, right ^ 1 << i))
+
+    # ---- the two calls that planning is
+
+    def two_calls(self, count):
+        """The words of sets, and the expected bits of lists of words for them."""
+        for call in [c for c in self.calls if c.name == "canceller_plan"]:
+            self.call("canceller_plan_words", a=call.a, u=call.u, v=call.v)
+        sets = [sample(), self.low_rank(64, 9, 60), self.any_set(64, s=3, kind="none")] + [self.any_set() for _ in range(count)]
+        # many slices, each with values of its own
+        sets += [self.any_set(n=self.pick(CHAINS), s=s, kind=kind) for s in MANY_SLICES for kind in ("one", "few")]
+        sets += [self.any_set(self.pick([63, 64]), n, s, "one") for n, s in ((1, 512), (2, 511), (9, 300))]
+        # as many columns as bits and more: often no word is left
+        sets += [self.any_set(m=m, n=self.pick(CHAINS), s=8, kind="all") for m in (1, 2, 3, 4, 5, 8, 9)]
+        for one in sets:
+            every = [low_row(one.n)] * one.s
+            self.expected(one)
+            self.expected(one.revised(every))
+            self.expected(one.revised([self.bits(one.n) for _ in every]))
+        for _ in range(3):
+            one = self.any_set(s=self.pick([0, 1, 2, 3]), n=self.pick([1, 3, 8, 9, 17]))
+            for data in self.damaged(one):
+                self.call("canceller_expect", a=data, v=self.pick(self.word_lists(one)))
+
+    def word_lists(self, one):
+        """Lists of words for a set: its own, other reduced ones, nearly reduced ones, none, and more than m, reduced or not."""
+        m, own, other = one.m, one.words(), self.word_list(one.m)
+        single = [1 << b for b in range(m)]
+        reduced = [own, own[1:], own[:-1], other, self.word_list(m, 1), self.word_list(m, m), single]
+        unreduced = self.bad_lists(m, own or other) + [[self.word(m)] * m, [low(m)] * m, self.junk_words(self.random.randint(1, m))]
+        long = [single + [1 << min(m, 63)], single + [low(m)], single[::-1] + [0], self.junk_words(m + 1), [0] * (m + 1),
+                self.junk_words(self.pick([65, 70, 128, 256 + m]))]
+        return reduced + unreduced + long + [[]]
+
+    def expected(self, one):
+        """The words of a set and the expected bits of lists of words for it, by the calls of the boundary and below it."""
+        data, unknowns, left, cells = one.data(), one.unknowns(), one.left(), one.n * one.s
+        for room, places in ((unknowns, left), (cells, 64), (cells, max(0, left - 1)), (max(0, unknowns - 1), 64),
+                             (self.near(unknowns), self.near(left))):
+            self.call("canceller_plan_words", a=data, u=self.junk_words(room), v=self.junk_words(places))
+        taken = [one.m, one.taps, one.inversion, one.n, one.s, self.pick([0, self.bits(64)])]
+        spread, lists = (one.spread + [0] * 256)[:256], self.word_lists(one)
+        for words in lists:
+            self.call("canceller_expect", a=data, v=words)
+        for words in [one.words(), self.junk_words(self.pick([1, 5, 63, 64, 65, 80]))] + self.random.sample(lists, 3):
+            self.call("expectation::expected_bits", taken, a=data, v=spread, u=words)
+        odd = [self.pick([one.m, 0, 65, self.pick(NUMBERS)]), self.pick([one.taps, self.bits(64)]), self.pick([one.inversion, self.bits(64)]),
+               self.pick([one.n, self.pick(CHAINS), self.pick(NUMBERS)]), self.pick([one.s, self.pick(SLICES), self.pick(MANY_SLICES)])]
+        self.call("expectation::expected_bits", odd + taken[5:], a=data, v=self.pick([spread, self.junk_words(256)]), u=self.pick(lists))
 
     @staticmethod
     def parities(words):
@@ -917,7 +966,8 @@ class Batch:
     def answers(self):
         """Answers and refusals as they cross to C, and the number of each."""
         names = ["crossing::" + x for x in ("set_of", "stretch_of", "set_written_of", "plan_written_of", "clocked_of", "signed_of",
-                                            "listed_of", "eliminated_of", "planned_of", "read_of", "judged_of")]
+                                            "listed_of", "eliminated_of", "worded_of", "expected_of", "planned_of", "read_of",
+                                            "judged_of")]
         names += [x + "::number_of" for x in ("planner", "elimination", "set_file", "plan_file")]
         for name in names:
             for number in (0, 0, 0, 1, 17, 24, 25, self.random.randrange(1, 26), ALL):
@@ -989,19 +1039,38 @@ def low_row(n):
     return (1 << n) - 1
 
 
-def even_with(words):
-    """Words that share an even number of bits with each of these, and whose XORs are all such words."""
-    tops = {}
+def highest(w):
+    return w.bit_length() - 1
+
+
+def lowest(w):
+    return (w & -w).bit_length() - 1
+
+
+def rank_of(columns):
+    basis = {}
+    for w in columns:
+        while w and highest(w) in basis:
+            w ^= basis[highest(w)]
+        if w:
+            basis[highest(w)] = w
+    return len(basis)
+
+
+def even_with(words, m=64, end=highest):
+    """Words of m bits that share an even number of bits with each of these, and whose XORs are all such words. `end` says by which
+    bit these are reduced."""
+    ends = {}
     for w in words:
-        for top, other in tops.items():
-            if w >> top & 1:
+        for bit, other in ends.items():
+            if w >> bit & 1:
                 w ^= other
         if w:
-            new = w.bit_length() - 1
-            tops = {top: other ^ w if other >> new & 1 else other for top, other in tops.items()}
-            tops[new] = w
-    free = [b for b in range(64) if b not in tops]
-    return [1 << b | sum(1 << top for top, w in tops.items() if w >> b & 1) for b in free]
+            new = end(w)
+            ends = {bit: other ^ w if other >> new & 1 else other for bit, other in ends.items()}
+            ends[new] = w
+    free = [b for b in range(m) if b not in ends]
+    return [1 << b | sum(1 << bit for bit, w in ends.items() if w >> b & 1) for b in free]
 
 
 def calls_of(number):
@@ -1042,4 +1111,5 @@ def calls_of(number):
     batch.words(80)
     batch.layouts(40)
     batch.answers()
+    batch.two_calls(25)
     return batch.calls

@@ -4,6 +4,7 @@ use super::{Input, Use};
 use crate::arguments::Given;
 use crate::canceller::{self, Plan, Refusal, Reply, Set, SET_MAX};
 use crate::ending::{Outcome, Status};
+use crate::refusals::NO_WORDS;
 use crate::svg::{number, ticks, Svg, LETTER};
 use crate::text_form::{cells_of, Cell};
 use crate::{bits, files, numbers};
@@ -30,9 +31,6 @@ fn run(given: &Given) -> Outcome {
     files::write(given.option("-o"), picture.as_bytes())?;
     Ok(Status::Done)
 }
-
-/// No words: every signature is explained.
-const NO_WORDS: u64 = 17;
 
 /// Everything that is drawn.
 struct Picture {

@@ -27,7 +27,7 @@ fn run(given: &Given) -> Outcome {
 
 /// All uses on one screen: a line for each form, and behind the last one what the use does.
 pub fn overview() -> String {
-    const FORM: usize = 38;
+    const FORM: usize = 39;
     let mut text =
         "Words of signature bits in which every unknown cell cancels. usage: canceller ..\n\n"
             .to_string();

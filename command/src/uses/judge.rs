@@ -1,8 +1,8 @@
 //! Judges signatures, of the command line or of a CSV file.
 
-use super::{Input, Use};
-use crate::arguments::{wrong, Given};
-use crate::canceller::{self, Plan, Refusal, Verdict, PLAN_MAX};
+use super::{plan_in, Use};
+use crate::arguments::{not_both_standard, wrong, Given};
+use crate::canceller::{self, Refusal, Verdict};
 use crate::csv::{self, Asked};
 use crate::ending::{say, say_refused, unusable, Outcome, Status};
 use crate::files::{self, Output};
@@ -43,13 +43,6 @@ fn run(given: &Given) -> Outcome {
     }
 }
 
-/// The plan file, and what is in it.
-fn plan_of(given: &Given) -> Outcome<(Input, Plan)> {
-    let file = Input::read(&given.operands[0], PLAN_MAX)?;
-    let plan = file.ask(canceller::read_plan)?;
-    Ok((file, plan))
-}
-
 fn judge_listed(given: &Given, signatures: &[OsString]) -> Outcome {
     if let Some(option) = ["-o", "--column", "--map"]
         .into_iter()
@@ -61,7 +54,7 @@ fn judge_listed(given: &Given, signatures: &[OsString]) -> Outcome {
         .iter()
         .map(|s| word_of(s))
         .collect::<Outcome<_>>()?;
-    let (file, plan) = plan_of(given)?;
+    let (file, plan) = plan_in(&given.operands[0])?;
     let (mut worst, mut text) = (Status::Done, String::new());
     let mut refused = Vec::new();
     for (signature, name) in words.into_iter().zip(signatures) {
@@ -112,9 +105,7 @@ fn word_of(text: &OsStr) -> Outcome<u64> {
 fn judge_csv(given: &Given, csv: &OsStr) -> Outcome {
     let (output, map) = (given.option("-o"), given.option("--map"));
     let standard = |path: Option<&OsString>| path.is_some_and(|path| files::is_standard(path));
-    if files::is_standard(csv) && standard(given.operands.first()) {
-        return wrong(&USE, "standard input can't be both the plan and the rows");
-    }
+    not_both_standard(&USE, [&given.operands[0], csv], "the plan and the rows")?;
     if standard(map) && (output.is_none() || standard(output)) {
         return wrong(
             &USE,
@@ -125,7 +116,7 @@ fn judge_csv(given: &Given, csv: &OsStr) -> Outcome {
         Some(name) => name.to_string_lossy().into_owned(),
         None => "signature".to_string(),
     };
-    let (file, _) = plan_of(given)?;
+    let (file, _) = plan_in(&given.operands[0])?;
     let mut wafer = map.map(|_| Wafer::default());
     let mut rows = Output::to(output)?;
     let asked = Asked {

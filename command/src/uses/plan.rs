@@ -25,16 +25,26 @@ Example: canceller plan sample.set -o sample.plan",
 fn run(given: &Given) -> Outcome {
     let set = Input::read(&given.operands[0], SET_MAX)?;
     let planned = set.ask(planned);
-    let output = given.option("-o");
-    let prints = output.is_none_or(|path| !files::is_standard(path));
-    if let (Err(Stop::Refused { number, .. }), true) = (&planned, prints) {
+    if let (Err(Stop::Refused { number, .. }), true) = (&planned, prints(given)) {
         files::write(None, format!("refused {number}\n").as_bytes())?;
     }
     let (plan, lines) = planned?;
+    put(given, &set, &plan, &lines)
+}
+
+/// Whether lines are printed: not where the plan file goes to standard output.
+fn prints(given: &Given) -> bool {
+    let output = given.option("-o");
+    output.is_none_or(|path| !files::is_standard(path))
+}
+
+/// Writes the plan file of a set where -o is given, and prints the lines about it.
+pub fn put(given: &Given, set: &Input, plan: &Plan, lines: &str) -> Outcome {
+    let output = given.option("-o");
     if output.is_some() {
-        files::write(output, &set.ask(|_| canceller::write_plan(&plan))?)?;
+        files::write(output, &set.ask(|_| canceller::write_plan(plan))?)?;
     }
-    if prints {
+    if prints(given) {
         files::write(None, lines.as_bytes())?;
     }
     Ok(Status::Done)

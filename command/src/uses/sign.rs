@@ -1,9 +1,9 @@
 //! The signature of a record.
 
 use super::{Input, Use};
-use crate::arguments::Given;
+use crate::arguments::{not_both_standard, Given};
 use crate::canceller::{self, RECORD_MAX, SET_MAX};
-use crate::ending::{of, unusable, Outcome, Status};
+use crate::ending::{of, Outcome, Status};
 use crate::files;
 
 pub const USE: Use = Use {
@@ -20,11 +20,10 @@ Example: canceller sign sample.set sample.record",
 };
 
 fn run(given: &Given) -> Outcome {
-    if given.operands.iter().all(|path| files::is_standard(path)) {
-        return unusable("sign: standard input can't be both the set and the record");
-    }
-    let set = Input::read(&given.operands[0], SET_MAX)?;
-    let record = Input::read(&given.operands[1], RECORD_MAX)?;
+    let (set, record) = (&given.operands[0], &given.operands[1]);
+    not_both_standard(&USE, [set, record], "the set and the record")?;
+    let set = Input::read(set, SET_MAX)?;
+    let record = Input::read(record, RECORD_MAX)?;
     let signed = canceller::sign(&set.bytes, &record.bytes);
     // 12 and 13 are about the record, all others about the set
     let about = match signed {

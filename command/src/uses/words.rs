@@ -1,8 +1,8 @@
 //! Prints a plan file.
 
-use super::{Input, Use};
+use super::{plan_in, Use};
 use crate::arguments::Given;
-use crate::canceller::{self, Plan, PLAN_MAX};
+use crate::canceller::Plan;
 use crate::ending::{Outcome, Status};
 use crate::{bits, files};
 
@@ -21,8 +21,7 @@ Example: canceller words sample.plan",
 };
 
 fn run(given: &Given) -> Outcome {
-    let file = Input::read(&given.operands[0], PLAN_MAX)?;
-    let plan = file.ask(canceller::read_plan)?;
+    let (_, plan) = plan_in(&given.operands[0])?;
     files::write(None, table(&plan).as_bytes())?;
     Ok(Status::Done)
 }

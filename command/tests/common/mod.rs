@@ -112,6 +112,14 @@ pub fn ended(child: Child) -> Ran {
     }
 }
 
+/// A folder with the sample, sample.set, and its plan, sample.plan.
+pub fn with_planned_sample(name: &str) -> Folder {
+    let folder = Folder::new(name);
+    folder.put("sample.set", sample("sample.set"));
+    folder.done(&["plan", "sample.set", "-o", "sample.plan"]);
+    folder
+}
+
 /// Where a set has its inversion word: behind m, of 2 bytes, and the tap word, of 8.
 const INVERSION: std::ops::Range<usize> = 10..18;
 
