@@ -82,13 +82,14 @@ fn a_plan_of_the_old_words_and_the_revised_bits_is_the_plan_made_anew() {
 #[test]
 fn the_largest_sets_revised() {
     let mut both = Both::new();
+    let mut failing = 0;
     for (rank, unknowns) in [(1, 1), (20, 90), (40, 512), (62, 513), (63, 700)] {
         let mut r = Random::new(142_000 + rank as u64);
         both.at = format!("rank {rank}, {unknowns} unknown cells");
         let before = content_of_rank(&mut r, (64, 256, 512), rank, unknowns);
         let after = revised(&mut r, &before);
         let made = revised_plan(&mut both, &before, &after);
-        let (file, plan, _) = made.expect("fewer than 64 dimensions");
+        let (file, plan, earlier) = made.expect("fewer than 64 dimensions");
         assert_eq!(plan.words.len(), 64 - rank, "{}", both.at);
         // a record that holds the revised values passes, whatever its unknown cells hold
         let mut record = record(&mut r, 256, 512);
@@ -99,7 +100,13 @@ fn the_largest_sets_revised() {
         let judged = both.judge(&file, y).expect("a signature");
         assert_eq!(judged.fails_at, None, "{}", both.at);
         assert_eq!(judged.cancelled, plan.expected, "{}", both.at);
+        // .. and one that holds the values of before fails where they expected something else
+        let y = zero_signature(&mut both, &before);
+        let judged = both.judge(&file, y).expect("a signature");
+        assert_eq!(judged.cancelled, earlier, "{}", both.at);
+        failing += usize::from(judged.fails_at.is_some());
     }
+    assert!(failing >= 3, "{failing} of the revisions matter");
 }
 
 /// Sets of this width: with a few unknown cells, with so many that they have no words, with none, with all, with one slice, and
@@ -188,14 +195,16 @@ fn every_reduced_list_of_a_small_width_gets_its_parities_for_every_set() {
 
 /// Every list of up to `longest` words below `end`, in any order and with repeats.
 fn lists_of_words(end: u64, longest: usize) -> Vec<Vec<u64>> {
-    let (mut all, mut last) = (vec![vec![]], vec![vec![]]);
+    let (mut all, mut done) = (vec![vec![]], 0);
     for _ in 0..longest {
-        let longer = |list: &Vec<u64>| (0..end).map(|w| [&list[..], &[w]].concat()).collect();
-        last = last
-            .iter()
-            .flat_map(|list| -> Vec<Vec<u64>> { longer(list) })
-            .collect();
-        all.extend(last.clone());
+        let until = all.len();
+        for i in done..until {
+            for w in 0..end {
+                let longer = [&all[i][..], &[w]].concat();
+                all.push(longer);
+            }
+        }
+        done = until;
     }
     all
 }
