@@ -19,7 +19,7 @@ use row::{Row, Side};
 use std::hint::black_box;
 
 /// The calls whose instructions are counted, each with one input.
-const COUNTED: [(&str, fn() -> Row); 14] = [
+const COUNTED: [(&str, fn() -> Row); 17] = [
     ("read_set", rows::reader),
     ("value_row", || rows::stretch(false)),
     ("write_set", rows::set_writer),
@@ -27,6 +27,9 @@ const COUNTED: [(&str, fn() -> Row); 14] = [
     ("sign", rows::signature),
     ("list-63", || rows::listing(512, 63, 63, 1)),
     ("list-4096", || rows::listing(512, 4_096, 63, 1)),
+    ("plan_words-63", || rows::wording(512, 63, 63, 1)),
+    ("plan_words-4096", || rows::wording(512, 4_096, 63, 1)),
+    ("expect", rows::expecting),
     ("plan-63", || rows::planning(512, 63, 63, 1)),
     ("plan-4096", || rows::planning(512, 4_096, 63, 1)),
     ("eliminate-63", || rows::elimination(63, 63, 1)),
