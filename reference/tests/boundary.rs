@@ -1,7 +1,8 @@
 //! The C header: compiled as C and as C++ and called on the sample, and held to the Rust declarations and to what the static
-//! library exports.
+//! library exports. And the Rust wrapper's functions for planning's two calls, which no program here uses.
 
-use reference::repository::{repository, text};
+use reference::library::canceller::{expect, plan_words, Refusal};
+use reference::repository::{repository, sample, text};
 use std::collections::BTreeMap;
 use std::path::Path;
 use std::process::Command;
@@ -41,6 +42,23 @@ fn a_c_program_calls_every_function_on_the_sample() {
 #[test]
 fn a_cpp_program_calls_every_function_on_the_sample() {
     assert_eq!(run("c++", ["-std=c++11", "-xc++"], "boundary_cpp"), LINES);
+}
+
+#[test]
+fn the_rust_wrapper_gives_the_words_and_the_expected_bits_of_the_sample() {
+    let (set, none) = (sample("sample.set"), sample("no-words.set"));
+    assert_eq!(plan_words(&set), Ok((3, vec![3, 4])));
+    assert_eq!(plan_words(&none), Err(Refusal(17)));
+    let lines: [(&[u64], _); 4] = [
+        (&[3, 4], Ok(0)),
+        (&[1, 2, 4], Ok(3)),
+        (&[], Err(Refusal(20))),
+        (&[4, 3], Err(Refusal(21))),
+    ];
+    for (words, expected) in lines {
+        assert_eq!(expect(&set, words), expected, "{words:?}");
+    }
+    assert_eq!(expect(&none, &[1]), Ok(0));
 }
 
 /// A declared thing: the fields of a struct, or a function's parameters with its answer last. Each is a name and a type, written
