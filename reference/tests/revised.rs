@@ -277,6 +277,22 @@ fn made<A>(call: MakesWords<A>, set: &[u8], rooms: [usize; 2]) -> (A, [Vec<u64>;
     (answer, lists)
 }
 
+/// Planning and its two calls by the library alone, which come to the same; the number that they give.
+fn in_a_row(set: &[u8], rooms: [usize; 2], at: &str) -> u64 {
+    let (planned, lists) = made(canceller_plan, set, rooms);
+    let (worded, after_words) = made(canceller_plan_words, set, rooms);
+    assert!(lists == after_words, "{at}: the lists are left differently");
+    assert_eq!(planned.refusal, worded.refusal, "{at}");
+    assert_eq!([planned.m, planned.q], [worded.m, worded.q], "{at}");
+    let words = &lists[1][..worded.q as usize];
+    let expected =
+        unsafe { canceller_expect(set.as_ptr(), set.len(), words.as_ptr(), words.len()) };
+    // a refusal leaves no words, and for none there are no bits
+    assert_eq!(expected.refusal == 0, planned.refusal == 0, "{at}");
+    assert_eq!(planned.expected, expected.expected, "{at}");
+    planned.refusal
+}
+
 #[test]
 fn the_librarys_planning_is_its_two_calls_in_a_row() {
     let mut seen: BTreeMap<u64, u64> = BTreeMap::new();
@@ -293,18 +309,8 @@ fn the_librarys_planning_is_its_two_calls_in_a_row() {
         let columns = r.pick(&[unknowns, unknowns + 2, unknowns.saturating_sub(1)]);
         let words = r.below(12);
         let rooms = [columns, r.pick(&[64, largest_m, words])];
-        let (planned, lists) = made(canceller_plan, &set, rooms);
-        let (worded, after_words) = made(canceller_plan_words, &set, rooms);
-        assert_eq!(lists, after_words, "seed {seed}");
-        assert_eq!(planned.refusal, worded.refusal, "seed {seed}");
-        assert_eq!([planned.m, planned.q], [worded.m, worded.q], "seed {seed}");
-        let words = &lists[1][..worded.q as usize];
-        let expected =
-            unsafe { canceller_expect(set.as_ptr(), set.len(), words.as_ptr(), words.len()) };
-        // a list without words gives 20, or the set's number, and no bits
-        assert_eq!(expected.refusal == 0, planned.refusal == 0, "seed {seed}");
-        assert_eq!(planned.expected, expected.expected, "seed {seed}");
-        *seen.entry(planned.refusal).or_insert(0) += 1;
+        let number = in_a_row(&set, rooms, &format!("seed {seed}"));
+        *seen.entry(number).or_insert(0) += 1;
     }
     for number in [0, 1, 2, 3, 25, 4, 5, 6, 7, 8, 9, 10, 14, 17, 18] {
         let count = seen.get(&number).copied().unwrap_or(0);
@@ -314,5 +320,24 @@ fn the_librarys_planning_is_its_two_calls_in_a_row() {
             30
         };
         assert!(count > floor, "{count} sets gave {number}");
+    }
+}
+
+#[test]
+fn the_librarys_planning_of_the_largest_sets_is_its_two_calls_in_a_row() {
+    for (rank, unknowns, number) in [
+        (20, 90, 0),
+        (63, 513, 0),
+        (40, 4_096, 0),
+        (63, 131_072, 0),
+        (64, 131_072, 17),
+    ] {
+        let at = format!("rank {rank}, {unknowns} unknown cells");
+        let mut r = Random::new(154_000 + rank as u64);
+        let set = file_of(&content_of_rank(&mut r, (64, 256, 512), rank, unknowns));
+        assert_eq!(in_a_row(&set, [unknowns, 64], &at), number, "{at}");
+        let short = in_a_row(&set, [unknowns, 63 - rank.min(63)], &at);
+        assert_eq!(short, if number == 0 { 18 } else { number }, "{at}");
+        assert_eq!(in_a_row(&set, [unknowns - 1, 64], &at), 14, "{at}");
     }
 }
