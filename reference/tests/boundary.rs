@@ -1,5 +1,5 @@
 //! The C header: compiled as C and as C++ and called on the sample, and held to the Rust declarations and to what the static
-//! library exports. And the Rust wrapper's functions for planning's two calls, which no program here uses.
+//! library exports. And the Rust wrapper's functions for planning's two calls.
 
 use reference::library::canceller::{expect, plan_words, Refusal};
 use reference::repository::{repository, sample, text};
