@@ -1,5 +1,6 @@
 //! The benchmark: one table of every call, ours beside the same algorithm in Rust, the straightforward one, and M4RI and PARI where
-//! they are installed; a second table of how listing and planning grow, drawn as a picture.
+//! they are installed; planning and the expected bits also beside other calls of ours that do the same, or most of it. A second table
+//! of how listing and planning grow, drawn as a picture.
 //!
 //! `bench` prints the tables, `bench PICTURE` also writes the picture. `bench --count CALL SIDE TIMES` makes one call so many times
 //! and nothing else, for counting instructions; SIDE is `ours` or `rust`. `bench --against OTHER` times these calls beside those of

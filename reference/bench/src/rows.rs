@@ -286,8 +286,8 @@ fn large_plan() -> (&'static Vec<u64>, u64, &'static Vec<u8>) {
     (kept(words[..63].to_vec()), expected, kept(out))
 }
 
-/// The expected bits of 63 words, which are not the set's own. Asked is at most 1.1 times what the set reader and the signature take;
-/// a record's signature is that of the value rows here, and reads the set too.
+/// The expected bits of 63 words, which are not the set's own, beside the signature of its value rows as a record. That call reads the
+/// set too, so it alone is the narrower measure; asked is at most 1.1 times what the set reader and the signature take.
 pub fn expecting() -> Row {
     let ((content, set, _), (words, _, _)) = (large(), large_plan());
     let bits = |signature: u64| {
