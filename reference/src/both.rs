@@ -6,13 +6,13 @@ use crate::fence::{Fenced, SIDES};
 use crate::library::*;
 use crate::second::elimination::eliminate;
 use crate::second::plan::{judge, read_plan_into, write_plan, Judged, Plan};
-use crate::second::planning::plan;
+use crate::second::planning::{expect, plan, plan_words, Planning};
 use crate::second::set::{clock, list_columns, read_set, row_place, sign, write_set, Content, Row};
 use crate::second::{word_of, Reply};
 use std::collections::BTreeMap;
 
 /// Each call with the numbers that it can meet, in the order in which it looks for them, but 16, which no input gives.
-pub const MEETS: [(&str, &[u64]); 12] = [
+pub const MEETS: [(&str, &[u64]); 14] = [
     ("read_set", &[1, 2, 3, 25, 4, 5, 6, 7, 8, 9, 10]),
     ("value_row", &[1, 2, 3, 25, 4, 5, 6, 7, 8, 9, 10, 11]),
     ("mark_row", &[1, 2, 3, 25, 4, 5, 6, 7, 8, 9, 10, 11]),
@@ -21,6 +21,11 @@ pub const MEETS: [(&str, &[u64]); 12] = [
     ("sign", &[1, 2, 3, 25, 4, 5, 6, 7, 8, 9, 10, 12, 13]),
     ("list_columns", &[1, 2, 3, 25, 4, 5, 6, 7, 8, 9, 10, 14]),
     ("eliminate", &[2, 15, 17, 18]),
+    (
+        "plan_words",
+        &[1, 2, 3, 25, 4, 5, 6, 7, 8, 9, 10, 14, 17, 18],
+    ),
+    ("expect", &[1, 2, 3, 25, 4, 5, 6, 7, 8, 9, 10, 20, 21]),
     ("plan", &[1, 2, 3, 25, 4, 5, 6, 7, 8, 9, 10, 14, 17, 18]),
     ("write_plan", &[19, 20, 21, 22, 24]),
     ("read_plan", &[19, 20, 21, 22, 18]),
@@ -347,21 +352,69 @@ impl Both {
         reply
     }
 
-    /// Planning, with lists of these many places.
-    pub fn plan(&mut self, set: &[u8], column_room: usize, word_room: usize) -> Reply<Plan> {
-        let planning = plan(set, column_room, word_room);
-        let columns = planning.columns.unwrap_or_default();
-        let reply = planning.reply;
+    /// A call that makes words of a set, lent lists of these many places: `left` is what their fronts must hold after it.
+    fn makes_words<A: Answer>(
+        &mut self,
+        call: &'static str,
+        set: &[u8],
+        rooms: [usize; 2],
+        left: [&[u64]; 2],
+        want: A,
+        make: MakesWords<A>,
+    ) {
         let lend = [
             Lend::Bytes(set),
-            Lend::List(column_room, &columns),
-            Lend::List(word_room, front(&reply, |p| &p.words)),
+            Lend::List(rooms[0], left[0]),
+            Lend::List(rooms[1], left[1]),
         ];
-        self.compare("plan", &lend, planned_answer(&reply), |lent| {
+        self.compare(call, &lend, want, |lent| {
             let (set, set_len) = lent[0].bytes();
             let ((columns, columns_len), (words, words_len)) = (lent[1].list(), lent[2].list());
-            unsafe { canceller_plan(set, set_len, columns, columns_len, words, words_len) }
+            unsafe { make(set, set_len, columns, columns_len, words, words_len) }
         });
+    }
+
+    /// The words of a set, with lists of these many places.
+    pub fn plan_words(
+        &mut self,
+        set: &[u8],
+        column_room: usize,
+        word_room: usize,
+    ) -> Reply<(u64, Vec<u64>)> {
+        let Planning { reply, columns } = plan_words(set, column_room, word_room);
+        let want = answer(&reply, |(m, words)| CWorded {
+            refusal: 0,
+            m: *m,
+            q: words.len() as u64,
+        });
+        let (rooms, columns) = ([column_room, word_room], columns.unwrap_or_default());
+        let left = [&columns, front(&reply, |(_, words)| words)];
+        self.makes_words("plan_words", set, rooms, left, want, canceller_plan_words);
+        reply
+    }
+
+    /// The expected bits of words for a set.
+    pub fn expect(&mut self, set: &[u8], words: &[u64]) -> Reply<u64> {
+        let reply = expect(set, words);
+        let want = answer(&reply, |&expected| CExpected {
+            refusal: 0,
+            expected,
+        });
+        let lend = [Lend::Bytes(set), Lend::Words(words)];
+        self.compare("expect", &lend, want, |lent| {
+            let ((set, set_len), (words, words_len)) = (lent[0].bytes(), lent[1].words());
+            unsafe { canceller_expect(set, set_len, words, words_len) }
+        });
+        reply
+    }
+
+    /// Planning, with lists of these many places.
+    pub fn plan(&mut self, set: &[u8], column_room: usize, word_room: usize) -> Reply<Plan> {
+        let Planning { reply, columns } = plan(set, column_room, word_room);
+        let (rooms, columns) = ([column_room, word_room], columns.unwrap_or_default());
+        let left = [&columns, front(&reply, |p| &p.words)];
+        let want = planned_answer(&reply);
+        self.makes_words("plan", set, rooms, left, want, canceller_plan);
         reply
     }
 

@@ -3,9 +3,9 @@
 use crate::both::Both;
 use crate::random::*;
 use crate::second::layout::*;
-use crate::second::number_at;
 use crate::second::plan::{write_plan, Plan};
 use crate::second::set::Content;
+use crate::second::{number_at, Reply};
 
 /// A set file with a record of its shape, and the number of its unknown cells.
 pub struct Files {
@@ -41,6 +41,7 @@ pub fn calls(both: &mut Both, seed: u64) {
         bad_content(both, r);
         bad_clock(both, r);
         elimination(both, r);
+        expectation(both, r);
         plan_content(both, r);
         bad_plan(both, r);
     }
@@ -81,22 +82,35 @@ pub fn every_call(both: &mut Both, files: &Files) {
         let listed = both.list_columns(set, room);
         assert_eq!(listed.is_ok(), room >= *unknowns, "{}", both.at);
     }
-    let planned = both.plan(set, *unknowns, 64);
-    both.plan(set, unknowns.saturating_sub(1), 64).ok();
+    let planned = planning(both, set, *unknowns, 64);
+    planning(both, set, unknowns.saturating_sub(1), 64).ok();
     let Ok(plan) = planned else {
-        // 17 comes before 18
+        // 17 comes before 18, and is no number of the expected bits
         for room in [0, 1] {
-            let again = both.plan(set, unknowns + 1, room);
+            let again = planning(both, set, unknowns + 1, room);
             assert_eq!(again, Err(17), "{}", both.at);
         }
+        assert!(both.expect(set, &[1]).is_ok(), "{}", both.at);
         return;
     };
     let q = plan.words.len();
     for room in [q, q - 1, q + 1] {
-        let again = both.plan(set, unknowns + 1, room);
+        let again = planning(both, set, unknowns + 1, room);
         assert_eq!(again.is_ok(), room >= q, "{}", both.at);
     }
     good_plan(both, &plan);
+}
+
+/// Planning, and its two calls in a row, which come to the same.
+pub fn planning(both: &mut Both, set: &[u8], column_room: usize, word_room: usize) -> Reply<Plan> {
+    let plan = both.plan(set, column_room, word_room);
+    let words = both.plan_words(set, column_room, word_room);
+    let in_a_row = words.and_then(|(m, words)| {
+        let expected = both.expect(set, &words)?;
+        Ok(Plan { m, words, expected })
+    });
+    assert_eq!(plan, in_a_row, "{}", both.at);
+    plan
 }
 
 /// A plan through its writer, its reader and judging.
@@ -126,7 +140,10 @@ pub fn set_calls(both: &mut Both, set: &[u8], record: &[u8], unknowns: usize) {
     both.sign(set, record).ok();
     both.rows(set, 0).ok();
     both.list_columns(set, unknowns).ok();
-    both.plan(set, unknowns, 64).ok();
+    planning(both, set, unknowns, 64).ok();
+    for words in [&[1][..], &[], &[2, 1]] {
+        both.expect(set, words).ok();
+    }
 }
 
 /// One way to make a set bad, or to put a field at its limit.
@@ -362,6 +379,42 @@ pub fn elimination(both: &mut Both, r: &mut Random) {
     both.eliminate(width, &columns, room).ok();
 }
 
+/// Expected bits of a good set for its own words, if it has any, or for another reduced list, with up to two changes.
+pub fn expectation(both: &mut Both, r: &mut Random) {
+    let largest_m = r.pick(&[4, 12, 64]);
+    let content = small_content(r, largest_m, 12, 4);
+    let (set, m) = (file_of(&content), content.m as usize);
+    let own = both.plan_words(&set, unknowns_of(&content), 64);
+    let mut words = match own {
+        Ok((_, words)) if r.one_in(2) => words,
+        _ => reduced_words(r, m),
+    };
+    for _ in 0..r.below(3) {
+        change_words(r, m, &mut words);
+    }
+    both.expect(&set, &words).ok();
+}
+
+/// A word more or less, another word, another order or another length.
+fn change_words(r: &mut Random, m: usize, words: &mut Vec<u64>) {
+    if words.is_empty() {
+        return words.push(r.word());
+    }
+    let at = r.below(words.len());
+    match r.below(9) {
+        0 => words.clear(),
+        1 => words.push(r.word()),
+        2 => words.reverse(),
+        3 => words[at] ^= 1 << r.below(64),
+        4 => words.resize(r.pick(&[1, 64, 65, 66]), 1),
+        5 => words.insert(0, words[0]),
+        6 => drop(words.remove(at)),
+        7 => words[at] = r.beyond(m),
+        // one word more than m, where a word has a bit for it
+        _ => *words = (0..=m.min(63)).map(|i| 1 << i).collect(),
+    }
+}
+
 /// The plan writer on a good content with up to two changes.
 pub fn plan_content(both: &mut Both, r: &mut Random) {
     let m = 1 + r.below(64);
@@ -380,25 +433,10 @@ pub fn plan_content(both: &mut Both, r: &mut Random) {
 }
 
 fn change_plan(r: &mut Random, plan: &mut Plan) {
-    let words = &mut plan.words;
     match r.below(8) {
         0 => plan.m = r.pick(&[0, 1, 64, 65, u64::MAX]),
-        1 => words.clear(),
-        2 => words.push(r.word()),
-        3 => words.reverse(),
-        4 => {
-            let at = r.below(words.len().max(1));
-            if let Some(w) = words.get_mut(at) {
-                *w ^= 1 << r.below(64);
-            }
-        }
-        5 => plan.expected = r.word(),
-        6 => words.resize(r.pick(&[1, 64, 65, 66]), 1),
-        _ => {
-            if let Some(&w) = words.first() {
-                words.insert(0, w);
-            }
-        }
+        1 => plan.expected = r.word(),
+        _ => change_words(r, plan.m.min(64) as usize, &mut plan.words),
     }
 }
 

@@ -160,6 +160,17 @@ pub fn content(r: &mut Random, m: usize, n: usize, s: usize, one: usize, of: usi
     }
 }
 
+/// The same content with some of its known cells' values flipped: a few, or half of them.
+pub fn revised(r: &mut Random, content: &Content) -> Content {
+    let of = r.pick(&[2, 8, 40]);
+    let flips = rows(r, content.spread.len(), content.s as usize, 1, of);
+    let mut other = content.clone();
+    for ((v, k), flip) in other.values.iter_mut().zip(&content.marks).zip(flips) {
+        *v ^= flip & !k;
+    }
+    other
+}
+
 /// The product of two polynomials over GF(2).
 fn product(a: u128, b: u128) -> u128 {
     (0..=64)

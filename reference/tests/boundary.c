@@ -40,6 +40,13 @@ SIZE(canceller_eliminated, 3);
 FIELD(canceller_eliminated, refusal, 0);
 FIELD(canceller_eliminated, rank, 1);
 FIELD(canceller_eliminated, q, 2);
+SIZE(canceller_worded, 3);
+FIELD(canceller_worded, refusal, 0);
+FIELD(canceller_worded, m, 1);
+FIELD(canceller_worded, q, 2);
+SIZE(canceller_expected, 2);
+FIELD(canceller_expected, refusal, 0);
+FIELD(canceller_expected, expected, 1);
 SIZE(canceller_planned, 4);
 FIELD(canceller_planned, refusal, 0);
 FIELD(canceller_planned, m, 1);
@@ -147,6 +154,32 @@ static void eliminations(void) {
     printf("eliminated\n");
 }
 
+/* Planning's two calls, on the sample and on the sample with chain 0's cell of slice 1 revised to 0. */
+static void words_and_bits(void) {
+    uint64_t of_set[3] = {7, 7, 7}, place[2] = {7, 7};
+    canceller_worded worded = canceller_plan_words(set, 42, place, 2, of_set, 3);
+    MUST(worded.refusal == 0 && worded.m == 3 && worded.q == 2);
+    MUST(of_set[0] == 3 && of_set[1] == 4 && of_set[2] == 7 && place[0] == 3 && place[1] == 7);
+    worded = canceller_plan_words(set, 42, place, 2, NULL, 0);
+    MUST(worded.refusal == 18 && worded.m == 0 && worded.q == 0);
+    MUST(canceller_plan_words(set, 42, NULL, 0, of_set, 3).refusal == 14);
+
+    uint8_t revised[42];
+    memcpy(revised, set, 42);
+    revised[40] = 0;
+    canceller_expected before = canceller_expect(set, 42, of_set, 2), after = canceller_expect(revised, 42, of_set, 2);
+    MUST(before.refusal == 0 && before.expected == 0 && after.refusal == 0 && after.expected == 1);
+    printf("words: %d %d, expected %d, revised %d\n", (int)of_set[0], (int)of_set[1], (int)before.expected, (int)after.expected);
+
+    const uint64_t others[3] = {1, 2, 4}, falling[2] = {4, 3};
+    canceller_expected signature = canceller_expect(revised, 42, others, 3);
+    MUST(signature.refusal == 0 && signature.expected == 2);
+    after = canceller_expect(revised, 42, NULL, 0);
+    MUST(after.refusal == 20 && after.expected == 0);
+    MUST(canceller_expect(revised, 42, falling, 2).refusal == 21);
+    MUST(canceller_expect(NULL, 0, NULL, 0).refusal == 1);
+}
+
 static void plans(void) {
     canceller_planned planned = canceller_plan(set, 42, columns, 3, words, 4);
     MUST(planned.refusal == 0 && planned.m == 3 && planned.q == 2 && planned.expected == 0);
@@ -182,6 +215,7 @@ int main(void) {
     sets();
     responses();
     eliminations();
+    words_and_bits();
     plans();
     inverted();
     return 0;

@@ -1,7 +1,8 @@
 //! The C header: compiled as C and as C++ and called on the sample, and held to the Rust declarations and to what the static
-//! library exports.
+//! library exports. And the Rust wrapper's functions for planning's two calls.
 
-use reference::repository::{repository, text};
+use reference::library::canceller::{expect, plan_words, Refusal};
+use reference::repository::{repository, sample, text};
 use std::collections::BTreeMap;
 use std::path::Path;
 use std::process::Command;
@@ -30,8 +31,8 @@ fn run(compiler: &str, language: [&str; 2], name: &str) -> String {
 }
 
 const LINES: &str = "set written: 42 bytes\nset read\nrows found\nclocked\nsigned: 3 and 0\ncolumn: 3\neliminated\n\
-                     planned: words 3 4, expected 0\nplan written and read: 23 bytes\njudged\n\
-                     inverted: signed 5, expected 3\n";
+                     words: 3 4, expected 0, revised 1\nplanned: words 3 4, expected 0\n\
+                     plan written and read: 23 bytes\njudged\ninverted: signed 5, expected 3\n";
 
 #[test]
 fn a_c_program_calls_every_function_on_the_sample() {
@@ -41,6 +42,23 @@ fn a_c_program_calls_every_function_on_the_sample() {
 #[test]
 fn a_cpp_program_calls_every_function_on_the_sample() {
     assert_eq!(run("c++", ["-std=c++11", "-xc++"], "boundary_cpp"), LINES);
+}
+
+#[test]
+fn the_rust_wrapper_gives_the_words_and_the_expected_bits_of_the_sample() {
+    let (set, none) = (sample("sample.set"), sample("no-words.set"));
+    assert_eq!(plan_words(&set), Ok((3, vec![3, 4])));
+    assert_eq!(plan_words(&none), Err(Refusal(17)));
+    let lines: [(&[u64], _); 4] = [
+        (&[3, 4], Ok(0)),
+        (&[1, 2, 4], Ok(3)),
+        (&[], Err(Refusal(20))),
+        (&[4, 3], Err(Refusal(21))),
+    ];
+    for (words, expected) in lines {
+        assert_eq!(expect(&set, words), expected, "{words:?}");
+    }
+    assert_eq!(expect(&none, &[1]), Ok(0));
 }
 
 /// A declared thing: the fields of a struct, or a function's parameters with its answer last. Each is a name and a type, written
@@ -150,7 +168,7 @@ fn the_header_and_the_rust_declarations_say_the_same() {
     assert_eq!(functions, rust_functions);
     let parameters: usize = functions.values().map(Vec::len).sum();
     assert!(
-        structs.len() >= 9 && functions.len() >= 12 && parameters >= 60,
+        structs.len() >= 11 && functions.len() >= 14 && parameters >= 70,
         "{structs:?} {functions:?}"
     );
 }

@@ -1,6 +1,7 @@
 //! The third demand by force: for thousands of small sets every filling is enumerated, and each signature of the register's width
 //! is judged by the plan file of the set. Exactly the explained signatures pass, and records alike in the known cells are judged
-//! alike, whether or not they agree with the set. Most of the sets' registers invert some of their inputs.
+//! alike, whether or not they agree with the set. Most of the sets' registers invert some of their inputs. A set whose values were
+//! revised is judged by the words that it had before.
 
 use reference::both::Both;
 use reference::random::*;
@@ -53,6 +54,17 @@ fn first_to_disagree(plan: &Plan, y: u64) -> Option<u64> {
     (0..plan.words.len()).find(disagrees).map(|i| i as u64)
 }
 
+/// Judges every signature of the plan's width by its file: these pass, and no others.
+fn passes_exactly(both: &mut Both, p: &Plan, explained: &BTreeSet<u64>) {
+    let plan = both.write_plan(p, 600).expect("a good plan");
+    for y in 0..1u64 << p.m {
+        let judged = both.judge(&plan, y).expect("a signature of the width");
+        let at = judged.fails_at;
+        assert_eq!(at.is_none(), explained.contains(&y), "{}, {y}", both.at);
+        assert_eq!(at, first_to_disagree(p, y), "{}, {y}", both.at);
+    }
+}
+
 #[test]
 fn exactly_the_explained_signatures_pass() {
     let mut both = Both::new();
@@ -75,13 +87,7 @@ fn exactly_the_explained_signatures_pass() {
         let Ok(p) = planned else {
             continue;
         };
-        let plan = both.write_plan(&p, 600).expect("a plan that planning made");
-        for y in 0..all {
-            let judged = both.judge(&plan, y).expect("a signature of the width");
-            let at = judged.fails_at;
-            assert_eq!(at.is_none(), explained.contains(&y), "seed {seed}, {y}");
-            assert_eq!(at, first_to_disagree(&p, y), "seed {seed}, {y}");
-        }
+        passes_exactly(&mut both, &p, &explained);
     }
     let (plans, refused) = (both.seen("plan", 0), both.seen("plan", 17));
     assert!(
@@ -91,6 +97,33 @@ fn exactly_the_explained_signatures_pass() {
     assert!(
         inverting[0] > 900 && inverting[1] > 150,
         "{inverting:?} plans and refusals of registers that invert are too few to show anything"
+    );
+}
+
+#[test]
+fn exactly_the_signatures_that_a_revised_set_explains_pass_by_the_old_words_and_its_bits() {
+    let mut both = Both::new();
+    let mut others = 0;
+    for seed in 104_000..106_000 {
+        let mut r = Random::new(seed);
+        both.at = format!("seed {seed}");
+        let before = small_content(&mut r, 8, 5, 3);
+        let (old, new) = (file_of(&before), file_of(&revised(&mut r, &before)));
+        let u = unknowns_of(&before);
+        if u > 12 {
+            continue;
+        }
+        let Ok((m, words)) = both.plan_words(&old, u, 64) else {
+            continue;
+        };
+        let expected = both.expect(&new, &words).expect("a reduced list");
+        let explained_by = |file: &[u8]| explained(&read_set(file).expect("a good set"));
+        passes_exactly(&mut both, &Plan { m, words, expected }, &explained_by(&new));
+        others += usize::from(explained_by(&old) != explained_by(&new));
+    }
+    assert!(
+        others > 300,
+        "{others} revisions that matter are too few to show anything"
     );
 }
 

@@ -74,7 +74,7 @@ fn largest_set(both: &mut Both, r: &mut Random, c: &Content) -> bool {
     both.list_columns(&files.set, files.unknowns).unwrap();
     both.write_set(c, 34_838).unwrap();
     assert_eq!(both.write_set(c, 34_837), Err(24));
-    both.plan(&files.set, files.unknowns, 64).is_ok()
+    draw::planning(both, &files.set, files.unknowns, 64).is_ok()
 }
 
 #[test]
@@ -267,7 +267,7 @@ fn lists_of_every_length_around_what_is_needed() {
         for room in unknowns.saturating_sub(3)..unknowns + 4 {
             both.list_columns(&file, room).ok();
             for words in 0..c.m as usize + 2 {
-                both.plan(&file, room, words).ok();
+                draw::planning(&mut both, &file, room, words).ok();
             }
         }
         for room in file.len().saturating_sub(3)..file.len() + 4 {
@@ -305,6 +305,18 @@ fn clocks() {
 fn eliminations() {
     let both = drawn(7_000..19_000, draw::elimination);
     mixed(&both, "eliminate", 40);
+}
+
+#[test]
+fn expected_bits_of_good_and_bad_lists() {
+    let both = drawn(34_000..40_000, draw::expectation);
+    mixed(&both, "expect", 40);
+    let without_words = both.seen("plan_words", 17);
+    let (count, form) = (both.seen("expect", 20), both.seen("expect", 21));
+    assert!(
+        without_words > 500 && count > 500 && form > 500,
+        "{without_words} sets have no words, {count} lists gave 20, {form} gave 21"
+    );
 }
 
 #[test]

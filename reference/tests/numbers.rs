@@ -37,6 +37,11 @@ fn refused_by_all(both: &mut Both, what: &str, set: &[u8], n: u64) {
     assert_eq!(number(both.sign(set, &[])), n, "{what}");
     assert_eq!(number(both.list_columns(set, 9)), n, "{what}");
     assert_eq!(number(both.plan(set, 9, 9)), n, "{what}");
+    assert_eq!(number(both.plan_words(set, 9, 9)), n, "{what}");
+    // good words, none, too many, and lists that aren't reduced: the set's numbers come before 20 and 21
+    for words in [&[1][..], &[], &[1; 65], &[2, 1], &[0]] {
+        assert_eq!(number(both.expect(set, words)), n, "{what}, {words:?}");
+    }
 }
 
 #[test]
@@ -179,10 +184,19 @@ fn calls_on_the_sample_and_on_sets_at_the_edges() {
     }
     assert_eq!(number(both.list_columns(&set, 1)), 0);
     assert_eq!(number(both.list_columns(&set, 0)), 14);
-    assert_eq!(number(both.plan(&set, 1, 2)), 0);
-    assert_eq!(number(both.plan(&set, 0, 2)), 14);
-    assert_eq!(number(both.plan(&set, 1, 1)), 18);
-    assert_eq!(number(both.plan(&sample("no-words.set"), 1, 0)), 17);
+    let none = sample("no-words.set");
+    let lines = [
+        (&set, 1, 2, 0),
+        (&set, 0, 2, 14),
+        (&set, 1, 1, 18),
+        (&none, 1, 0, 17),
+        (&none, 0, 0, 14),
+    ];
+    for (set, columns, words, n) in lines {
+        let what = format!("{} bytes, {columns} and {words} places", set.len());
+        assert_eq!(number(both.plan(set, columns, words)), n, "{what}");
+        assert_eq!(number(both.plan_words(set, columns, words)), n, "{what}");
+    }
     for (name, n) in [
         ("chains-256.set", 0),
         ("slices-0.set", 0),
@@ -194,6 +208,51 @@ fn calls_on_the_sample_and_on_sets_at_the_edges() {
         ("too-long.set", 8),
     ] {
         assert_eq!(number(both.read_set(&sample(name))), n, "{name}");
+    }
+}
+
+#[test]
+fn the_expected_bits() {
+    let mut both = Both::new();
+    let bits: Vec<u64> = (0..64).map(|i| 1 << i).collect();
+    let more = [&bits[..], &[1 << 63]].concat();
+    let lines: [(&str, &[u64], u64); 27] = [
+        // the sample's own words, and others: m is 3
+        ("sample.set", &[3, 4], 0),
+        ("sample.set", &[4], 0),
+        ("sample.set", &[7], 0),
+        ("sample.set", &[1, 2, 4], 0),
+        ("sample.set", &[2, 5], 0),
+        ("sample.set", &[], 20),
+        ("sample.set", &[1, 2, 4, 8], 20),
+        // 20 comes before 21
+        ("sample.set", &[0, 0, 0, 0], 20),
+        ("sample.set", &[4, 2, 1, 1], 20),
+        ("sample.set", &[0], 21),
+        ("sample.set", &[8], 21),
+        ("sample.set", &[1 << 63], 21),
+        ("sample.set", &[3, 8], 21),
+        ("sample.set", &[4, 3], 21),
+        ("sample.set", &[3, 3], 21),
+        ("sample.set", &[3, 6], 21),
+        ("sample.set", &[1, 3], 21),
+        ("sample.set", &[1, 2, 7], 21),
+        // a set whose planning gives 17: m is 1
+        ("no-words.set", &[1], 0),
+        ("no-words.set", &[], 20),
+        ("no-words.set", &[1, 2], 20),
+        ("no-words.set", &[2], 21),
+        ("no-words.set", &[0], 21),
+        // as many words as there can be, and one more
+        ("width-64.set", &bits, 0),
+        ("width-64.set", &more, 20),
+        ("slices-0.set", &bits[..3], 0),
+        ("slices-0.set", &bits[..4], 20),
+    ];
+    for (name, words, n) in lines {
+        both.at = format!("{name}, words {words:?}");
+        let expected = both.expect(&sample(name), words);
+        assert_eq!(number(expected), n, "{}", both.at);
     }
 }
 

@@ -110,6 +110,36 @@ fn the_sample() {
 }
 
 #[test]
+fn the_samples_words_and_expected_bits_by_two_calls() {
+    let set = sample("sample.set");
+    let mut both = both();
+    assert_eq!(both.plan_words(&set, 1, 2), Ok((3, vec![3, 4])));
+    // the signature for the unknown cell 0 is 3: bits 0 and 1
+    let lines: [(&[u64], u64); 7] = [
+        (&[3, 4], 0),
+        (&[1, 2, 4], 0b011),
+        (&[1], 1),
+        (&[2, 4], 0b01),
+        (&[4], 0),
+        (&[2, 5], 0b11),
+        (&[7], 0),
+    ];
+    for (words, expected) in lines {
+        assert_eq!(both.expect(&set, words), Ok(expected), "{words:?}");
+    }
+    // revised: chain 0's cell of slice 1 is 0, so the signature for the unknown cell 0 is 2, and word 0 expects a 1
+    let mut revised = set.clone();
+    revised[40] = 0;
+    assert_eq!(both.sign(&revised, &[1, 0]), Ok(2));
+    assert_eq!(both.plan_words(&revised, 1, 2), Ok((3, vec![3, 4])));
+    assert_eq!(both.expect(&revised, &[3, 4]), Ok(0b01));
+    // m 1 and one unknown cell with the column 1: no words, and the signature for that cell 0 is 0
+    let none = sample("no-words.set");
+    assert_eq!(both.plan_words(&none, 1, 1), Err(17));
+    assert_eq!(both.expect(&none, &[1]), Ok(0));
+}
+
+#[test]
 fn the_sample_with_bit_1_inverted() {
     // with the unknown cell 0: state 0, then 0 ^ 1 ^ 2 = 3, then 6 ^ 1 ^ 2 = 5; its column 3 is the sample's
     let set = sample("inversion-2.set");
@@ -120,6 +150,8 @@ fn the_sample_with_bit_1_inverted() {
     assert_eq!(both.sign(&set, &[3, 1]), Ok(5 ^ 3));
     let p = both.plan(&set, 1, 2).unwrap();
     assert_eq!((p.m, p.words.clone(), p.expected), (3, vec![3, 4], 0b11));
+    assert_eq!(both.expect(&set, &[3, 4]), Ok(0b11));
+    assert_eq!(both.expect(&set, &[1, 2, 4]), Ok(5));
     let plan = both.write_plan(&p, 23).unwrap();
     for (y, verdict) in [(5, None), (6, None), (3, Some(0)), (1, Some(1))] {
         let judged = both.judge(&plan, y).unwrap();

@@ -57,7 +57,26 @@ impl Served {
     }
 }
 
-/// Prints a line for each call that both benches have.
+/// The times of a call in some benches, asked in turn; who is first changes with each round.
+fn timed(benches: &[&str], call: &str) -> Vec<Times> {
+    let started = benches.iter().map(|bench| Served::start(bench, call));
+    let mut sides: Vec<Served> = started.collect();
+    let mut times = vec![Vec::new(); sides.len()];
+    for round in 0..=ROUNDS {
+        for k in 0..sides.len() {
+            let k = (k + round) % sides.len();
+            let time = sides[k].time();
+            // the first round is for getting warm
+            if round > 0 {
+                times[k].push(time);
+            }
+        }
+    }
+    sides.into_iter().for_each(Served::end);
+    times.into_iter().map(Times::of).collect()
+}
+
+/// Prints a line for each call; one that the other bench doesn't have is timed alone.
 pub fn print_all(other: &str, calls: &[&str]) {
     let listed = Command::new(other)
         .arg("--count")
@@ -70,27 +89,17 @@ pub fn print_all(other: &str, calls: &[&str]) {
     println!("|---|---|---|---|");
     for call in calls {
         if !listed.lines().any(|name| name == *call) {
-            println!("| `{call}` | – | – | – |");
+            let now = &timed(&[own], call)[0];
+            println!("| `{call}` | – | {} | – |", now.shown());
             continue;
         }
-        let mut sides = [Served::start(other, call), Served::start(own, call)];
-        let mut times = [Vec::new(), Vec::new()];
-        for round in 0..=ROUNDS {
-            // the first round is for getting warm; who is first changes with each
-            for k in [round % 2, (round + 1) % 2] {
-                let time = sides[k].time();
-                if round > 0 {
-                    times[k].push(time);
-                }
-            }
-        }
-        sides.into_iter().for_each(Served::end);
-        let [before, now] = times.map(Times::of);
+        let times = timed(&[other, own], call);
+        let (before, now) = (&times[0], &times[1]);
         println!(
             "| `{call}` | {} | {} | {} |",
             before.shown(),
             now.shown(),
-            ratio(&now.over(&before))
+            ratio(&now.over(before))
         );
     }
 }

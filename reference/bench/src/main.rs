@@ -1,5 +1,6 @@
 //! The benchmark: one table of every call, ours beside the same algorithm in Rust, the straightforward one, and M4RI and PARI where
-//! they are installed; a second table of how listing and planning grow, drawn as a picture.
+//! they are installed; planning and the expected bits also beside other calls of ours that do the same, or most of it. A second table
+//! of how listing and planning grow, drawn as a picture.
 //!
 //! `bench` prints the tables, `bench PICTURE` also writes the picture. `bench --count CALL SIDE TIMES` makes one call so many times
 //! and nothing else, for counting instructions; SIDE is `ours` or `rust`. `bench --against OTHER` times these calls beside those of
@@ -19,7 +20,7 @@ use row::{Row, Side};
 use std::hint::black_box;
 
 /// The calls whose instructions are counted, each with one input.
-const COUNTED: [(&str, fn() -> Row); 14] = [
+const COUNTED: [(&str, fn() -> Row); 17] = [
     ("read_set", rows::reader),
     ("value_row", || rows::stretch(false)),
     ("write_set", rows::set_writer),
@@ -27,6 +28,9 @@ const COUNTED: [(&str, fn() -> Row); 14] = [
     ("sign", rows::signature),
     ("list-63", || rows::listing(512, 63, 63, 1)),
     ("list-4096", || rows::listing(512, 4_096, 63, 1)),
+    ("plan_words-63", || rows::wording(512, 63, 63, 1)),
+    ("plan_words-4096", || rows::wording(512, 4_096, 63, 1)),
+    ("expect", rows::expecting),
     ("plan-63", || rows::planning(512, 63, 63, 1)),
     ("plan-4096", || rows::planning(512, 4_096, 63, 1)),
     ("eliminate-63", || rows::elimination(63, 63, 1)),

@@ -9,6 +9,16 @@ pub fn plan(set: &[u8], columns: &mut [u64], words: &mut [u64]) -> CPlanned {
     unsafe { canceller_plan(set.as_ptr(), set.len(), c, c_len, w, w_len) }
 }
 
+pub fn plan_words(set: &[u8], columns: &mut [u64], words: &mut [u64]) -> CWorded {
+    let (c, c_len) = (columns.as_mut_ptr(), columns.len());
+    let (w, w_len) = (words.as_mut_ptr(), words.len());
+    unsafe { canceller_plan_words(set.as_ptr(), set.len(), c, c_len, w, w_len) }
+}
+
+pub fn expect(set: &[u8], words: &[u64]) -> CExpected {
+    unsafe { canceller_expect(set.as_ptr(), set.len(), words.as_ptr(), words.len()) }
+}
+
 pub fn list_columns(set: &[u8], columns: &mut [u64]) -> CListed {
     let (c, c_len) = (columns.as_mut_ptr(), columns.len());
     unsafe { canceller_list_columns(set.as_ptr(), set.len(), c, c_len) }

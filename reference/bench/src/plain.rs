@@ -167,17 +167,50 @@ impl PlainSet<'_> {
         columns
     }
 
-    /// Planning: sweep, walk, and the signature cell by cell.
-    pub fn plan(&self) -> Option<(Vec<u64>, u64)> {
-        let words = eliminate(self.m, &self.swept_columns())?;
+    /// The words: sweep and walk. None where there is none.
+    pub fn words(&self) -> Option<Vec<u64>> {
+        eliminate(self.m, &self.swept_columns())
+    }
+
+    /// Each word's parity with the signature cell by cell.
+    fn expected(&self, words: &[u64]) -> u64 {
         let zero = self.signature(self.rows, 2 * self.b);
-        let expected = words
+        words
             .iter()
             .enumerate()
             .map(|(i, w)| u64::from((w & zero).count_ones() & 1) << i)
-            .sum();
+            .sum()
+    }
+
+    /// The expected bits of words that are looked at pair by pair first.
+    pub fn expect(&self, words: &[u64]) -> Result<u64, u64> {
+        if words.is_empty() || words.len() > self.m as usize {
+            return Err(20);
+        }
+        if !is_reduced(self.m, words) {
+            return Err(21);
+        }
+        Ok(self.expected(words))
+    }
+
+    /// Planning: the words, and their expected bits.
+    pub fn plan(&self) -> Option<(Vec<u64>, u64)> {
+        let words = self.words()?;
+        let expected = self.expected(&words);
         Some((words, expected))
     }
+}
+
+/// Whether the words are a reduced list for m, pair by pair.
+fn is_reduced(m: u32, words: &[u64]) -> bool {
+    words.iter().enumerate().all(|(i, &w)| {
+        let clear = |&other: &u64| other >> w.ilog2() & 1 == 0;
+        let (before, after) = (&words[..i], &words[i + 1..]);
+        w != 0
+            && !beyond(m, w)
+            && before.iter().all(|&other| other < w && clear(&other))
+            && after.iter().all(clear)
+    })
 }
 
 /// The words, by a basis of the columns kept fully reduced. None where there is none.

@@ -15,6 +15,8 @@ pub enum Side {
     Same,
     Plain,
     Other(&'static str),
+    /// Other calls of ours that do what the call does, or the better part of it.
+    Parts(&'static str),
 }
 
 pub struct Row {
@@ -104,6 +106,10 @@ impl Row {
         let plain = by(Side::Plain).map_or("–".to_string(), |(_, t)| theirs(t));
         let others = times.iter().filter_map(|(side, t)| match side {
             Side::Other(name) => Some(format!("{name} {}", theirs(t))),
+            Side::Parts(name) => {
+                let of_it = ratio(&ours.over(t));
+                Some(format!("{name} {} (ours {of_it} of it)", t.shown()))
+            }
             _ => None,
         });
         let others = others.collect::<Vec<String>>().join(", ");

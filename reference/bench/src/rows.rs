@@ -3,10 +3,10 @@
 use crate::others::kernels;
 use crate::row::{put, Row, Side};
 use crate::same::elimination::eliminate;
-use crate::same::response::{list_columns, plan, sign};
+use crate::same::response::{expect, list_columns, plan, plan_words, sign};
 use crate::same::set::{clock, mark_row, read_set, value_row, write_set};
 use crate::{ours, plain, same};
-use reference::library::{CPlanned, CStretch};
+use reference::library::{Answer, CPlanned, CStretch, CWorded};
 use reference::random::*;
 use reference::second::set::Content;
 use std::hint::black_box;
@@ -74,16 +74,25 @@ pub fn listing(s: usize, unknowns: usize, rank: usize, inputs: usize) -> Row {
         })
 }
 
-fn of_plan(answer: [u64; 3], words: &[u64]) -> Vec<u64> {
-    [&answer[..], &words[..answer[1] as usize]].concat()
+/// What planning, the plan reader and the call that makes words answer with, q second, and the words.
+fn of_plan(answer: &[u64], words: &[u64]) -> Vec<u64> {
+    [answer, &words[..answer[1] as usize]].concat()
 }
 
-fn planned(p: CPlanned, words: &[u64]) -> Vec<u64> {
-    of_plan([p.m, p.q, p.expected], words)
+fn planned(p: CPlanned) -> [u64; 3] {
+    [p.m, p.q, p.expected]
 }
 
-/// Planning sets of s slices.
-pub fn planning(s: usize, unknowns: usize, rank: usize, inputs: usize) -> Row {
+/// A call that is lent a set, a column list and a word list.
+type MakesWords<A> = fn(&[u8], &mut [u64], &mut [u64]) -> A;
+
+/// The sets, and the row of such a call by ours, whose answer `numbers` puts into words, and by the same algorithm in Rust.
+fn making_words<A: Answer + 'static, const N: usize>(
+    call: &'static str,
+    (s, unknowns, rank, inputs): (usize, usize, usize, usize),
+    ours: (MakesWords<A>, fn(A) -> [u64; N]),
+    same: MakesWords<Result<[u64; N], u64>>,
+) -> (Files, Row) {
     let sets = sets(2, s, unknowns, rank, inputs);
     let (mut columns, mut words) = (vec![0; 131_072], [0; 64]);
     let (mut other, mut in_rust) = (vec![0; 131_072], [0; 64]);
@@ -91,23 +100,55 @@ pub fn planning(s: usize, unknowns: usize, rank: usize, inputs: usize) -> Row {
         64 => format!("{unknowns} unknowns of full rank"),
         _ => format!("{unknowns} unknowns of rank {rank}"),
     };
-    Row::new("planning", size, inputs)
+    let (one, numbers) = ours;
+    let row = Row::new(call, size, inputs)
         .side(Side::Ours, move |i, ask| {
-            let p = black_box(ours::plan(&sets[i], &mut columns, &mut words));
-            put(ask, p.refusal, || planned(p, &words))
+            let p = black_box(one(&sets[i], &mut columns, &mut words));
+            put(ask, p.refusal(), || of_plan(&numbers(p), &words))
         })
         .side(Side::Same, move |i, ask| {
-            let p = black_box(plan(&sets[i], &mut other, &mut in_rust));
-            put(ask, p.err().unwrap_or(0), || of_plan(p.unwrap(), &in_rust))
+            let p = black_box(same(&sets[i], &mut other, &mut in_rust));
+            put(ask, p.err().unwrap_or(0), || of_plan(&p.unwrap(), &in_rust))
+        });
+    (sets, row)
+}
+
+/// Planning sets of s slices; also by its two calls in a row.
+pub fn planning(s: usize, unknowns: usize, rank: usize, inputs: usize) -> Row {
+    let size = (s, unknowns, rank, inputs);
+    let (sets, row) = making_words("planning", size, (ours::plan, planned), plan);
+    let (mut columns, mut words) = (vec![0; 131_072], [0; 64]);
+    row.side(Side::Plain, move |i, ask| {
+        let set = plain::read_set(&sets[i]).unwrap();
+        let p = black_box(set.plan());
+        put(ask, if p.is_some() { 0 } else { 17 }, || {
+            let (words, expected) = p.unwrap();
+            of_plan(&[64, words.len() as u64, expected], &words)
         })
-        .side(Side::Plain, move |i, ask| {
-            let set = plain::read_set(&sets[i]).unwrap();
-            let p = black_box(set.plan());
-            put(ask, if p.is_some() { 0 } else { 17 }, || {
-                let (words, expected) = p.unwrap();
-                of_plan([64, words.len() as u64, expected], &words)
-            })
+    })
+    .side(Side::Parts("words, then expected bits"), move |i, ask| {
+        let w = black_box(ours::plan_words(&sets[i], &mut columns, &mut words));
+        let words = &words[..w.q as usize];
+        if w.refusal != 0 {
+            return put(ask, w.refusal, Vec::new);
+        }
+        let e = black_box(ours::expect(&sets[i], words));
+        put(ask, e.refusal, || of_plan(&[w.m, w.q, e.expected], words))
+    })
+}
+
+/// The words of sets of s slices.
+pub fn wording(s: usize, unknowns: usize, rank: usize, inputs: usize) -> Row {
+    let (size, worded) = ((s, unknowns, rank, inputs), |w: CWorded| [w.m, w.q]);
+    let (sets, row) = making_words("words", size, (ours::plan_words, worded), plan_words);
+    row.side(Side::Plain, move |i, ask| {
+        let set = plain::read_set(&sets[i]).unwrap();
+        let words = black_box(set.words());
+        put(ask, if words.is_some() { 0 } else { 17 }, || {
+            let words = words.unwrap();
+            of_plan(&[64, words.len() as u64], &words)
         })
+    })
 }
 
 /// A set of the largest shape with 63 unknown cells, and a record.
@@ -245,6 +286,44 @@ fn large_plan() -> (&'static Vec<u64>, u64, &'static Vec<u8>) {
     (kept(words[..63].to_vec()), expected, kept(out))
 }
 
+/// The expected bits of 63 words, which are not the set's own, beside the signature of its value rows as a record. That call reads the
+/// set too, so it alone is the narrower measure; asked is at most 1.1 times what the set reader and the signature take.
+pub fn expecting() -> Row {
+    let ((content, set, _), (words, _, _)) = (large(), large_plan());
+    let bits = |signature: u64| {
+        let odd = |w: &u64| u64::from((w & signature).count_ones() & 1);
+        let bits = words.iter().map(odd).enumerate();
+        vec![bits.map(|(i, bit)| bit << i).sum()]
+    };
+    let signed = move || black_box(ours::sign(set, black_box(&content.values)));
+    Row::new("expected bits", "34,838 bytes, 63 words".into(), 1)
+        .side(Side::Ours, move |_, ask| {
+            let e = black_box(ours::expect(black_box(set), words));
+            put(ask, e.refusal, || vec![e.expected])
+        })
+        .side(Side::Same, move |_, ask| {
+            let e = black_box(expect(black_box(set), words));
+            put(ask, e.err().unwrap_or(0), || vec![e.unwrap()])
+        })
+        .side(Side::Plain, move |_, ask| {
+            let set = plain::read_set(black_box(set)).unwrap();
+            let e = black_box(set.expect(words));
+            put(ask, e.err().unwrap_or(0), || vec![e.unwrap()])
+        })
+        .side(Side::Parts("a record's signature"), move |_, ask| {
+            let y = signed();
+            put(ask, y.refusal, || bits(y.signature))
+        })
+        .side(
+            Side::Parts("set reader, then a record's signature"),
+            move |_, ask| {
+                let read = black_box(ours::read_set(black_box(set)));
+                let y = signed();
+                put(ask, read.refusal | y.refusal, || bits(y.signature))
+            },
+        )
+}
+
 pub fn judging() -> Row {
     let (_, _, plan) = large_plan();
     let r = &mut Random::new(5);
@@ -276,11 +355,11 @@ pub fn plan_reader() -> Row {
     Row::new("plan reader", "63 words".into(), 1)
         .side(Side::Ours, move |_, ask| {
             let p = black_box(ours::read_plan(black_box(plan), &mut words));
-            put(ask, p.refusal, || planned(p, &words))
+            put(ask, p.refusal, || of_plan(&planned(p), &words))
         })
         .side(Side::Same, move |_, ask| {
             let p = black_box(same::plan::read_plan(black_box(plan), &mut other));
-            put(ask, p.err().unwrap_or(0), || of_plan(p.unwrap(), &other))
+            put(ask, p.err().unwrap_or(0), || of_plan(&p.unwrap(), &other))
         })
 }
 
@@ -345,6 +424,8 @@ pub const PLANNINGS: [(usize, usize); 8] = [
     (131_072, 64),
 ];
 
+pub const WORDINGS: [(usize, usize); 4] = [(63, 63), (500, 40), (4_096, 63), (131_072, 63)];
+
 pub const ELIMINATIONS: [(usize, usize); 7] = [
     (16, 16),
     (63, 63),
@@ -356,11 +437,12 @@ pub const ELIMINATIONS: [(usize, usize); 7] = [
 ];
 
 /// The calls with one size.
-const OTHERS: [fn() -> Row; 9] = [
+const OTHERS: [fn() -> Row; 10] = [
     reader,
     || stretch(false),
     || stretch(true),
     signature,
+    expecting,
     set_writer,
     one_clock,
     judging,
@@ -375,6 +457,9 @@ pub fn print_all() {
     }
     for (unknowns, rank) in PLANNINGS {
         planning(512, unknowns, rank, inputs_for(unknowns)).print();
+    }
+    for (unknowns, rank) in WORDINGS {
+        wording(512, unknowns, rank, inputs_for(unknowns)).print();
     }
     for row in OTHERS {
         row().print();
@@ -399,8 +484,10 @@ mod tests {
             let rank = unknowns.min(40);
             agree(listing(9, unknowns, rank, 4), "an answer");
             agree(planning(9, unknowns, rank, 4), "an answer");
+            agree(wording(9, unknowns, rank, 4), "an answer");
         }
         agree(planning(9, 700, 64, 4), "refusal 17");
+        agree(wording(9, 700, 64, 4), "refusal 17");
         for (count, rank) in [(16, 16), (500, 40), (700, 40), (9_000, 62), (9_000, 63)] {
             agree(elimination(count, rank, 4), "an answer");
         }

@@ -11,12 +11,31 @@ pub struct Plan {
     pub expected: u64,
 }
 
+/// Whether there can't be so many words for m: none, or more than m.
+fn bad_word_count(m: u64, q: u64) -> bool {
+    q == 0 || q > m
+}
+
+/// Numbers 20 and 21: a list of words handed over for m.
+pub fn take_words(m: u64, words: &[u64]) -> Reply<()> {
+    refuse_if(bad_word_count(m, words.len() as u64), 20)?;
+    refuse_if(!is_reduced(m as usize, words), 21)?;
+    Ok(())
+}
+
+/// For each word the parity of the bits it shares with a signature: bit i for word i.
+pub fn parities(words: &[u64], signature: u64) -> u64 {
+    let signature = bits_of(signature, 64);
+    let odd = |&w: &u64| odd_with(&bits_of(w, 64), &signature);
+    word_of(&words.iter().map(odd).collect::<Bits>())
+}
+
 /// Numbers 19 to 22.
 pub fn read_plan(bytes: &[u8]) -> Reply<Plan> {
     let m = number_at(bytes, WIDTH_AT, COUNT).ok_or(19u64)?;
     refuse_if(m < 1 || m > 64, 19)?;
     let q = number_at(bytes, PLAN_COUNT_AT, COUNT).ok_or(20u64)?;
-    refuse_if(q == 0 || q > m, 20)?;
+    refuse_if(bad_word_count(m, q), 20)?;
     let q = q as usize;
     let mut words = Vec::new();
     for i in 0..q {
@@ -45,9 +64,8 @@ pub fn read_plan_into(bytes: &[u8], room: usize) -> Reply<Plan> {
 pub fn write_plan(plan: &Plan, room: usize) -> Reply<Vec<u8>> {
     let Plan { m, words, expected } = plan;
     refuse_if(*m < 1 || *m > 64, 19)?;
+    take_words(*m, words)?;
     let q = words.len();
-    refuse_if(q == 0 || q as u64 > *m, 20)?;
-    refuse_if(!is_reduced(*m as usize, words), 21)?;
     refuse_if(beyond(*expected, q), 22)?;
     let mut file = Vec::new();
     put_number(&mut file, *m, COUNT);
@@ -77,17 +95,12 @@ pub struct Judged {
 pub fn judge(bytes: &[u8], signature: u64) -> Reply<Judged> {
     let plan = read_plan(bytes)?;
     refuse_if(beyond(signature, plan.m as usize), 23)?;
-    let observed = bits_of(signature, 64);
-    let cancelled: Bits = plan
-        .words
-        .iter()
-        .map(|&w| odd_with(&bits_of(w, 64), &observed))
-        .collect();
+    let cancelled = parities(&plan.words, signature);
     let fails_at = (0..plan.words.len())
-        .find(|&i| cancelled[i] != (plan.expected >> i & 1 == 1))
+        .find(|&i| cancelled >> i & 1 != plan.expected >> i & 1)
         .map(|i| i as u64);
     Ok(Judged {
-        cancelled: word_of(&cancelled),
+        cancelled,
         fails_at,
     })
 }

@@ -1,13 +1,13 @@
-//! Planning, and what the plan printer writes.
+//! Planning by its two calls, the words and the expected bits, and what the plan printer writes.
 
 use super::elimination::{rank, reduced_list};
-use super::plan::Plan;
+use super::plan::{parities, take_words, Plan};
 use super::set::{read_set, Set};
 use super::*;
 
-/// What planning answers, and the columns if it got past 14.
-pub struct Planning {
-    pub reply: Reply<Plan>,
+/// What a call that makes words answers, and the columns if it got past 14.
+pub struct Planning<T> {
+    pub reply: Reply<T>,
     pub columns: Option<Vec<u64>>,
 }
 
@@ -25,7 +25,8 @@ fn words_of(m: usize, columns: &[u64], room: usize) -> Reply<Vec<u64>> {
     Ok(words)
 }
 
-pub fn plan(bytes: &[u8], column_room: usize, word_room: usize) -> Planning {
+/// The words of a set: m and the words.
+pub fn plan_words(bytes: &[u8], column_room: usize, word_room: usize) -> Planning<(u64, Vec<u64>)> {
     let set = match past_14(bytes, column_room) {
         Ok(set) => set,
         Err(n) => {
@@ -37,22 +38,28 @@ pub fn plan(bytes: &[u8], column_room: usize, word_room: usize) -> Planning {
     };
     let columns = set.columns();
     let m = set.circuit.m;
-    let reply = words_of(m, &columns, word_room).map(|words| {
-        let zero = bits_of(set.zero_signature(), 64);
-        let expected: Bits = words
-            .iter()
-            .map(|&w| odd_with(&bits_of(w, 64), &zero))
-            .collect();
-        Plan {
-            m: m as u64,
-            words,
-            expected: word_of(&expected),
-        }
-    });
+    let reply = words_of(m, &columns, word_room).map(|words| (m as u64, words));
     Planning {
         reply,
         columns: Some(columns),
     }
+}
+
+/// The expected bits of words for a set, whether or not they are its own: each word's parity with the signature for all unknowns 0.
+pub fn expect(bytes: &[u8], words: &[u64]) -> Reply<u64> {
+    let set = read_set(bytes)?;
+    take_words(set.circuit.m as u64, words)?;
+    Ok(parities(words, set.zero_signature()))
+}
+
+/// Planning: the words, and then the expected bits for them.
+pub fn plan(bytes: &[u8], column_room: usize, word_room: usize) -> Planning<Plan> {
+    let Planning { reply, columns } = plan_words(bytes, column_room, word_room);
+    let reply = reply.and_then(|(m, words)| {
+        let expected = expect(bytes, &words)?;
+        Ok(Plan { m, words, expected })
+    });
+    Planning { reply, columns }
 }
 
 /// The plan printer's output.

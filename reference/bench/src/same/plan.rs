@@ -2,8 +2,13 @@
 
 use super::*;
 
+/// Whether a plan for m can't have q words.
+pub fn is_bad_word_count(m: u64, q: usize) -> bool {
+    q == 0 || q as u64 > m
+}
+
 /// Whether the words are a reduced list for m, by one pass.
-fn is_reduced(m: u64, words: impl Iterator<Item = u64>) -> bool {
+pub fn is_reduced(m: u64, words: impl Iterator<Item = u64>) -> bool {
     let (mut last, mut seen) = (0, 0u64);
     for w in words {
         if w <= last || beyond(m, w) || w & seen != 0 {
@@ -29,7 +34,7 @@ fn check_plan(plan: &[u8]) -> Result<(u64, usize, u64), u64> {
         return Err(20);
     }
     let q = count(plan, 2);
-    if q == 0 || q as u64 > m || plan.len() < 4 + 8 * q {
+    if is_bad_word_count(m, q) || plan.len() < 4 + 8 * q {
         return Err(20);
     }
     if !is_reduced(m, words_in(plan, q)) {
@@ -77,7 +82,7 @@ pub fn write_plan(m: u64, words: &[u64], expected: u64, out: &mut [u8]) -> Resul
         return Err(19);
     }
     let q = words.len();
-    if q == 0 || q as u64 > m {
+    if is_bad_word_count(m, q) {
         return Err(20);
     }
     if !is_reduced(m, words.iter().copied()) {

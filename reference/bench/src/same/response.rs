@@ -1,6 +1,7 @@
-//! Responses: a record's signature, the signature for all unknowns 0, and the columns; and planning.
+//! Responses: a record's signature, the signature for all unknowns 0, and the columns; and planning, its words and its expected bits.
 
 use super::elimination::eliminate;
+use super::plan::{is_bad_word_count, is_reduced};
 use super::set::{head_length, next_state, read_set, Read};
 use super::*;
 
@@ -136,28 +137,66 @@ fn fill_columns(set: &[u8], read: Read, spread: &[u64; 256], columns: &mut [u64]
     }
 }
 
-/// The columns.
-pub fn list_columns(set: &[u8], columns: &mut [u64]) -> Result<usize, u64> {
-    let (read, spread) = read_set(set)?;
+/// The unknown cells' columns over the front of the list, and how many they are.
+fn listed(set: &[u8], read: Read, spread: &[u64; 256], columns: &mut [u64]) -> Result<usize, u64> {
     let unknowns = count_unknowns(set, read);
     if columns.len() < unknowns {
         return Err(14);
     }
-    fill_columns(set, read, &spread, &mut columns[..unknowns]);
+    fill_columns(set, read, spread, &mut columns[..unknowns]);
     Ok(unknowns)
 }
 
-/// Planning: m, q and the expected bits.
-pub fn plan(set: &[u8], columns: &mut [u64], words: &mut [u64]) -> Result<[u64; 3], u64> {
+/// The columns.
+pub fn list_columns(set: &[u8], columns: &mut [u64]) -> Result<usize, u64> {
     let (read, spread) = read_set(set)?;
-    let unknowns = count_unknowns(set, read);
-    if columns.len() < unknowns {
-        return Err(14);
-    }
-    fill_columns(set, read, &spread, &mut columns[..unknowns]);
+    listed(set, read, &spread, columns)
+}
+
+/// The words of a set that was read: how many they are.
+fn fill_words(
+    set: &[u8],
+    read: Read,
+    spread: &[u64; 256],
+    columns: &mut [u64],
+    words: &mut [u64],
+) -> Result<usize, u64> {
+    let unknowns = listed(set, read, spread, columns)?;
     let (_, q) = eliminate(read.m, &columns[..unknowns], words)?;
+    Ok(q)
+}
+
+/// The expected bits of words for a set that was read.
+fn expected_bits(set: &[u8], read: Read, spread: &[u64; 256], words: &[u64]) -> u64 {
     let b = read.n.div_ceil(8);
     let rows = &set[head_length(read.n)..];
     let zero = run_rows(read, &spread[..read.n], rows, 2 * b, b);
-    Ok([read.m, q as u64, parities(&words[..q], zero)])
+    parities(words, zero)
+}
+
+/// The words: m and q.
+pub fn plan_words(set: &[u8], columns: &mut [u64], words: &mut [u64]) -> Result<[u64; 2], u64> {
+    let (read, spread) = read_set(set)?;
+    let q = fill_words(set, read, &spread, columns, words)?;
+    Ok([read.m, q as u64])
+}
+
+/// The expected bits of a list of words.
+pub fn expect(set: &[u8], words: &[u64]) -> Result<u64, u64> {
+    let (read, spread) = read_set(set)?;
+    if is_bad_word_count(read.m, words.len()) {
+        return Err(20);
+    }
+    if !is_reduced(read.m, words.iter().copied()) {
+        return Err(21);
+    }
+    Ok(expected_bits(set, read, &spread, words))
+}
+
+/// Planning: m, q and the expected bits; the set is read once.
+pub fn plan(set: &[u8], columns: &mut [u64], words: &mut [u64]) -> Result<[u64; 3], u64> {
+    let (read, spread) = read_set(set)?;
+    let q = fill_words(set, read, &spread, columns, words)?;
+    let expected = expected_bits(set, read, &spread, &words[..q]);
+    Ok([read.m, q as u64, expected])
 }
