@@ -5,6 +5,7 @@
 --                       number before 17 applies
 --   planned-seventeen   planning itself
 --   words-seventeen     the call that gives the words alone
+--   expected-never      the call that gives the expected bits makes no words, and never gives 17
 --   record-seventeen    judging a record by the plan of its set; each of two records
 --   text-seventeen      the plan printer's text, for any column places and word places: its line `refused 17`
 -- Assumes nothing.
@@ -19,6 +20,7 @@ use Rattle.set_layout.specs.Layout.{widthOf}
 use Rattle.set_file.specs.Reading.{setTests}
 use Rattle.signatures.specs.Sets.{Explained}
 use Rattle.signing.specs.Signing.{signTests, signReply}
+use Rattle.expectation.specs.Expecting.{wordTests, expectTests, expectReply}
 use Rattle.planner.specs.Planning.{wordsOf, WordParts, wordsReply, PlanParts, earlierTests, planReply}
 use Rattle.planner.proofs.InARow.{words-of-plan}
 use Rattle.plan_file.specs.Checking.{planFileTests}
@@ -75,6 +77,11 @@ pub words-seventeen : (set : List ℕ) (k l : ℕ)
 words-seventeen set k l =
     let both = seventeen-exactly set k l (λ (p : PlanParts). answer (record { m = p .m; q = p .q })) answered-never in
     ((λ h. both .0 (sym (words-of-plan set k l) ∙ h)), (λ h e. words-of-plan set k l ∙ both .1 h e))
+
+-- the call that gives the expected bits of words that are handed to it
+pub expected-never : (set ws : List ℕ) → expectReply set ws ≡ refusal 17 → ⊥
+unfolding expectReply expectTests wordTests setTests
+expected-never set ws = never 17 (expectTests set ws) _ (λ (z : 17 ≡ 0). omega arith) refl
 
 -- ---- judging a record by the plan of its set
 

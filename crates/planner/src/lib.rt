@@ -40,7 +40,8 @@ fn unknown_rows(n: u16) -> Rows
     set_layout::mark_rows(n)
 }
 
-// The words of a taken set. Past the set's numbers it meets 14, 16, 17 and 18. It reads the marks and no value.
+// The words of a taken set. Past the set's numbers it meets 14, 16, 17 and 18. The set's values change nothing of what it answers and
+// leaves (proofs/Revised.antt, same-words-reply, same-columns-after).
 fn fill_words(taken: Taken, set: &[u8], columns: &mut [u64], words: &mut [u64]) -> Worded
     ensures { λ r. ⌜ (TakenFrom (now (set .entry)) taken → (saidWorded r ≡ wordsReply (now (set .entry)) (length (now (columns .entry))) (length (now (words .entry)))) × ((now (columns .exit) ≡ columnsAfter (now (set .entry)) (now (columns .entry))) × (now (words .exit) ≡ lent (wordsReply (now (set .entry)) (length (now (columns .entry))) (length (now (words .entry)))) (wordsOf (now (set .entry))) (now (words .entry))))) ⌝ }
 {
