@@ -51,10 +51,14 @@ module _ (set : List ℕ) (r : Rows) (n : ℕ) (e : (r .at ≡ markAt n 0) × (r
       place : markAt n 0 + 2 * rowBytes n * t ≡ markAt n t
       place = omega (arith, mul-zero (2 * rowBytes n))
 
+-- past the set's numbers only 14 is left, for a list of `room` places
+pub list-past-set : (set : List ℕ) (room : ℕ) → firstOf (setTests set) ≡ 0 → firstOf (listTests set room) ≡ firstOf (14 when ltb room (placesOf set) ∷ [])
+unfolding listTests
+list-past-set set room h = first-of-later (setTests set) _ (set-numbered set) h
+
 module _ (set l : List ℕ) (k : Taken) (taken : TakenFrom set k) where
   list-later : firstOf (listTests set (length l)) ≡ firstOf (14 when ltb (length l) (placesOf set) ∷ [])
-  unfolding listTests
-  list-later = first-of-later (setTests set) _ (set-numbered set) (taken .none)
+  list-later = list-past-set set (length l) (taken .none)
 
   whole : Accepted set
   whole = accepted set (taken .none)

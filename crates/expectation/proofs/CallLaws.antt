@@ -1,6 +1,6 @@
 -- Each way out of the call that gives the expected bits of a list of words, and what it answers; and what the call answers for a list that
 -- meets no number (expect-answered). Assumes nothing.
-use mathlib.Core.Path.{_≡_, refl, sym, ap, ap₂, _∙_}
+use mathlib.Core.Path.{_≡_, sym, ap, ap₂, _∙_}
 use mathlib.Core.Bool.{true, false}
 use mathlib.Core.List.{List}
 use Prim.Native.Nat.{ℕ, _≤_}
@@ -20,7 +20,6 @@ use Rattle.set_file.specs.Reading.{setTests, takenCircuit, TakenFrom}
 use Rattle.set_file.specs.declared.Taken.{Taken}
 use Rattle.set_file.proofs.Laws.{accepted, accepted-width, set-numbered}
 use Rattle.signatures.specs.Signature.{signature}
-use Rattle.signatures.specs.Sets.{zeroSignature}
 use Rattle.signatures.proofs.SetLaws.{zero-of-values}
 use Rattle.signing.specs.Signing.{valueCells}
 use Rattle.expectation.specs.Expecting.{expectedFor, wordTests, expectTests, expectReply}

@@ -11,13 +11,11 @@
 --   revised-passes-exactly  a signature of the register's width passes exactly when some filling of the new set explains it
 --   revised-fails-exactly   .. and fails, at the first word that disagrees, exactly when none does
 -- Assumes nothing.
-use mathlib.Core.Path.{_≡_, refl, sym, ap, ap₂, _∙_, subst}
+use mathlib.Core.Path.{_≡_, sym, ap, ap₂, _∙_, subst}
 use mathlib.Core.List.{List}
 use Prim.Native.Nat.{ℕ, _^_, _<_}
-use lib.ListN.{length}
 use Rattle.word.specs.Parities.{parities}
 use Rattle.word.specs.Reply.{answer, firstOf}
-use Rattle.word.proofs.TestLaws.{replied-answer}
 use Rattle.set_layout.specs.Layout.{widthOf}
 use Rattle.set_file.specs.Reading.{setTests}
 use Rattle.signatures.specs.Sets.{Explained, Revised}

@@ -15,6 +15,7 @@ use mathlib.Core.List.{List}
 use Prim.Native.Nat.{ℕ, _^_, _<_}
 use native.Mathlib.Omega.{arith}
 use Rattle.word.specs.Reply.{Test, Reply, answer, refusal, replied, firstOf, after}
+use Rattle.word.proofs.ReplyLaws.{after-after, after-number}
 use Rattle.word.proofs.TestLaws.{replied-number}
 use Rattle.set_layout.specs.Layout.{widthOf}
 use Rattle.set_file.specs.Reading.{setTests}
@@ -33,21 +34,7 @@ use Rattle.guarantee.specs.AtWork.{madeReply, planOf, signedReply, recor
 use Rattle.guarantee.proofs.Planned.{without, first-of-without}
 use Rattle.guarantee.proofs.Theorems.{seventeen-explained, explained-seventeen}
 
--- ---- calls one after the other
-
-after-after : {A : Type 0} {B : Type 0} {C : Type 0} (r : Reply A) (f : A → Reply B) (g : B → Reply C)
-    → after (after r f) g ≡ after r (λ a. after (f a) g)
-after-after (answer a) f g = refl
-after-after (refusal n) f g = refl
-
-same-number : {B : Type 0} (k n : ℕ) → _≡_ {A = Reply B} (refusal k) (refusal n) → k ≡ n
-same-number k n h = cc
-
--- a call that begins with another, and whose later part never gives n, gives n where the first does and nowhere else
-after-number : {A : Type 0} {B : Type 0} (r : Reply A) (f : A → Reply B) (n : ℕ) → ((a : A) → f a ≡ refusal n → ⊥)
-    → after r f ≡ refusal n → r ≡ refusal n
-after-number (answer a) f n d h = absurd (d a h)
-after-number (refusal k) f n d h = ap refusal (same-number k n h)
+-- ---- a number that is not among a call's tests
 
 never : {A : Type 0} (n : ℕ) (ts : List Test) (a : A) → (n ≡ 0 → ⊥) → without n ts ≡ true → replied (firstOf ts) a ≡ refusal n → ⊥
 never n ts a z d h = z (first-of-without n ts d (replied-number (firstOf ts) a n h))

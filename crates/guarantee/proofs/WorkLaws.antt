@@ -6,7 +6,7 @@ use native.Mathlib.Omega.{arith}
 use lib.ListN.{length, take}
 use Rattle.word.specs.Parities.{parities}
 use Rattle.word.specs.Reply.{Reply, answer, refusal, firstOf, lent, numberOf, after}
-use Rattle.word.proofs.ReplyLaws.{front-part}
+use Rattle.word.proofs.ReplyLaws.{answered-part, after-answer}
 use Rattle.word.proofs.TestLaws.{replied-answer}
 use Rattle.signing.specs.Signing.{signReply, saidSigned}
 use Rattle.signing.specs.declared.Signed.{Signed}
@@ -22,13 +22,6 @@ use Rattle.judge.specs.Verdict.{Finding, verdict, judgeReply}
 use Rattle.guarantee.specs.Demand.{Alike, planFile}
 use Rattle.guarantee.specs.AtWork.{madeReply, planOf, fileAfter, signedReply, recordReply}
 use Rattle.guarantee.proofs.Theorems.{planned-parts, plan-written, plan-judged, signed-within, same-for-alike-records}
-
--- ---- one call after another
-
-after-answer : {A : Type 0} {B : Type 0} (r : Reply A) (f : A → Reply B) (b : B) → after r f ≡ answer b
-    → (a : A) × (r ≡ answer a) × (f a ≡ answer b)
-after-answer (answer a) f b h = (a, refl, h)
-after-answer (refusal n) f b h = let z : _≡_ {A = ℕ} 0 1 = cc in let no : ⊥ = omega arith in absurd no
 
 -- ---- making the plan
 
@@ -152,7 +145,7 @@ module _ (set cs ws file cs′ ws′ file′ : List ℕ) (w : Written) (made : M
     pub made-file : (n ≤ length file′) × (take n file′ ≡ planOf set)
     unfolding fileAfter
     made-file =
-        front-part (planOf set) file file′ n (made .1 .1 .1 ∙ ap (λ (x : Reply ℕ). lent x (planOf set) file) answered)
+        answered-part (madeReply set (length cs) (length ws) (length file)) n (planOf set) file file′ n answered (made .1 .1 .1)
         (made-length set (length cs) (length ws) (length file) n answered)
 
     pub got-judged : (r : List ℕ) (a : Reply Finding) → a ≡ signedReply set r (take n file′) → Got r a

@@ -7,7 +7,7 @@ use Prim.Native.Nat.{ℕ, zero, suc, _≤_}
 use native.Mathlib.Omega.{arith}
 use lib.ListN.{length, take}
 use Rattle.word.specs.Reply.{Reply, answer, refusal, reply, replied, firstOf, numberOf, front, lent}
-use Rattle.word.proofs.ReplyLaws.{refusal-leaves, front-part}
+use Rattle.word.proofs.ReplyLaws.{refused-reply, refusal-leaves, front-part, answered-part}
 use Rattle.word.proofs.TestLaws.{replied-answer, replied-number, replied-not-zero, replied-alike}
 use Rattle.combinations.specs.Combination.{rank}
 use Rattle.combinations.specs.Reduced.{reducedList}
@@ -44,10 +44,6 @@ words-refused : (set cs ws cs′ : List ℕ) (k : ℕ) → wordsReply set (lengt
     → WordsEnd set cs ws (Worded.Refused k) cs′ ws
 words-refused set cs ws cs′ k h e = let left = refusal-leaves _ _ k (wordsOf set) ws h refl in (left .0, (e, left .1))
 
-refusing : {A : Type 0} (n k : ℕ) (a : A) → n ≡ k → (k ≡ 0 → ⊥) → replied n a ≡ refusal k
-refusing n zero a e z = absurd (z refl)
-refusing n (suc k) a e z = ap (λ (x : ℕ). replied x a) e
-
 -- what the elimination says
 pub answered : (e : Eliminated) (r q : ℕ) → e ≡ Eliminated.Done r q → answer (record { rank = r; q = q }) ≡ eliminated e
 answered e r q h = sym (ap eliminated h)
@@ -63,17 +59,13 @@ words-unlisted set cs ws k l =
     let number : firstOf (listTests set (length cs)) ≡ k = replied-number (firstOf (listTests set (length cs))) (unknownsOf set) k (sym (l .0)) in
     let some : k ≡ 0 → ⊥ = replied-not-zero (firstOf (listTests set (length cs))) (unknownsOf set) k (sym (l .0)) in
     words-refused set cs ws cs k
-    (refusing _ k (wordPartsOf set) (plan-sooner set (length cs) (length ws) (λ z. some (sym number ∙ z)) ∙ number) some)
+    (sym (refused-reply _ k (wordPartsOf set) (sym (plan-sooner set (length cs) (length ws) (λ z. some (sym number ∙ z)) ∙ number)) some))
     (l .1)
 
 -- ---- the words: past 14
 
 counted : List ℕ → Counts
 counted set = record { rank = rank (columnsOf set); q = length (reducedList (widthOf set) (columnsOf set)) }
-
-word-parts : {m w q k : ℕ} → m ≡ w → q ≡ k → _≡_ {A = Reply WordParts} (answer (record { m = m; q = q })) (answer (record { m = w; q = k }))
-word-parts {w = w} {q = q} a b =
-    ap (λ (x : ℕ). answer (record { m = x; q = q })) a ∙ ap (λ (x : ℕ). answer (record { m = w; q = x })) b
 
 module _ (set cs cs′ ws : List ℕ) (a : Accepted set) (u : ℕ) (l : Lists set cs (answer u) cs′) where
   past-list : firstOf (planTests set (length cs) (length ws)) ≡ firstOf (later set (length ws))
@@ -125,7 +117,7 @@ module _ (set cs cs′ ws : List ℕ) (a : Accepted set) (u : ℕ) (l : Lists se
         let put : ws′ ≡ front (wordsOf set) ws =
         w ∙ sym (ap (λ (x : Reply Counts). lent x (reducedList m (take u cs′)) ws) h) ∙ ap (λ (x : List ℕ). front x ws) words-of
         in (
-          word-parts em (ap (λ (x : Counts). x .q) (both .1)) ∙ sym done,
+          ap₂ (λ (x y : ℕ). answer (record { m = x; q = y })) em (ap (λ (x : Counts). x .q) (both .1)) ∙ sym done,
           (l .1, put ∙ sym (ap (λ (x : Reply WordParts). lent x (wordsOf set) ws) done)),
         )
 
@@ -172,7 +164,7 @@ module _ (set cs ws cs′ ws′ : List ℕ) (w : Worded) (end : WordsEnd set cs 
 
     pub worded-words : (q ≤ length ws′) × (take q ws′ ≡ wordsOf set)
     worded-words =
-        front-part (wordsOf set) ws ws′ q (end .1 .1 ∙ ap (λ (x : Reply WordParts). lent x (wordsOf set) ws) worded)
+        answered-part (wordsReply set (length cs) (length ws)) _ (wordsOf set) ws ws′ q worded (end .1 .1)
         (ap (λ (x : WordParts). x .q) (worded-both .1))
 
     pub worded-few : length (take q ws′) ≤ 64
@@ -200,5 +192,5 @@ planned-parts set k l p h = replied-answer (firstOf (planTests set k l)) (partsO
 pub words-front : (set ws ws′ : List ℕ) (k : ℕ) (p : PlanParts) → planReply set k (length ws) ≡ answer p
     → ws′ ≡ lent (planReply set k (length ws)) (wordsOf set) ws → (p .q ≤ length ws′) × (take (p .q) ws′ ≡ wordsOf set)
 words-front set ws ws′ k p h e =
-    front-part (wordsOf set) ws ws′ (p .q) (e ∙ ap (λ (r : Reply PlanParts). lent r (wordsOf set) ws) h)
+    answered-part (planReply set k (length ws)) p (wordsOf set) ws ws′ (p .q) h e
     (ap (λ (x : PlanParts). x .q) (planned-parts set k (length ws) p h))

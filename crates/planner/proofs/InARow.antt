@@ -5,7 +5,7 @@
 --                   of the call that gives the expected bits, which then never refuses
 --   words-of-plan   the call that gives the words replies as planning does, without the expected bits
 -- Assumes nothing.
-use mathlib.Core.Path.{_≡_, refl, sym, ap, _∙_}
+use mathlib.Core.Path.{_≡_, refl, sym, ap}
 use mathlib.Core.List.{List}
 use Prim.Native.Nat.{ℕ, zero, suc}
 use Rattle.word.specs.Reply.{Reply, answer, replied, firstOf, after}

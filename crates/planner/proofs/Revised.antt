@@ -5,25 +5,24 @@
 --   same-width          the registers' widths
 --   same-number         the first number that planning meets, where both sets meet none of the set's numbers
 --   same-words-reply    .. so the whole reply of the call that gives the words
---   same-columns-after  .. and the column list that it leaves
+--   same-columns-after  .. the column list that it leaves
+--   same-words-after    .. and the word list
 -- Assumes nothing.
 use mathlib.Core.Path.{_≡_, refl, sym, ap, ap₂, _∙_}
-use mathlib.Core.List.{List, [], _∷_, _++_}
+use mathlib.Core.List.{List, [], _∷_}
 use Prim.Native.Nat.{ℕ, zero, suc}
 use native.Mathlib.Omega.{arith}
 use lib.Dec.{ltb}
 use lib.ListN.{length}
 use Rattle.word.specs.Reply.{Test, _when_, Reply, replied, firstOf, lent}
-use Rattle.word.proofs.TestLaws.{first-of-later}
-use Rattle.combinations.specs.Combination.{rank, onlyEmpty}
 use Rattle.combinations.specs.Reduced.{reducedList}
 use Rattle.register.specs.Circuit.{Circuit}
 use Rattle.set_layout.specs.Layout.{widthOf}
 use Rattle.set_file.specs.Reading.{setTests}
-use Rattle.set_file.proofs.Laws.{set-numbered}
-use Rattle.signatures.specs.Sets.{columnsOf, unknownsOf, placesOf, Revised}
+use Rattle.signatures.specs.Sets.{columnsOf, unknownsOf, Revised}
 use Rattle.signatures.proofs.SetLaws.{revised-columns, revised-unknowns}
 use Rattle.columns.specs.Listing.{listTests, listReply, columnsAfter}
+use Rattle.columns.proofs.CallLaws.{list-past-set}
 use Rattle.planner.specs.Planning.{wordsOf, planTests, WordParts, wordPartsOf, wordsReply}
 use Rattle.planner.proofs.NumberLaws.{later, plan-sooner, plan-later}
 
@@ -48,13 +47,9 @@ module _ (old new : List ℕ) (r : Revised old new) where
   same-words = ap₂ reducedList same-width (revised-columns old new r)
 
   module _ (ho : firstOf (setTests old) ≡ 0) (hn : firstOf (setTests new) ≡ 0) where
-    list-first : (set : List ℕ) (k : ℕ) → firstOf (setTests set) ≡ 0 → firstOf (listTests set k) ≡ firstOf (14 when ltb k (placesOf set) ∷ [])
-    unfolding listTests
-    list-first set k h = first-of-later (setTests set) _ (set-numbered set) h
-
     same-list : (k : ℕ) → firstOf (listTests old k) ≡ firstOf (listTests new k)
     same-list k =
-        list-first old k ho ∙ ap (λ (u : ℕ). firstOf (14 when ltb k u ∷ [])) (revised-unknowns old new r) ∙ sym (list-first new k hn)
+        list-past-set old k ho ∙ ap (λ (u : ℕ). firstOf (14 when ltb k u ∷ [])) (revised-unknowns old new r) ∙ sym (list-past-set new k hn)
 
     same-later : (l : ℕ) → firstOf (later old l) ≡ firstOf (later new l)
     same-later l =
@@ -76,3 +71,8 @@ module _ (old new : List ℕ) (r : Revised old new) where
     same-columns-after cs =
         ap₂ (λ (n : ℕ) (vs : List ℕ). lent (replied n (unknownsOf old)) vs cs) (same-list (length cs)) (revised-columns old new r)
         ∙ ap (λ (u : ℕ). lent (replied (firstOf (listTests new (length cs))) u) (columnsOf new) cs) (revised-unknowns old new r)
+
+    pub same-words-after : (k : ℕ) (ws : List ℕ)
+        → lent (wordsReply old k (length ws)) (wordsOf old) ws ≡ lent (wordsReply new k (length ws)) (wordsOf new) ws
+    same-words-after k ws =
+        ap₂ (λ (p : Reply WordParts) (vs : List ℕ). lent p vs ws) (same-words-reply k (length ws)) same-words

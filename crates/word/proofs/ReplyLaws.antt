@@ -1,5 +1,5 @@
 -- A chain of tests, each of which refuses with its number: at each way out the first number that applies is known from what
--- the tests before it answered. Assumes nothing.
+-- the tests before it answered; what a reply leaves in a lent list; and calls in a row. Assumes nothing.
 use mathlib.Core.Path.{_≡_, refl, sym, ap, _∙_}
 use mathlib.Core.Bool.{Bool, true, false, cond}
 use mathlib.Core.List.{List}
@@ -7,7 +7,7 @@ use Prim.Native.Nat.{ℕ, zero, suc, _≤_}
 use native.Mathlib.Omega.{arith}
 use lib.ListN.{length, take, drop, length-append}
 use lib.Seq.{take-at}
-use Rattle.word.specs.Reply.{Reply, answer, refusal, replied, front, lent}
+use Rattle.word.specs.Reply.{Reply, answer, refusal, replied, front, lent, after}
 
 -- a test that applies gives its number
 pub refuses : (b r : Bool) (n k : ℕ) → r ≡ b → r ≡ true → n ≡ cond b n k
@@ -70,3 +70,29 @@ front-part vs l l′ n e h = (
   omega (arith, ap length e, length-append vs (drop (length vs) l)),
   ap (take n) e ∙ take-at vs (drop (length vs) l) n (sym h),
 )
+
+-- .. so where a call answered, what it wrote to a lent list is the list's first part
+pub answered-part : {A : Type 0} (r : Reply A) (a : A) (vs l l′ : List ℕ) (n : ℕ) → r ≡ answer a → l′ ≡ lent r vs l → n ≡ length vs
+    → (n ≤ length l′) × (take n l′ ≡ vs)
+answered-part r a vs l l′ n e w h = front-part vs l l′ n (w ∙ ap (λ x. lent x vs l) e) h
+
+-- ---- calls in a row
+
+pub after-answer : {A : Type 0} {B : Type 0} (r : Reply A) (f : A → Reply B) (b : B) → after r f ≡ answer b
+    → (a : A) × (r ≡ answer a) × (f a ≡ answer b)
+after-answer (answer a) f b h = (a, refl, h)
+after-answer (refusal n) f b h = let z : _≡_ {A = ℕ} 0 1 = cc in let no : ⊥ = omega arith in absurd no
+
+pub after-after : {A : Type 0} {B : Type 0} {C : Type 0} (r : Reply A) (f : A → Reply B) (g : B → Reply C)
+    → after (after r f) g ≡ after r (λ a. after (f a) g)
+after-after (answer a) f g = refl
+after-after (refusal n) f g = refl
+
+same-refusal : {B : Type 0} (k n : ℕ) → _≡_ {A = Reply B} (refusal k) (refusal n) → k ≡ n
+same-refusal k n h = cc
+
+-- a call that begins with another, and whose later part never gives n, gives n where the first does and nowhere else
+pub after-number : {A : Type 0} {B : Type 0} (r : Reply A) (f : A → Reply B) (n : ℕ) → ((a : A) → f a ≡ refusal n → ⊥)
+    → after r f ≡ refusal n → r ≡ refusal n
+after-number (answer a) f n d h = absurd (d a h)
+after-number (refusal k) f n d h = ap refusal (same-refusal k n h)
