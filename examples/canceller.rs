@@ -146,8 +146,8 @@ pub mod raw {
         pub fn canceller_plan_words(
             set: *const u8,
             set_len: usize,
-            columns: *mut u64,
-            columns_len: usize,
+            working: *mut u64,
+            working_len: usize,
             words: *mut u64,
             words_len: usize,
         ) -> CWorded;
@@ -160,8 +160,8 @@ pub mod raw {
         pub fn canceller_plan(
             set: *const u8,
             set_len: usize,
-            columns: *mut u64,
-            columns_len: usize,
+            working: *mut u64,
+            working_len: usize,
             words: *mut u64,
             words_len: usize,
         ) -> CPlanned;
@@ -188,6 +188,8 @@ pub const SET_MAX: usize = 34_838;
 pub const PLAN_MAX: usize = 526;
 pub const RECORD_MAX: usize = 16_384;
 pub const UNKNOWNS_MAX: usize = 131_072;
+/// The places of the working list that planning is lent.
+pub const WORKING_PLACES: usize = 64;
 pub const WORDS_MAX: usize = 64;
 
 /// Why a call declined: the number of README.md's table.
@@ -336,11 +338,11 @@ pub fn eliminate(m: u64, columns: &[u64]) -> Reply<(u64, Vec<u64>)> {
 
 /// The width of a set and its words, without expected bits.
 pub fn plan_words(set: &[u8]) -> Reply<(u64, Vec<u64>)> {
-    let mut columns = vec![0; UNKNOWNS_MAX];
+    let mut working = vec![0; WORKING_PLACES];
     let mut words = vec![0; WORDS_MAX];
-    let (c, w) = (columns.as_mut_ptr(), words.as_mut_ptr());
-    let (cells, places) = (columns.len(), words.len());
-    let worded = unsafe { raw::canceller_plan_words(set.as_ptr(), set.len(), c, cells, w, places) };
+    let (k, w) = (working.as_mut_ptr(), words.as_mut_ptr());
+    let (room, places) = (working.len(), words.len());
+    let worded = unsafe { raw::canceller_plan_words(set.as_ptr(), set.len(), k, room, w, places) };
     words.truncate(worded.q as usize);
     accepted(worded.refusal, (worded.m, words))
 }
@@ -360,11 +362,11 @@ fn plan_of(planned: raw::CPlanned, mut words: Vec<u64>) -> Reply<Plan> {
 
 /// The plan of a set.
 pub fn plan(set: &[u8]) -> Reply<Plan> {
-    let mut columns = vec![0; UNKNOWNS_MAX];
+    let mut working = vec![0; WORKING_PLACES];
     let mut words = vec![0; WORDS_MAX];
-    let (c, w) = (columns.as_mut_ptr(), words.as_mut_ptr());
-    let (cells, places) = (columns.len(), words.len());
-    let planned = unsafe { raw::canceller_plan(set.as_ptr(), set.len(), c, cells, w, places) };
+    let (k, w) = (working.as_mut_ptr(), words.as_mut_ptr());
+    let (room, places) = (working.len(), words.len());
+    let planned = unsafe { raw::canceller_plan(set.as_ptr(), set.len(), k, room, w, places) };
     plan_of(planned, words)
 }
 

@@ -8,7 +8,7 @@
 
 /* One byte more than the longest set has, so that a longer file is refused for its length. */
 static uint8_t set[CANCELLER_SET_MAX + 1], plan[CANCELLER_PLAN_MAX];
-static uint64_t columns[CANCELLER_CHAINS_MAX * CANCELLER_SLICES_MAX], words[CANCELLER_WIDTH_MAX];
+static uint64_t working[CANCELLER_WORKING], words[CANCELLER_WIDTH_MAX];
 
 /* Digits only: strtoull alone would take "x" as 0, and "-1". */
 static int read_signature(const char *text, uint64_t *signature) {
@@ -34,7 +34,7 @@ static int refused(uint64_t number) {
 }
 
 static int judge(size_t set_len, uint64_t signature) {
-    canceller_planned p = canceller_plan(set, set_len, columns, sizeof columns / 8, words, sizeof words / 8);
+    canceller_planned p = canceller_plan(set, set_len, working, sizeof working / 8, words, sizeof words / 8);
     if (p.refusal) return refused(p.refusal);
     canceller_written w = canceller_write_plan(p.m, words, (size_t)p.q, p.expected, plan, sizeof plan);
     if (w.refusal) return refused(w.refusal);

@@ -36,13 +36,14 @@
 extern "C" {
 #endif
 
-#define CANCELLER_VERSION "2.1.0"
+#define CANCELLER_VERSION "3.0.0"
 
 #define CANCELLER_WIDTH_MAX 64
 #define CANCELLER_CHAINS_MAX 256
 #define CANCELLER_SLICES_MAX 512
 #define CANCELLER_SET_MAX 34838   /* bytes of the longest set */
 #define CANCELLER_PLAN_MAX 526    /* bytes of the longest plan */
+#define CANCELLER_WORKING 64      /* places of planning's working list */
 
 typedef struct { uint64_t refusal, m, taps, inversion, n, s, spread[256]; } canceller_set;
 typedef struct { uint64_t refusal, start, length; } canceller_stretch;   /* a part of the caller's set: offset and bytes */
@@ -91,10 +92,11 @@ canceller_listed     canceller_list_columns(const uint8_t *set, size_t set_len, 
  * the columns and q, the number of words. Meets 2, 15, 16, 17, 18. A refusal writes nothing. */
 canceller_eliminated canceller_eliminate(uint64_t m, const uint64_t *columns, size_t columns_len, uint64_t *words, size_t words_len);
 
-/* The words of a set: columns over the front of the column list, words over the front of the word list. Answers with m and q. Sets
- * that differ in their values alone have the same words. Meets the set's numbers, 14, 16, 17, 18. Past 14 the front of the column
- * list holds the columns whatever follows; a refusal writes nothing else. */
-canceller_worded     canceller_plan_words(const uint8_t *set, size_t set_len, uint64_t *columns, size_t columns_len,
+/* The words of a set, over the front of the word list. Answers with m and q. Sets that differ in their values alone have the same words.
+ * The working list takes CANCELLER_WORKING places, however many cells are unknown; what it holds before changes nothing. Meets the set's
+ * numbers, 14 (fewer places than that), 16, 17, 18. Past 14 those places hold 0 at the end, whatever follows, and the places behind them
+ * what they held; a refusal writes nothing else. */
+canceller_worded     canceller_plan_words(const uint8_t *set, size_t set_len, uint64_t *working, size_t working_len,
                                           uint64_t *words, size_t words_len);
 
 /* The expected bits of a list of words for a set: the parity of each word with the signature for all unknowns 0, as one word, bit i for
@@ -102,10 +104,10 @@ canceller_worded     canceller_plan_words(const uint8_t *set, size_t set_len, ui
  * more than m), 21. Writes nothing. */
 canceller_expected   canceller_expect(const uint8_t *set, size_t set_len, const uint64_t *words, size_t words_len);
 
-/* Planning: canceller_plan_words, and then canceller_expect for its words. Columns over the front of the column list, words over the
- * front of the word list. Answers with m, q and the expected bits as one word, bit i for word i. Meets the set's numbers, 14, 16, 17,
- * 18. Past 14 the front of the column list holds the columns whatever follows; a refusal writes nothing else. */
-canceller_planned    canceller_plan(const uint8_t *set, size_t set_len, uint64_t *columns, size_t columns_len,
+/* Planning: canceller_plan_words, and then canceller_expect for its words. Words over the front of the word list. Answers with m, q and
+ * the expected bits as one word, bit i for word i. Meets the set's numbers, 14, 16, 17, 18; the working list as in
+ * canceller_plan_words. A refusal writes nothing else. */
+canceller_planned    canceller_plan(const uint8_t *set, size_t set_len, uint64_t *working, size_t working_len,
                                     uint64_t *words, size_t words_len);
 
 /* The plan writer. Answers with the length of the file, and writes it over the front of out.

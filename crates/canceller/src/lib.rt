@@ -16,7 +16,7 @@ ghost use Rattle.plan_file.specs.Layout.{fileWords};
 ghost use Rattle.plan_file.specs.Reading.{planFileReply};
 ghost use Rattle.plan_writer.specs.Writing.{planContent, planBytes, planWriteReply};
 ghost use Rattle.expectation.specs.Expecting.{expectReply};
-ghost use Rattle.planner.specs.Planning.{wordsOf, wordsReply, planReply};
+ghost use Rattle.planner.specs.Planning.{wordsOf, workingLeft, wordsReply, planReply};
 ghost use Rattle.judge.specs.Verdict.{judgeReply};
 ghost use Rattle.crossing.specs.Boundary.{setOf, stretchOf, writtenOf, registerOf, clockedOf, signedOf, listedOf, eliminatedOf, wordedOf, expectedTo, plannedOf, readOf, judgedOf};
 use crossing::CClocked;
@@ -126,14 +126,14 @@ pub extern "C" fn canceller_eliminate(m: u64, columns: &[u64], words: &mut [u64]
 #[no_mangle]
 pub extern "C" fn canceller_plan_words(
     set: &[u8],
-    columns: &mut [u64],
+    working: &mut [u64],
     words: &mut [u64],
 ) -> CWorded
-    ensures answer { λ r. ⌜ r ≡ wordedOf (wordsReply (now (set .entry)) (length (now (columns .entry))) (length (now (words .entry)))) ⌝ }
-    ensures columns { λ _. ⌜ now (columns .exit) ≡ columnsAfter (now (set .entry)) (now (columns .entry)) ⌝ }
-    ensures words { λ _. ⌜ now (words .exit) ≡ lent (wordsReply (now (set .entry)) (length (now (columns .entry))) (length (now (words .entry)))) (wordsOf (now (set .entry))) (now (words .entry)) ⌝ }
+    ensures answer { λ r. ⌜ r ≡ wordedOf (wordsReply (now (set .entry)) (length (now (working .entry))) (length (now (words .entry)))) ⌝ }
+    ensures working { λ _. ⌜ now (working .exit) ≡ workingLeft (now (set .entry)) (now (working .entry)) ⌝ }
+    ensures words { λ _. ⌜ now (words .exit) ≡ lent (wordsReply (now (set .entry)) (length (now (working .entry))) (length (now (words .entry)))) (wordsOf (now (set .entry))) (now (words .entry)) ⌝ }
 {
-    crossing::worded_of(planner::plan_words(set, columns, words))
+    crossing::worded_of(planner::plan_words(set, working, words))
 }
 
 // The expected bits of a list of words for a set. Meets the set's numbers, 20 and 21.
@@ -144,15 +144,15 @@ pub extern "C" fn canceller_expect(set: &[u8], words: &[u64]) -> CExpected
     crossing::expected_of(expectation::expect(set, words))
 }
 
-// Planning. Meets the set's numbers, 14 and 16 to 18; the words over the front of their list; past 14 the columns over the front of
-// theirs.
+// Planning. Meets the set's numbers, 14 and 16 to 18; the words over the front of their list; past 14 the first 64 places of the working
+// list hold 0.
 #[no_mangle]
-pub extern "C" fn canceller_plan(set: &[u8], columns: &mut [u64], words: &mut [u64]) -> CPlanned
-    ensures answer { λ r. ⌜ r ≡ plannedOf (planReply (now (set .entry)) (length (now (columns .entry))) (length (now (words .entry)))) ⌝ }
-    ensures columns { λ _. ⌜ now (columns .exit) ≡ columnsAfter (now (set .entry)) (now (columns .entry)) ⌝ }
-    ensures words { λ _. ⌜ now (words .exit) ≡ lent (planReply (now (set .entry)) (length (now (columns .entry))) (length (now (words .entry)))) (wordsOf (now (set .entry))) (now (words .entry)) ⌝ }
+pub extern "C" fn canceller_plan(set: &[u8], working: &mut [u64], words: &mut [u64]) -> CPlanned
+    ensures answer { λ r. ⌜ r ≡ plannedOf (planReply (now (set .entry)) (length (now (working .entry))) (length (now (words .entry)))) ⌝ }
+    ensures working { λ _. ⌜ now (working .exit) ≡ workingLeft (now (set .entry)) (now (working .entry)) ⌝ }
+    ensures words { λ _. ⌜ now (words .exit) ≡ lent (planReply (now (set .entry)) (length (now (working .entry))) (length (now (words .entry)))) (wordsOf (now (set .entry))) (now (words .entry)) ⌝ }
 {
-    crossing::planned_of(planner::plan(set, columns, words))
+    crossing::planned_of(planner::plan(set, working, words))
 }
 
 // The plan writer. Meets 19, 20, 21, 22 and 24; the file over the front of `out`.

@@ -59,6 +59,17 @@ fn reduce(held: &mut [u64], columns: &[u64]) -> usize
     left
 }
 
+// A portion of columns: a list of words that are X-free for some columns becomes the list for those and these. Answers with the number of
+// words left, which stand at the front; the places behind them hold 0.
+pub fn add_columns(words: &mut [u64], columns: &[u64]) -> usize
+    ensures count { λ r. ⌜ r ≡ length (steps (now (columns .entry)) (now (words .entry))) ⌝ }
+    ensures list { λ _. ⌜ now (words .exit) ≡ filled (steps (now (columns .entry)) (now (words .entry))) (length (now (words .entry))) ⌝ }
+{
+    let left = reduce(words, columns);
+    word::clear_words(&mut words[left..]);
+    left
+}
+
 // The OR of all words.
 fn or_all(words: &[u64]) -> u64
     ensures { λ r. ⌜ r ≡ orBelow (now (words .entry)) (length (now (words .entry))) ⌝ }
@@ -88,8 +99,8 @@ fn no_words() -> [u64; 64]
     [0u64; 64]
 }
 
-// The words of the 64 single bits.
-fn unit_words() -> [u64; 64]
+// The words of the 64 single bits: with no column, the first m of them are the words of width m.
+pub fn unit_words() -> [u64; 64]
     ensures { λ r. ⌜ r ≡ units 64 ⌝ }
 {
     let mut words = no_words();
@@ -102,8 +113,8 @@ fn unit_words() -> [u64; 64]
 }
 
 // `from` over the front of `words`; as much of it as there is room for.
-fn write_front(words: &mut [u64], from: &[u64])
-    ensures { λ _. ⌜ (length (now (from .entry)) ≤ length (now (words .entry)) → now (words .exit) ≡ front (now (from .entry)) (now (words .entry))) ⌝ }
+pub fn write_front(words: &mut [u64], from: &[u64])
+    ensures { λ _. ⌜ now (words .exit) ≡ front (take (length (now (words .entry))) (now (from .entry))) (now (words .entry)) ⌝ }
 {
     let mut i: usize = 0;
     while i < from.len() {

@@ -4,8 +4,7 @@ ghost use Prim.Native.Nat.{ℕ};
 ghost use lib.ListN.{length};
 ghost use Rattle.word.specs.Reply.{answer, numberOf, lent};
 ghost use Rattle.signing.specs.Signing.{signReply, saidSigned};
-ghost use Rattle.planner.specs.Planning.{wordsOf, planReply};
-ghost use Rattle.columns.specs.Listing.{columnsAfter};
+ghost use Rattle.planner.specs.Planning.{wordsOf, workingLeft, planReply};
 ghost use Rattle.plan_writer.specs.Writing.{said as saidWritten};
 ghost use Rattle.judge.specs.Verdict.{said};
 ghost use Rattle.guarantee.specs.Demand.{Alike};
@@ -42,14 +41,14 @@ fn signing_number(signed: Signed) -> u64
 }
 
 // Makes the plan of a set: planning, then the plan writer. Answers with the length of the plan file and writes it over the front
-// of `file`; planning writes to `columns` and `words`. Meets planning's numbers, then the writer's.
-fn make_plan(set: &[u8], columns: &mut [u64], words: &mut [u64], file: &mut [u8]) -> Written
-    ensures answer { λ r. ⌜ saidWritten r ≡ madeReply (now (set .entry)) (length (now (columns .entry))) (length (now (words .entry))) (length (now (file .entry))) ⌝ }
-    ensures columns { λ _. ⌜ now (columns .exit) ≡ columnsAfter (now (set .entry)) (now (columns .entry)) ⌝ }
-    ensures words { λ _. ⌜ now (words .exit) ≡ lent (planReply (now (set .entry)) (length (now (columns .entry))) (length (now (words .entry)))) (wordsOf (now (set .entry))) (now (words .entry)) ⌝ }
-    ensures file { λ _. ⌜ now (file .exit) ≡ fileAfter (now (set .entry)) (length (now (columns .entry))) (length (now (words .entry))) (now (file .entry)) ⌝ }
+// of `file`; planning writes to `working` and `words`. Meets planning's numbers, then the writer's.
+fn make_plan(set: &[u8], working: &mut [u64], words: &mut [u64], file: &mut [u8]) -> Written
+    ensures answer { λ r. ⌜ saidWritten r ≡ madeReply (now (set .entry)) (length (now (working .entry))) (length (now (words .entry))) (length (now (file .entry))) ⌝ }
+    ensures working { λ _. ⌜ now (working .exit) ≡ workingLeft (now (set .entry)) (now (working .entry)) ⌝ }
+    ensures words { λ _. ⌜ now (words .exit) ≡ lent (planReply (now (set .entry)) (length (now (working .entry))) (length (now (words .entry)))) (wordsOf (now (set .entry))) (now (words .entry)) ⌝ }
+    ensures file { λ _. ⌜ now (file .exit) ≡ fileAfter (now (set .entry)) (length (now (working .entry))) (length (now (words .entry))) (now (file .entry)) ⌝ }
 {
-    let planned = planner::plan(set, columns, words);
+    let planned = planner::plan(set, working, words);
     let Planned::Plan { m, q, expected } = planned else {
         return Written::Refused {
             number: planner::number_of(planned),
@@ -73,22 +72,22 @@ fn judge_signed(set: &[u8], response: &[u8], plan: &[u8]) -> Judged
 }
 
 // Judges a record by the plan of its set: planning, the plan writer, the record's signature and judging, in turn. Answers with
-// the cancelled bits and the verdict. `columns` and `words` are as planning leaves them, and `file` as the plan writer does.
+// the cancelled bits and the verdict. `working` and `words` are as planning leaves them, and `file` as the plan writer does.
 // Meets planning's numbers (the set's, then 14, 16, 17 and 18), then the writer's 24, then the record's 12 and 13; where planning and
 // signing answer and the output has room for the plan, it answers (proofs/WorkLaws.antt, record-judged).
 pub fn judge_record(
     set: &[u8],
     response: &[u8],
-    columns: &mut [u64],
+    working: &mut [u64],
     words: &mut [u64],
     file: &mut [u8],
 ) -> Judged
-    ensures answer { λ r. ⌜ said r ≡ recordReply (now (set .entry)) (now (response .entry)) (length (now (columns .entry))) (length (now (words .entry))) (length (now (file .entry))) ⌝ }
-    ensures columns { λ _. ⌜ now (columns .exit) ≡ columnsAfter (now (set .entry)) (now (columns .entry)) ⌝ }
-    ensures words { λ _. ⌜ now (words .exit) ≡ lent (planReply (now (set .entry)) (length (now (columns .entry))) (length (now (words .entry)))) (wordsOf (now (set .entry))) (now (words .entry)) ⌝ }
-    ensures file { λ _. ⌜ now (file .exit) ≡ fileAfter (now (set .entry)) (length (now (columns .entry))) (length (now (words .entry))) (now (file .entry)) ⌝ }
+    ensures answer { λ r. ⌜ said r ≡ recordReply (now (set .entry)) (now (response .entry)) (length (now (working .entry))) (length (now (words .entry))) (length (now (file .entry))) ⌝ }
+    ensures working { λ _. ⌜ now (working .exit) ≡ workingLeft (now (set .entry)) (now (working .entry)) ⌝ }
+    ensures words { λ _. ⌜ now (words .exit) ≡ lent (planReply (now (set .entry)) (length (now (working .entry))) (length (now (words .entry)))) (wordsOf (now (set .entry))) (now (words .entry)) ⌝ }
+    ensures file { λ _. ⌜ now (file .exit) ≡ fileAfter (now (set .entry)) (length (now (working .entry))) (length (now (words .entry))) (now (file .entry)) ⌝ }
 {
-    let made = make_plan(set, columns, words, file);
+    let made = make_plan(set, working, words, file);
     let Written::Done { length } = made else {
         return Judged::Refused {
             number: writing_number(made),
@@ -103,18 +102,18 @@ pub fn judge_records(
     set: &[u8],
     first: &[u8],
     second: &[u8],
-    columns: &mut [u64],
+    working: &mut [u64],
     words: &mut [u64],
     file: &mut [u8],
 ) -> Pair
-    ensures first { λ r. ⌜ said (r .first) ≡ recordReply (now (set .entry)) (now (first .entry)) (length (now (columns .entry))) (length (now (words .entry))) (length (now (file .entry))) ⌝ }
-    ensures second { λ r. ⌜ said (r .second) ≡ recordReply (now (set .entry)) (now (second .entry)) (length (now (columns .entry))) (length (now (words .entry))) (length (now (file .entry))) ⌝ }
+    ensures first { λ r. ⌜ said (r .first) ≡ recordReply (now (set .entry)) (now (first .entry)) (length (now (working .entry))) (length (now (words .entry))) (length (now (file .entry))) ⌝ }
+    ensures second { λ r. ⌜ said (r .second) ≡ recordReply (now (set .entry)) (now (second .entry)) (length (now (working .entry))) (length (now (words .entry))) (length (now (file .entry))) ⌝ }
     ensures alike { λ r. ⌜ ((y z : ℕ) → signReply (now (set .entry)) (now (first .entry)) ≡ answer y → signReply (now (set .entry)) (now (second .entry)) ≡ answer z → Alike (now (set .entry)) (now (first .entry)) (now (second .entry)) → said (r .first) ≡ said (r .second)) ⌝ }
-    ensures columns { λ _. ⌜ now (columns .exit) ≡ columnsAfter (now (set .entry)) (now (columns .entry)) ⌝ }
-    ensures words { λ _. ⌜ now (words .exit) ≡ lent (planReply (now (set .entry)) (length (now (columns .entry))) (length (now (words .entry)))) (wordsOf (now (set .entry))) (now (words .entry)) ⌝ }
-    ensures file { λ _. ⌜ now (file .exit) ≡ fileAfter (now (set .entry)) (length (now (columns .entry))) (length (now (words .entry))) (now (file .entry)) ⌝ }
+    ensures working { λ _. ⌜ now (working .exit) ≡ workingLeft (now (set .entry)) (now (working .entry)) ⌝ }
+    ensures words { λ _. ⌜ now (words .exit) ≡ lent (planReply (now (set .entry)) (length (now (working .entry))) (length (now (words .entry)))) (wordsOf (now (set .entry))) (now (words .entry)) ⌝ }
+    ensures file { λ _. ⌜ now (file .exit) ≡ fileAfter (now (set .entry)) (length (now (working .entry))) (length (now (words .entry))) (now (file .entry)) ⌝ }
 {
-    let made = make_plan(set, columns, words, file);
+    let made = make_plan(set, working, words, file);
     let Written::Done { length } = made else {
         let number = writing_number(made);
         return Pair {

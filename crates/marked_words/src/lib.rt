@@ -11,6 +11,12 @@ ghost use Rattle.rows.specs.Marks.{total, markedWords, bits};
 ghost use Rattle.marked_words.specs.Back.{back};
 use rows::Rows;
 
+// How far a row was listed: so many places stand before the words in the list, and so many chains are left.
+pub struct Fitted {
+    pub place: usize,
+    pub chains: usize,
+}
+
 // Writes the word over the list's last place, and answers with how many places stand before it.
 fn put_last(columns: &mut [u64], word: u64) -> usize
     ensures { λ r. ⌜ r ≡ length (now (columns .entry)) - 1 ⌝ }
@@ -89,6 +95,46 @@ pub fn list_row(columns: &mut [u64], words: &[u64], row: &[u8]) -> usize
         place = list_word(&mut columns[..place], &words[first..], marks);
     }
     place
+}
+
+fn least(a: usize, b: usize) -> usize
+    ensures { λ r. ⌜ r ≡ min a b ⌝ }
+{
+    if a < b { a } else { b }
+}
+
+// Whether more than `room` bits are 1.
+fn is_too_many(marks: u64, room: usize) -> bool
+    ensures { λ r. ⌜ r ≡ ltb room (ones marks) ⌝ }
+{
+    if marks == 0 {
+        return false;
+    }
+    room < u64::count_ones(marks) as usize
+}
+
+// The same as far as there is room: from the last chain on, by words of 64 cells, up to the first whose marked cells don't fit. 64 places
+// always take one word's.
+pub fn list_fitting(columns: &mut [u64], words: &[u64], row: &[u8]) -> Fitted
+    ensures { λ r. ⌜ FittedIn (now (words .entry)) (cell (now (row .entry))) (now (columns .entry)) (now (columns .exit)) r ⌝ }
+{
+    let chains = words.len();
+    let mut place = columns.len();
+    let mut i = chains / 64 + (chains % 64 + 63) / 64;
+    while 0 < i {
+        let first = 64 * (i - 1);
+        let mask = word::low_mask((chains - first) as u64);
+        let marks = numbers::read_word(row, 8 * (i - 1)) & mask;
+        if is_too_many(marks, place) {
+            return Fitted {
+                place,
+                chains: least(64 * i, chains),
+            };
+        }
+        place = list_word(&mut columns[..place], &words[first..], marks);
+        i -= 1;
+    }
+    Fitted { place, chains: 0 }
 }
 
 // The number of cells among the first 256 of a row that are 1, by words of 64 cells.

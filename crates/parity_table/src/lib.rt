@@ -14,8 +14,9 @@ fn no_words() -> [u64; 64]
     [0u64; 64]
 }
 
-fn no_entries() -> [u64; 2048]
-    ensures { λ r. ⌜ length r ≡ 2048 ⌝ }
+// Room for a table: 2048 zeros.
+pub fn no_entries() -> [u64; 2048]
+    ensures { λ r. ⌜ r ≡ replicate 2048 0 ⌝ }
 {
     [0u64; 2048]
 }
@@ -46,19 +47,18 @@ fn table_entry(table: &[u64; 2048], bits: &[u64; 64], e: usize) -> u64
     table[e - (1usize << top)] ^ bits[8 * (e / 256) + top]
 }
 
-// The table of bytes: for each of the eight bytes of a column and each value of it, its parities with the first 64 words.
-fn byte_table(words: &[u64]) -> [u64; 2048]
-    ensures { λ r. ⌜ ((e : ℕ) → e < 2048 → getD r e 0 ≡ byteParities (take 64 (now (words .entry))) e) ⌝ }
+// Fills the table of bytes: for each of the eight bytes of a column and each value of it, its parities with the first 64 words. It takes
+// as long as thousands of parities.
+pub fn fill_table(table: &mut [u64; 2048], words: &[u64])
+    ensures { λ _. ⌜ ParityTable (take 64 (now (words .entry))) (now (table .exit)) ⌝ }
 {
     let bits = bit_parities(words);
-    let mut table = no_entries();
     let mut e: usize = 0;
     while e < 2048 {
-        let entry = table_entry(&table, &bits, e);
+        let entry = table_entry(table, &bits, e);
         table[e] = entry;
         e += 1;
     }
-    table
 }
 
 // The XOR of the table's entries for the eight bytes of a column.
@@ -76,18 +76,25 @@ fn looked_up(table: &[u64; 2048], column: u64) -> u64
     all
 }
 
-// The place of the first column, from place `from` on, that is odd with one of the first 64 words; the end where none is. The table
-// takes as long to make as thousands of parities.
-pub fn skip_even(words: &[u64], columns: &[u64], from: usize) -> usize
-    ensures { λ r. ⌜ r ≡ from + evenRun (take 64 (now (words .entry))) (drop from (now (columns .entry))) ⌝ }
+// The place of the first column, from place `from` on, that is odd with one of the words whose table it is; the end where none is.
+pub fn skip_by_table(table: &[u64; 2048], columns: &[u64], from: usize) -> usize
+    ensures { λ r. ⌜ ((ws : List ℕ) → ParityTable ws (now (table .entry)) → r ≡ from + evenRun ws (drop from (now (columns .entry)))) ⌝ }
 {
-    let table = byte_table(words);
     let mut i = from;
     while i < columns.len() {
-        if looked_up(&table, columns[i]) != 0 {
+        if looked_up(table, columns[i]) != 0 {
             return i;
         }
         i += 1;
     }
     i
+}
+
+// The same for the first 64 words, whose table is made for it.
+pub fn skip_even(words: &[u64], columns: &[u64], from: usize) -> usize
+    ensures { λ r. ⌜ r ≡ from + evenRun (take 64 (now (words .entry))) (drop from (now (columns .entry))) ⌝ }
+{
+    let mut table = no_entries();
+    fill_table(&mut table, words);
+    skip_by_table(&table, columns, from)
 }

@@ -16,8 +16,8 @@ enum Input {
 // proofs/InputLaws.antt, long-printed).
 const MOST_BYTES: usize = 34839;
 
-// Document 01: "It lends 4,096 column places, so more unknown cells print 14."
-const COLUMN_PLACES: usize = 4096;
+// Document 01: "It lends 4,096 column places"; document 02, No. 3: "The printer still lends 4,096 and prints 14 no more."
+const WORKING_PLACES: usize = 4096;
 
 // A set has no more words than its register has bits.
 const WORD_PLACES: usize = 64;
@@ -28,10 +28,10 @@ fn no_bytes() -> [u8; MOST_BYTES]
     [0u8; MOST_BYTES]
 }
 
-fn no_columns() -> [u64; COLUMN_PLACES]
+fn no_places() -> [u64; WORKING_PLACES]
     ensures { λ r. ⌜ length r ≡ 4096 ⌝ }
 {
-    [0u64; COLUMN_PLACES]
+    [0u64; WORKING_PLACES]
 }
 
 fn no_words() -> [u64; WORD_PLACES]
@@ -45,9 +45,9 @@ fn print_set(set: &[u8], out: &mut [u8; 4096]) -> usize
     ensures count { λ r. ⌜ r ≡ length (printedText (now (set .entry))) ⌝ }
     ensures text { λ _. ⌜ now (out .exit) ≡ front (printedText (now (set .entry))) (now (out .entry)) ⌝ }
 {
-    let mut columns = no_columns();
+    let mut working = no_places();
     let mut words = no_words();
-    plan_text::print_plan(set, &mut columns, &mut words, out)
+    plan_text::print_plan(set, &mut working, &mut words, out)
 }
 
 // Reads standard input over the front of `bytes`, until it is full or the input ends. A read that fails is told apart from the

@@ -2,10 +2,10 @@
 -- line; of a refusal its line alone.
 --
 --   textOf r set        the text for the reply r of planning the set
---   planText set k l    the whole text, for k column places and l word places
+--   planText set k l    the whole text, for k working places and l word places
 --   longest             the bytes of the longest set
---   printedText set     what the plan printer writes for the set. Document 01: "It lends 4,096 column places". It lends 64 word places, as
---                       many as a register can have bits
+--   printedText set     what the plan printer writes for the set. Document 02, No. 3: "The printer still lends 4,096", as its working list.
+--                       It lends 64 word places, as many as a register can have bits
 use mathlib.Core.List.{List, _++_}
 use Prim.Native.Nat.{ℕ}
 use Rattle.word.specs.Reply.{Reply, answer, refusal}

@@ -1,15 +1,17 @@
 -- Planning. Document 01: "Planning is lent a column list and a word list and answers with m, q and the expected bits as one
--- word, bit i for word i"; "planning that gets past 14 has filled the front of its column list with the columns, whether or not
--- 16, 17 or 18 follows": that list at exit is columns/specs/Listing columnsAfter. And the call that gives the words alone. Document 02,
--- No. 2: "Planning is to be split in two: one call gives the words, the other the expected bits for a set and its words." It meets
--- planning's numbers and is lent planning's lists; the other call is expectation/specs/Expecting.
+-- word, bit i for word i". Document 02, No. 3: "Words are to come from a working list of 64 places, with the same answer. Refusal 14 in
+-- planning now means fewer than 64 places. Past 14, those 64 hold zero when the call ends, accepted or not." And the call that gives the
+-- words alone. Document 02, No. 2: "Planning is to be split in two: one call gives the words, the other the expected bits for a set and
+-- its words." It meets planning's numbers and is lent planning's lists; the other call is expectation/specs/Expecting.
 --
 --   wordsFor g              document 01: the plan's words, the reduced list for the columns of what is given
 --   wordsOf set             .. of a set
 --   expectedOf set          the expected bits of a set's own words
---   earlierTests set k      the numbers that planning meets before 17, in order, for k column places. Document 01: "an earlier number
+--   workTests set k         the numbers that planning meets up to 14, in order, for k working places
+--   workingLeft set l       the working list l at exit
+--   earlierTests set k      the numbers that planning meets before 17, in order, for k working places. Document 01: "an earlier number
 --                           is one that stands before 17 in that call"
---   planTests set k l       the numbers that planning meets, in order, for k column places and l word places
+--   planTests set k l       the numbers that planning meets, in order, for k working places and l word places
 --   WordParts               what the call that gives the words answers: m and q
 --   wordsReply set k l      its reply
 --   saidWorded w            the paper's reading of what it hands back
@@ -26,7 +28,8 @@ use Rattle.combinations.specs.Reduced.{reducedList}
 use Rattle.set_layout.specs.Layout.{widthOf}
 use Rattle.signatures.specs.Given.{Given, columnsFor}
 use Rattle.signatures.specs.Sets.{given, columnsOf}
-use Rattle.columns.specs.Listing.{listTests}
+use Rattle.set_file.specs.Reading.{setTests}
+use Rattle.set_words.specs.Working.{workingTest, workingAfter}
 use Rattle.expectation.specs.Expecting.{expectedFor}
 use Rattle.planner.specs.declared.Worded.{Worded}
 use Rattle.planner.specs.declared.Worded.the-variants.{Words, Refused as Unworded}
@@ -42,9 +45,16 @@ wordsOf set = wordsFor (given set)
 unfoldable pub expectedOf : List ℕ → ℕ
 expectedOf set = expectedFor set (wordsOf set)
 
--- the set's numbers, then 14 and 16
+-- the set's numbers, then 14
+unfoldable pub workTests : List ℕ → ℕ → List Test
+workTests set k = setTests set ++ workingTest k ∷ []
+
+abbrev pub workingLeft : List ℕ → List ℕ → List ℕ
+workingLeft set l = workingAfter (workTests set (length l)) l
+
+-- .. then 16
 unfoldable pub earlierTests : List ℕ → ℕ → List Test
-earlierTests set k = listTests set k ++ 16 when ltb (widthOf set) (rank (columnsOf set)) ∷ []
+earlierTests set k = workTests set k ++ 16 when ltb (widthOf set) (rank (columnsOf set)) ∷ []
 
 -- .. then 17 and 18
 unfoldable pub planTests : List ℕ → ℕ → ℕ → List Test

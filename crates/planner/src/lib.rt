@@ -1,5 +1,5 @@
-// Planning: the words of a set, and its words with their expected bits. It sees the columns, the elimination and the expected bits of a
-// list of words. Planning is the two calls in a row: the words, then the expected bits for them.
+// Planning: the words of a set, and its words with their expected bits. It sees the words of a taken set and the expected bits of a list
+// of words. Planning is the two calls in a row: the words, then the expected bits for them.
 ghost use mathlib.Core.Path.{_≡_};
 ghost use Prim.Native.Nat.{_*_};
 ghost use lib.ListN.{length};
@@ -7,13 +7,12 @@ ghost use Rattle.word.specs.Reply.{firstOf, lent, numberOf};
 ghost use Rattle.rows.specs.Row.{rowBytes};
 ghost use Rattle.set_layout.specs.Layout.{markAt};
 ghost use Rattle.set_file.specs.Reading.{setTests, TakenFrom};
-ghost use Rattle.columns.specs.Listing.{columnsAfter};
-ghost use Rattle.planner.specs.Planning.{wordsOf, wordsReply, saidWorded, planReply, said};
-use elimination::Eliminated;
+ghost use Rattle.planner.specs.Planning.{wordsOf, workingLeft, wordsReply, saidWorded, planReply, said};
 use register::Register;
 use rows::Rows;
 use set_file::SetAnswer;
 use set_file::Taken;
+use set_words::Kept;
 
 // What the call that gives the words answers: m and q, or the first number that applies.
 pub enum Worded {
@@ -40,24 +39,18 @@ fn unknown_rows(n: u16) -> Rows
     set_layout::mark_rows(n)
 }
 
-// The words of a taken set. Past the set's numbers it meets 14, 16, 17 and 18. The set's values change nothing of what it answers and
-// leaves (proofs/Revised.antt, same-words-reply, same-columns-after).
-fn fill_words(taken: Taken, set: &[u8], columns: &mut [u64], words: &mut [u64]) -> Worded
-    ensures { λ r. ⌜ (TakenFrom (now (set .entry)) taken → (saidWorded r ≡ wordsReply (now (set .entry)) (length (now (columns .entry))) (length (now (words .entry)))) × ((now (columns .exit) ≡ columnsAfter (now (set .entry)) (now (columns .entry))) × (now (words .exit) ≡ lent (wordsReply (now (set .entry)) (length (now (columns .entry))) (length (now (words .entry)))) (wordsOf (now (set .entry))) (now (words .entry))))) ⌝ }
+// The words of a taken set. Past the set's numbers it meets 14, 16, 17 and 18; 16 never applies. The set's values change nothing of what
+// it answers and leaves (proofs/Revised.antt, same-words-reply, same-working-after).
+fn fill_words(taken: Taken, set: &[u8], working: &mut [u64], words: &mut [u64]) -> Worded
+    ensures { λ r. ⌜ (TakenFrom (now (set .entry)) taken → (saidWorded r ≡ wordsReply (now (set .entry)) (length (now (working .entry))) (length (now (words .entry)))) × ((now (working .exit) ≡ workingLeft (now (set .entry)) (now (working .entry))) × (now (words .exit) ≡ lent (wordsReply (now (set .entry)) (length (now (working .entry))) (length (now (words .entry)))) (wordsOf (now (set .entry))) (now (words .entry))))) ⌝ }
 {
     let register = taken.register;
     let m = register.m;
     let marks = unknown_rows(taken.n);
-    let unknowns = marked_words::count_marks(set, marks, taken.s);
-    if (columns.len() as u64) < unknowns {
-        return Worded::Refused { number: 14 };
-    }
-    let end = unknowns as usize;
-    columns::fill_columns(taken, set, marks, &mut columns[..end]);
-    let eliminated = elimination::eliminate(m, &columns[..end], words);
-    let Eliminated::Done { rank: _, q } = eliminated else {
+    let kept = set_words::fill_words(taken, set, marks, working, words);
+    let Kept::Words { q } = kept else {
         return Worded::Refused {
-            number: elimination::number_of(eliminated),
+            number: set_words::number_of(kept),
         };
     };
     Worded::Words { m, q }
@@ -65,11 +58,11 @@ fn fill_words(taken: Taken, set: &[u8], columns: &mut [u64], words: &mut [u64]) 
 
 // The set read and its words made, for both calls: what is answered, and the set as it was taken. Meets the set's numbers, then 14, 16,
 // 17 and 18.
-fn make_words(set: &[u8], columns: &mut [u64], words: &mut [u64]) -> Made
+fn make_words(set: &[u8], working: &mut [u64], words: &mut [u64]) -> Made
     ensures taken { λ r. ⌜ (firstOf (setTests (now (set .entry))) ≡ 0 → TakenFrom (now (set .entry)) (r .taken)) ⌝ }
-    ensures answer { λ r. ⌜ saidWorded (r .worded) ≡ wordsReply (now (set .entry)) (length (now (columns .entry))) (length (now (words .entry))) ⌝ }
-    ensures columns { λ _. ⌜ now (columns .exit) ≡ columnsAfter (now (set .entry)) (now (columns .entry)) ⌝ }
-    ensures words { λ _. ⌜ now (words .exit) ≡ lent (wordsReply (now (set .entry)) (length (now (columns .entry))) (length (now (words .entry)))) (wordsOf (now (set .entry))) (now (words .entry)) ⌝ }
+    ensures answer { λ r. ⌜ saidWorded (r .worded) ≡ wordsReply (now (set .entry)) (length (now (working .entry))) (length (now (words .entry))) ⌝ }
+    ensures working { λ _. ⌜ now (working .exit) ≡ workingLeft (now (set .entry)) (now (working .entry)) ⌝ }
+    ensures words { λ _. ⌜ now (words .exit) ≡ lent (wordsReply (now (set .entry)) (length (now (working .entry))) (length (now (words .entry)))) (wordsOf (now (set .entry))) (now (words .entry)) ⌝ }
 {
     let read = set_file::read_set(set);
     let answer = read.answer;
@@ -92,19 +85,19 @@ fn make_words(set: &[u8], columns: &mut [u64], words: &mut [u64]) -> Made
         s,
         spread,
     };
-    let worded = fill_words(taken, set, columns, words);
+    let worded = fill_words(taken, set, working, words);
     Made { worded, taken }
 }
 
 // The words of a set, the first of the two calls of document 02. Answers with m and q, and writes the q words over the front of
-// `words`. Meets the set's numbers, then 14, 16, 17 and 18. A refusal writes nothing, but that past 14 the front of `columns` holds the
-// columns.
-pub fn plan_words(set: &[u8], columns: &mut [u64], words: &mut [u64]) -> Worded
-    ensures answer { λ r. ⌜ saidWorded r ≡ wordsReply (now (set .entry)) (length (now (columns .entry))) (length (now (words .entry))) ⌝ }
-    ensures columns { λ _. ⌜ now (columns .exit) ≡ columnsAfter (now (set .entry)) (now (columns .entry)) ⌝ }
-    ensures words { λ _. ⌜ now (words .exit) ≡ lent (wordsReply (now (set .entry)) (length (now (columns .entry))) (length (now (words .entry)))) (wordsOf (now (set .entry))) (now (words .entry)) ⌝ }
+// `words`. Meets the set's numbers, then 14, 16, 17 and 18. A refusal writes nothing, but that past 14 the first 64 places of `working`
+// hold 0.
+pub fn plan_words(set: &[u8], working: &mut [u64], words: &mut [u64]) -> Worded
+    ensures answer { λ r. ⌜ saidWorded r ≡ wordsReply (now (set .entry)) (length (now (working .entry))) (length (now (words .entry))) ⌝ }
+    ensures working { λ _. ⌜ now (working .exit) ≡ workingLeft (now (set .entry)) (now (working .entry)) ⌝ }
+    ensures words { λ _. ⌜ now (words .exit) ≡ lent (wordsReply (now (set .entry)) (length (now (working .entry))) (length (now (words .entry)))) (wordsOf (now (set .entry))) (now (words .entry)) ⌝ }
 {
-    let made = make_words(set, columns, words);
+    let made = make_words(set, working, words);
     made.worded
 }
 
@@ -120,13 +113,13 @@ fn words_number(worded: Worded) -> u64
 
 // Planning of document 01: the words, then the expected bits for them (proofs/InARow.antt, plan-in-a-row); the set is read once for
 // both. Answers with m, q and the expected bits, and writes the q words over the front of `words`. Meets the set's numbers, then 14, 16,
-// 17 and 18. A refusal writes nothing, but that past 14 the front of `columns` holds the columns.
-pub fn plan(set: &[u8], columns: &mut [u64], words: &mut [u64]) -> Planned
-    ensures answer { λ r. ⌜ said r ≡ planReply (now (set .entry)) (length (now (columns .entry))) (length (now (words .entry))) ⌝ }
-    ensures columns { λ _. ⌜ now (columns .exit) ≡ columnsAfter (now (set .entry)) (now (columns .entry)) ⌝ }
-    ensures words { λ _. ⌜ now (words .exit) ≡ lent (planReply (now (set .entry)) (length (now (columns .entry))) (length (now (words .entry)))) (wordsOf (now (set .entry))) (now (words .entry)) ⌝ }
+// 17 and 18. A refusal writes nothing, but that past 14 the first 64 places of `working` hold 0.
+pub fn plan(set: &[u8], working: &mut [u64], words: &mut [u64]) -> Planned
+    ensures answer { λ r. ⌜ said r ≡ planReply (now (set .entry)) (length (now (working .entry))) (length (now (words .entry))) ⌝ }
+    ensures working { λ _. ⌜ now (working .exit) ≡ workingLeft (now (set .entry)) (now (working .entry)) ⌝ }
+    ensures words { λ _. ⌜ now (words .exit) ≡ lent (planReply (now (set .entry)) (length (now (working .entry))) (length (now (words .entry)))) (wordsOf (now (set .entry))) (now (words .entry)) ⌝ }
 {
-    let made = make_words(set, columns, words);
+    let made = make_words(set, working, words);
     let worded = made.worded;
     let taken = made.taken;
     let Worded::Words { m, q } = worded else {

@@ -1,7 +1,7 @@
-// Words of 64 bits: masks, parities, the highest bit, widths. Every function is total.
+// Words of 64 bits: masks, parities, the highest bit, widths; lists of them. Every function is total.
 ghost use mathlib.Core.Path.{_≡_};
 ghost use Prim.Native.Nat.{min};
-ghost use lib.ListN.{take, getD};
+ghost use lib.ListN.{length, take, getD, replicate};
 ghost use Rattle.word.specs.Word.{lowMask, beyond, parity, highestBit, badWidth};
 ghost use Rattle.word.specs.Parities.{parities};
 
@@ -72,4 +72,15 @@ pub fn word_at(words: &[u64], c: usize) -> u64
     ensures { λ r. ⌜ r ≡ getD (now (words .entry)) c 0 ⌝ }
 {
     if c < words.len() { words[c] } else { 0 }
+}
+
+// Puts 0 into every place.
+pub fn clear_words(words: &mut [u64])
+    ensures { λ _. ⌜ now (words .exit) ≡ replicate (length (now (words .entry))) 0 ⌝ }
+{
+    let mut i: usize = 0;
+    while i < words.len() {
+        words[i] = 0;
+        i += 1;
+    }
 }
