@@ -90,20 +90,6 @@ units-prefix m (suc d) =
 pub units-front : (m : ℕ) → m ≤ 64 → take m (units 64) ≡ units m
 units-front m h = ap (λ (n : ℕ). take m (units n)) (omega (arith, sub-add-cancel h)) ∙ units-prefix m (64 - m)
 
--- ---- words written over the front of a list
-
-pub written-start : (l : List ℕ) → l ≡ front [] l
-written-start l = sym (front-nothing l)
-
-pub written-turn : (vs l ws : List ℕ) (i : ℕ) → ws ≡ front (take i vs) l → i < length vs → i < length l → set ws i (getD vs i 0) ≡ front (take (i + 1) vs) l
-written-turn vs l ws i e hv hl =
-    ap (λ (x : List ℕ). set x i (getD vs i 0)) e ∙ front-next i vs l hv hl ∙ ap (λ (n : ℕ). front (take n vs) l) (sym (add-one i))
-
-pub written-end : (vs l ws : List ℕ) (i : ℕ) → ws ≡ front (take i vs) l → i ≤ length vs → length vs ≤ i → ws ≡ front vs l
-written-end vs l ws i e a b =
-    let all : i ≡ length vs = omega arith in
-    e ∙ ap (λ (n : ℕ). front (take n vs) l) all ∙ front-whole vs l
-
 -- ---- the columns one after the other
 
 pub record Reduced (cs l ws : List ℕ) (left i : ℕ) : Type 0 where
