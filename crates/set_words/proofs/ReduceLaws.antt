@@ -56,9 +56,10 @@ module _ (k : Circuit) (s : ℕ) (u : Response) (m : ℕ) (ps : List ℕ) where
     words = e ∙ ap (steps (drop (r .place) l′)) (so-far .words) ∙ sym (portion-before m (drop (r .place) l′) (so-far .columns));
   }
 
-  -- the same words
-  pub reduced-alike : (t c : ℕ) (ws h h′ : List ℕ) → h′ ≡ h → Reduced k s u m ps t c ws h → Reduced k s u m ps t c ws h′
-  reduced-alike t c ws h h′ e so-far = subst (Reduced k s u m ps t c ws) (sym e) so-far
+  -- the same words and slices, by other names
+  pub reduced-alike : (t t′ c : ℕ) (ws h h′ : List ℕ) → t′ ≡ t → h′ ≡ h → Reduced k s u m ps t c ws h → Reduced k s u m ps t′ c ws h′
+  reduced-alike t t′ c ws h h′ et e so-far =
+      subst (λ (x : ℕ). Reduced k s u m ps x c ws h′) (sym et) (subst (Reduced k s u m ps t c ws) (sym e) so-far)
 
   whole : (t c : ℕ) (ws h : List ℕ) → Reduced k s u m ps t c ws h → reducedList m (columnsBelow k s u s) ≡ steps (columnsLeft k s u t c) h
   whole t c ws h so-far =

@@ -111,7 +111,7 @@ returns-2 c =
       ((λ some. ⊎-elim (λ a. let no : ⊥ = omega (arith, a .0) in absurd no) (λ a. a) (at .inv .3)),
       (λ spread m before.
           let so-far = at .inv .4 spread m before in
-          reduced-alike _ _ _ _ _ _ _ _ _ _ (ap (take (length (c .before .before .before .before .before .before .before .before .before .args .held .now))) (at .inv .2) ∙ take-length (c .before .before .before .before .before .before .before .before .before .args .held .now)) so-far)),
+          reduced-alike _ _ _ _ _ _ _ _ _ _ _ refl (ap (take (length (c .before .before .before .before .before .before .before .before .before .args .held .now))) (at .inv .2) ∙ take-length (c .before .before .before .before .before .before .before .before .before .args .held .now)) so-far)),
     )
 
 pub add-by-table-spec : {M : Type 1} → statement M
