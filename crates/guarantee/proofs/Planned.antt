@@ -1,50 +1,28 @@
 -- What planning's answer for a set says, and what it refuses with. Assumes nothing.
 use mathlib.Core.Path.{_≡_, refl, sym, ap, _∙_}
-use mathlib.Core.Bool.{Bool, true, false, cond, not, _&&_}
+use mathlib.Core.Bool.{Bool, true, false, cond}
 use mathlib.Core.Logic.{dite}
-use mathlib.Core.List.{List, [], _∷_}
+use mathlib.Core.List.{List}
 use Prim.Native.Nat.{ℕ}
 use native.Mathlib.Decide.{ℕ-discrete}
 use native.Mathlib.Omega.{arith}
-use borrow.Author.Tests.{eqb-false, not-true}
-use lib.Dec.{eqb, ltb}
+use lib.Dec.{ltb}
 use lib.ListN.{length}
-use Rattle.word.specs.Reply.{Test, _when_, answer, refusal, replied, firstOf}
-use Rattle.word.proofs.BoolLaws.{and-left, and-right}
+use Rattle.word.specs.Reply.{answer, refusal, replied, firstOf}
 use Rattle.word.proofs.Laws.{parities-lt}
-use Rattle.word.proofs.TestLaws.{numbered, first-of-later, replied-answer, replied-number}
+use Rattle.word.proofs.TestLaws.{numbered, first-of-later, replied-answer, replied-number, without, first-of-without}
 use Rattle.combinations.specs.Combination.{rank, onlyEmpty}
 use Rattle.set_layout.specs.Layout.{widthOf}
 use Rattle.set_file.specs.Reading.{setTests}
 use Rattle.set_file.proofs.Laws.{Accepted, accepted, accepted-width}
 use Rattle.signatures.specs.Sets.{columnsOf, zeroSignature}
-use Rattle.columns.specs.Listing.{listTests}
-use Rattle.planner.specs.Planning.{wordsOf, expectedOf, earlierTests, planTests, PlanParts, partsOf, planReply}
+use Rattle.planner.specs.Planning.{wordsOf, expectedOf, workTests, earlierTests, planTests, PlanParts, partsOf, planReply}
 use Rattle.planner.proofs.NumberLaws as numbers
-use Rattle.planner.proofs.NumberLaws.{plan-sooner, plan-later, listed-set}
+use Rattle.planner.proofs.NumberLaws.{plan-sooner, plan-later, work-set}
 use Rattle.planner.proofs.CallLaws.{planned-parts}
 use Rattle.plan_writer.specs.Writing.{planContent, planBytes}
 use Rattle.plan_writer.proofs.Parts.{Content}
 use Rattle.guarantee.specs.Demand.{planFile}
-
--- ---- lists of tests
-
--- no test of the list has the number n
-abbrev pub without : ℕ → List Test → Bool
-without n [] = true
-without n ((k when b) ∷ ts) = not (eqb k n) && without n ts
-
-without-next : (n k : ℕ) (b : Bool) (ts : List Test) → (not (eqb k n) && without n ts) ≡ true → cond b k (firstOf ts) ≡ n
-    → (firstOf ts ≡ n → n ≡ 0) → n ≡ 0
-without-next n k true ts d h f =
-    absurd (eqb-false k n (not-true (eqb k n) (and-left (not (eqb k n)) (without n ts) d)) h)
-without-next n k false ts d h f = f h
-
--- .. so n isn't the first that applies
-pub first-of-without : (n : ℕ) (ts : List Test) → without n ts ≡ true → firstOf ts ≡ n → n ≡ 0
-first-of-without n [] d h = sym h
-first-of-without n ((k when b) ∷ ts) d h =
-    without-next n k b ts d h (first-of-without n ts (and-right (not (eqb k n)) (without n ts) d))
 
 seventeen-among : (a b c : Bool) → _≡_ {A = ℕ} (cond a 16 (cond b 17 (cond c 18 0))) 17 → b ≡ true
 seventeen-among true b c h = let z : ⊥ = omega arith in absurd z
@@ -52,14 +30,14 @@ seventeen-among false true c h = refl
 seventeen-among false false true h = let z : ⊥ = omega arith in absurd z
 seventeen-among false false false h = let z : ⊥ = omega arith in absurd z
 
--- ---- planning's tests: those of listing the columns, then 16, 17 and 18
+-- ---- planning's tests: the set's and 14, then 16, 17 and 18
 
-list-without-seventeen : (set : List ℕ) (k : ℕ) → without 17 (listTests set k) ≡ true
-unfolding listTests setTests
-list-without-seventeen set k = refl
+work-without-seventeen : (set : List ℕ) (k : ℕ) → without 17 (workTests set k) ≡ true
+unfolding workTests setTests
+work-without-seventeen set k = refl
 
 earlier-numbered : (set : List ℕ) (k : ℕ) → numbered (earlierTests set k) ≡ true
-unfolding earlierTests listTests setTests
+unfolding earlierTests workTests setTests
 earlier-numbered set k = refl
 
 module _ (set : List ℕ) (k l : ℕ) where
@@ -68,14 +46,14 @@ module _ (set : List ℕ) (k l : ℕ) where
   unfolding planReply
   seventeen-only-empty h =
       let number : firstOf (planTests set k l) ≡ 17 = replied-number (firstOf (planTests set k l)) (partsOf set) 17 h in
-      let none : firstOf (listTests set k) ≡ 0 =
-      dite (ℕ-discrete (firstOf (listTests set k)) 0) (λ (z : firstOf (listTests set k) ≡ 0). z)
-      (λ (d : firstOf (listTests set k) ≡ 0 → ⊥).
-      let z : 17 ≡ 0 = first-of-without 17 (listTests set k) (list-without-seventeen set k) (sym (plan-sooner set k l d) ∙ number) in
+      let none : firstOf (workTests set k) ≡ 0 =
+      dite (ℕ-discrete (firstOf (workTests set k)) 0) (λ (z : firstOf (workTests set k) ≡ 0). z)
+      (λ (d : firstOf (workTests set k) ≡ 0 → ⊥).
+      let z : 17 ≡ 0 = first-of-without 17 (workTests set k) (work-without-seventeen set k) (sym (plan-sooner set k l d) ∙ number) in
       let no : ⊥ = omega arith in
       absurd no)
       in
-      (accepted set (listed-set set k none), seventeen-among (ltb (widthOf set) (rank (columnsOf set))) _ (ltb l (length (wordsOf set))) (sym (plan-later set k l none) ∙ number))
+      (accepted set (work-set set k none), seventeen-among (ltb (widthOf set) (rank (columnsOf set))) _ (ltb l (length (wordsOf set))) (sym (plan-later set k l none) ∙ number))
 
   -- .. and where that is so and no earlier number applies, 17 it is
   pub only-empty-seventeen : firstOf (earlierTests set k) ≡ 0 → onlyEmpty (widthOf set) (columnsOf set) ≡ true → planReply set k l ≡ refusal 17

@@ -7,7 +7,7 @@
 --   words-seventeen     the call that gives the words alone
 --   expected-never      the call that gives the expected bits makes no words, and never gives 17
 --   record-seventeen    judging a record by the plan of its set; each of two records
---   text-seventeen      the plan printer's text, for any column places and word places: its line `refused 17`
+--   text-seventeen      the plan printer's text, for any working places and word places: its line `refused 17`
 -- Assumes nothing.
 use mathlib.Core.Path.{_≡_, refl, sym, ap, _∙_}
 use mathlib.Core.Bool.{true}
@@ -16,7 +16,7 @@ use Prim.Native.Nat.{ℕ, _^_, _<_}
 use native.Mathlib.Omega.{arith}
 use Rattle.word.specs.Reply.{Test, Reply, answer, refusal, replied, firstOf, after}
 use Rattle.word.proofs.ReplyLaws.{after-after, after-number}
-use Rattle.word.proofs.TestLaws.{replied-number}
+use Rattle.word.proofs.TestLaws.{never}
 use Rattle.set_layout.specs.Layout.{widthOf}
 use Rattle.set_file.specs.Reading.{setTests}
 use Rattle.signatures.specs.Sets.{Explained}
@@ -31,13 +31,7 @@ use Rattle.plan_lines.specs.Lines.{refusedLine}
 use Rattle.plan_text.specs.PlanText.{planText}
 use Rattle.plan_text.proofs.RefusalLaws.{refused-text}
 use Rattle.guarantee.specs.AtWork.{madeReply, planOf, signedReply, recordReply}
-use Rattle.guarantee.proofs.Planned.{without, first-of-without}
 use Rattle.guarantee.proofs.Theorems.{seventeen-explained, explained-seventeen}
-
--- ---- a number that is not among a call's tests
-
-never : {A : Type 0} (n : ℕ) (ts : List Test) (a : A) → (n ≡ 0 → ⊥) → without n ts ≡ true → replied (firstOf ts) a ≡ refusal n → ⊥
-never n ts a z d h = z (first-of-without n ts d (replied-number (firstOf ts) a n h))
 
 -- ---- 17
 

@@ -47,7 +47,7 @@ use Rattle.signatures.specs.Sets.{Explained, columnsOf, zeroSignature, recordCe
 use Rattle.signing.specs.Signing.{signTests, signReply}
 use Rattle.signatures.proofs.SetLaws.{columns-of-within, signature-within}
 use Rattle.planner.specs.Planning.{wordsOf, expectedOf, earlierTests, PlanParts, partsOf, planReply}
-use Rattle.planner.proofs.NumberLaws.{earlier-listed, listed-set}
+use Rattle.planner.proofs.NumberLaws.{earlier-work, work-set}
 use Rattle.planner.proofs.CallLaws as planning
 use Rattle.plan_file.specs.Layout.{planLength, fileWords}
 use Rattle.plan_file.specs.Reading.{planFileReply}
@@ -242,6 +242,6 @@ sixteen-never set h =
 pub explained-seventeen : (set : List ℕ) (k l : ℕ) → firstOf (earlierTests set k) ≡ 0
     → ((y : ℕ) → y < 2 ^ widthOf set → Explained set y) → planReply set k l ≡ refusal 17
 explained-seventeen set k l h f =
-    let taken : Accepted set = accepted set (listed-set set k (earlier-listed set k h)) in
+    let taken : Accepted set = accepted set (work-set set k (earlier-work set k h)) in
     planned.only-empty-seventeen set k l h
     (explains-only-empty (widthOf set) (columnsOf set) (columns-of-within set taken) (explaining.all-xor set taken f))

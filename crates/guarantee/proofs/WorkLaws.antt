@@ -10,8 +10,7 @@ use Rattle.word.proofs.ReplyLaws.{answered-part, after-answer}
 use Rattle.word.proofs.TestLaws.{replied-answer}
 use Rattle.signing.specs.Signing.{signReply, saidSigned}
 use Rattle.signing.specs.declared.Signed.{Signed}
-use Rattle.columns.specs.Listing.{columnsAfter}
-use Rattle.planner.specs.Planning.{wordsOf, expectedOf, PlanParts, partsOf, planReply, said as saidPlanned}
+use Rattle.planner.specs.Planning.{wordsOf, expectedOf, workingLeft, PlanParts, partsOf, planReply, said as saidPlanned}
 use Rattle.planner.specs.declared.Planned.{Planned}
 use Rattle.planner.proofs.CallLaws.{Ends, words-front}
 use Rattle.plan_file.specs.Layout.{planLength}
@@ -28,7 +27,7 @@ use Rattle.guarantee.proofs.Theorems.{planned-parts, plan-written, plan
 -- what making the plan leaves in the column list cs, the word list ws and the output file
 abbrev pub Left : List ℕ → List ℕ → List ℕ → List ℕ → List ℕ → List ℕ → List ℕ → Type 0
 Left set cs ws file cs′ ws′ file′ =
-    (cs′ ≡ columnsAfter set cs)
+    (cs′ ≡ workingLeft set cs)
     × ((ws′ ≡ lent (planReply set (length cs) (length ws)) (wordsOf set) ws) × (file′ ≡ fileAfter set (length cs) (length ws) file))
 
 -- .. and what it answers, a

@@ -3,7 +3,7 @@
 -- file and the record's signature." These are four of document 01's calls in turn: each meets its own numbers in its own order,
 -- and the first that refuses ends it.
 --
---   madeReply set k l room      the reply of making the plan of a set: planning with k column places and l word places, then the
+--   madeReply set k l room      the reply of making the plan of a set: planning with k working places and l word places, then the
 --                               plan writer with an output of `room` bytes; its length
 --   planOf set                  the plan made of a set
 --   fileAfter set k l file      the lent output at exit

@@ -4,7 +4,7 @@
 --   longest-set       a set that meets none of its numbers has no more
 --   long-refused      a longer input prints its first number
 --   long-number       .. which is 8 or an earlier one: one of 1 to 8, or 25
---   long-input        .. and so do its bytes up to the first too many, for any column places and word places
+--   long-input        .. and so do its bytes up to the first too many, for any working places and word places
 --   long-printed      .. so the plan printer, which reads no more of them, writes the text of the whole input
 -- Assumes nothing.
 use mathlib.Core.Path.{_≡_, refl, sym, ap, ap₂, _∙_}
@@ -23,7 +23,6 @@ use Rattle.numbers.specs.Bytes.{numberAt, wordsAt}
 use Rattle.word.specs.Reply.{firstOf}
 use Rattle.word.proofs.BoolLaws.{or-false-right}
 use Rattle.numbers.proofs.ByteLaws.{number-at-take, words-at-take}
-use Rattle.word.proofs.TestLaws.{first-sooner}
 use Rattle.rows.specs.Row.{rowBytes}
 use Rattle.register.specs.Circuit.{badTaps, badInversion, badChains, tooManySlices}
 use Rattle.chains.specs.Driven.{badSpread}
@@ -31,10 +30,10 @@ use Rattle.set_layout.specs.Layout.{tapsAt, inversionAt, chainsAt, spreadAt, sl
 use Rattle.set_layout.proofs.LayoutLaws.{good-chains}
 use Rattle.set_file.specs.Reading.{badSlices, setTests}
 use Rattle.set_file.proofs.Laws.{Accepted, accepted, accepted-chains}
-use Rattle.columns.specs.Listing.{listTests}
+use Rattle.planner.proofs.NumberLaws.{set-first}
 use Rattle.plan_lines.specs.Lines.{refusedLine}
 use Rattle.plan_text.specs.PlanText.{planText, longest, printedText}
-use Rattle.plan_text.proofs.RefusalLaws.{listed-printed}
+use Rattle.plan_text.proofs.RefusalLaws.{early-printed}
 
 -- ---- the longest set
 
@@ -168,8 +167,7 @@ module _ (set : List ℕ) (h : longest < length set) where
 
 -- a set that meets one of its numbers prints it
 number-printed : (set : List ℕ) (k l : ℕ) → (firstOf (setTests set) ≡ 0 → ⊥) → planText set k l ≡ refusedLine (firstOf (setTests set))
-unfolding listTests
-number-printed set k l h = listed-printed set k l (firstOf (setTests set)) (first-sooner (setTests set) _ _ refl h) h
+number-printed set k l h = early-printed set k l (firstOf (setTests set)) (set-first set k _ refl h) h
 
 pub long-refused : (set : List ℕ) (k l : ℕ) → longest < length set → planText set k l ≡ refusedLine (firstOf (setTests set))
 long-refused set k l h = number-printed set k l (some-number set h)

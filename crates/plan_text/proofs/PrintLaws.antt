@@ -11,8 +11,7 @@ use Rattle.set_layout.specs.Layout.{widthOf, chainsOf, slicesOf}
 use Rattle.set_file.specs.Reading.{setTests}
 use Rattle.set_file.proofs.Laws.{accepted}
 use Rattle.signatures.specs.Sets.{unknownsOf}
-use Rattle.columns.specs.Listing.{listTests, columnsAfter}
-use Rattle.planner.specs.Planning.{PlanParts, wordsOf, earlierTests, planTests, partsOf, planReply, said}
+use Rattle.planner.specs.Planning.{PlanParts, wordsOf, workTests, workingLeft, earlierTests, planTests, partsOf, planReply, said}
 use Rattle.planner.specs.declared.Planned.{Planned}
 use Rattle.planner.specs.declared.Planned.the-variants.{Plan, Refused}
 use Rattle.planner.proofs.NumberLaws.{words-few}
@@ -32,10 +31,10 @@ plan-lines-fit m n s u i ws e q hi h =
 
 -- the text of a reply whose first number is n; 0 stands for none
 number-fits : (set : List ℕ) (k l n : ℕ) → firstOf (planTests set k l) ≡ n → length (textOf (replied n (partsOf set)) set) ≤ 4096
-unfolding planTests earlierTests listTests
+unfolding planTests earlierTests workTests
 number-fits set k l zero e =
-    let listed : firstOf (listTests set k) ≡ 0 = first-of-none (listTests set k) _ (first-of-none (earlierTests set k) _ e) in
-    let few : length (wordsOf set) ≤ 64 = words-few set (accepted set (first-of-none (setTests set) _ listed)) in
+    let past : firstOf (workTests set k) ≡ 0 = first-of-none (workTests set k) _ (first-of-none (earlierTests set k) _ e) in
+    let few : length (wordsOf set) ≤ 64 = words-few set (accepted set (first-of-none (setTests set) _ past)) in
     plan-lines-fit _ _ _ _ _ (wordsOf set) _ _ (omega (arith, few)) few
 number-fits set k l (suc n) e = omega (arith, length-refused-line (suc n))
 
@@ -45,16 +44,16 @@ text-fits set k l = number-fits set k l (firstOf (planTests set k l)) refl
 
 -- ---- the ways out
 
--- what the printer makes of the column list cs, the word list ws and the output l: the length r of the text, and cs′, ws′, l′
+-- what the printer makes of the working list cs, the word list ws and the output l: the length r of the text, and cs′, ws′, l′
 abbrev pub Prints : List ℕ → List ℕ → List ℕ → List ℕ → ℕ → List ℕ → List ℕ → List ℕ → Type 0
 Prints set cs ws l r cs′ ws′ l′ =
     (r ≡ length (planText set (length cs) (length ws)))
     × ((l′ ≡ front (planText set (length cs) (length ws)) l)
-    × ((cs′ ≡ columnsAfter set cs) × (ws′ ≡ lent (planReply set (length cs) (length ws)) (wordsOf set) ws)))
+    × ((cs′ ≡ workingLeft set cs) × (ws′ ≡ lent (planReply set (length cs) (length ws)) (wordsOf set) ws)))
 
 -- the whole text vs is put from the output's start
 prints : (set cs ws l vs : List ℕ) (r : ℕ) (cs′ ws′ l′ : List ℕ) → vs ≡ planText set (length cs) (length ws) → length l ≡ 4096 → Put l 0 vs r l′
-    → cs′ ≡ columnsAfter set cs → ws′ ≡ lent (planReply set (length cs) (length ws)) (wordsOf set) ws → Prints set cs ws l r cs′ ws′ l′
+    → cs′ ≡ workingLeft set cs → ws′ ≡ lent (planReply set (length cs) (length ws)) (wordsOf set) ws → Prints set cs ws l r cs′ ws′ l′
 prints set cs ws l vs r cs′ ws′ l′ text long p c w =
     let put = put-front vs p (omega (arith, ap length text, text-fits set (length cs) (length ws))) in
     (put .0 ∙ ap length text, (put .1 ∙ ap (λ (x : List ℕ). front x l) text, (c, w)))
@@ -96,7 +95,7 @@ module _ (set cs ws : List ℕ) (p : Planned) (ep : said p ≡ planReply set (le
           ∙ ap (λ (x : List ℕ). setLine (widthOf set) (chainsOf set) (slicesOf set) (unknownsOf set) ++ wordLines 0 x e ++ endLine q) (printed-words .1)
           ∙ sym (ap (λ (x : Reply PlanParts). textOf x set) planned)
 
-      pub prints-plan : (l : List ℕ) (r₁ : ℕ) (l₁ : List ℕ) (r₂ : ℕ) (l₂ : List ℕ) (r : ℕ) (cs′ l′ : List ℕ) → cs′ ≡ columnsAfter set cs → length l ≡ 4096
+      pub prints-plan : (l : List ℕ) (r₁ : ℕ) (l₁ : List ℕ) (r₂ : ℕ) (l₂ : List ℕ) (r : ℕ) (cs′ l′ : List ℕ) → cs′ ≡ workingLeft set cs → length l ≡ 4096
           → Put l 0 (setLine m n s u) r₁ l₁ → Put l₁ r₁ (wordLines 0 (take q ws′) e) r₂ l₂ → Put l₂ r₂ (endLine q) r l′ → Prints set cs ws l r cs′ ws′ l′
       prints-plan l r₁ l₁ r₂ l₂ r cs′ l′ c long p₁ p₂ p₃ =
           prints set cs ws l (setLine m n s u ++ wordLines 0 (take q ws′) e ++ endLine q) r cs′ ws′ l′ lines long (put-then (put-then p₁ p₂) p₃) c ew

@@ -1,28 +1,26 @@
 -- What the text of a refusal says.
 --
 --   refused-text     the text is the line of the refusal n, a number of at most 20 digits, exactly when planning's reply is that refusal
---   listed-printed   a number that listing the columns meets, the set's or 14, is printed
---   more-unknowns    a set that meets none of its numbers and has more unknown cells than there are column places prints 14
+--   early-printed    a number that planning meets up to 14, the set's or 14, is printed
+--   never-fourteen   the plan printer, which lends more places than 64, never prints 14
 -- Assumes nothing.
 use mathlib.Core.Path.{_≡_, refl, sym, ap, _∙_}
+use mathlib.Core.Bool.{true}
 use mathlib.Core.List.{List}
 use Prim.Native.Nat.{ℕ, zero, suc, _^_, _<_, _≤_}
 use native.Mathlib.Omega.{arith}
-use borrow.Author.Tests.{lt-ltb}
+use borrow.Author.Tests.{le-ltb}
 use Rattle.word.specs.Reply.{Reply, refusal, replied, firstOf}
 use Rattle.word.proofs.ReplyLaws.{replied-refusal}
-use Rattle.word.proofs.TestLaws.{first-of-later, first-sooner, first-of-most}
+use Rattle.word.proofs.TestLaws.{first-sooner, first-of-most, without, never}
 use Rattle.set_file.specs.Reading.{setTests}
-use Rattle.set_file.proofs.Laws.{set-numbered}
-use Rattle.signatures.specs.Sets.{unknownsOf}
-use Rattle.columns.specs.Listing.{listTests}
-use Rattle.planner.specs.Planning.{PlanParts, earlierTests, planTests, partsOf, planReply}
+use Rattle.planner.specs.Planning.{PlanParts, workTests, earlierTests, planTests, partsOf, planReply}
 use Rattle.plan_lines.specs.Lines.{refusedLine}
 use Rattle.plan_lines.proofs.LineLaws.{refused-line-same, set-line-no-refusal}
-use Rattle.plan_text.specs.PlanText.{textOf, planText}
+use Rattle.plan_text.specs.PlanText.{textOf, planText, printedText}
 
 few-numbers : (set : List ℕ) (k l : ℕ) → firstOf (planTests set k l) ≤ 25
-unfolding planTests earlierTests listTests setTests
+unfolding planTests earlierTests workTests setTests
 few-numbers set k l = first-of-most 25 (planTests set k l) refl
 
 -- the text of a reply whose first number is j; 0 stands for none
@@ -38,15 +36,18 @@ refused-text set k l n h = (
   (λ e. ap (λ (r : Reply PlanParts). textOf r set) e),
 )
 
-pub listed-printed : (set : List ℕ) (k l n : ℕ) → n ≡ firstOf (listTests set k) → (n ≡ 0 → ⊥) → planText set k l ≡ refusedLine n
+pub early-printed : (set : List ℕ) (k l n : ℕ) → n ≡ firstOf (workTests set k) → (n ≡ 0 → ⊥) → planText set k l ≡ refusedLine n
 unfolding planText planReply planTests earlierTests
-listed-printed set k l n e h =
-    let first : n ≡ firstOf (planTests set k l) = first-sooner (earlierTests set k) _ n (first-sooner (listTests set k) _ n e h) h in
+early-printed set k l n e h =
+    let first : n ≡ firstOf (planTests set k l) = first-sooner (earlierTests set k) _ n (first-sooner (workTests set k) _ n e h) h in
     ap (λ (r : Reply PlanParts). textOf r set)
     (ap (λ (x : ℕ). replied x (partsOf set)) (sym first) ∙ replied-refusal n (partsOf set) h)
 
-pub more-unknowns : (set : List ℕ) (k l : ℕ) → firstOf (setTests set) ≡ 0 → k < unknownsOf set → planText set k l ≡ refusedLine 14
-unfolding listTests
-more-unknowns set k l h more =
-    listed-printed set k l 14 (sym (first-of-later (setTests set) _ (set-numbered set) h ∙ (rw (lt-ltb k (unknownsOf set) more))))
-    (λ (z : 14 ≡ 0). omega arith)
+with-room : (set : List ℕ) (k l : ℕ) → 64 ≤ k → without 14 (planTests set k l) ≡ true
+unfolding planTests earlierTests workTests setTests
+with-room set k l room = rw (le-ltb k 64 room)
+
+pub never-fourteen : (set : List ℕ) → printedText set ≡ refusedLine 14 → ⊥
+unfolding printedText planReply
+never-fourteen set h =
+    never 14 (planTests set 4096 64) (partsOf set) (λ (z : 14 ≡ 0). omega arith) (with-room set 4096 64 (omega arith)) (refused-text set 4096 64 14 (omega arith) .0 h)

@@ -1,13 +1,13 @@
 -- Lists of tests of which none applies, lists of tests one after the other, and what a reply says of its tests. Assumes nothing.
 use mathlib.Core.Path.{_≡_, refl, sym, _∙_}
-use mathlib.Core.Bool.{Bool, true, false, cond, _&&_}
+use mathlib.Core.Bool.{Bool, true, false, cond, not, _&&_, and-true}
 use mathlib.Core.Logic.{dite}
 use mathlib.Core.List.{List, [], _∷_, _++_}
 use Prim.Native.Nat.{ℕ, zero, suc, _≤_}
 use native.Mathlib.Decide.{ℕ-discrete}
 use native.Mathlib.Omega.{arith}
-use borrow.Author.Tests.{leb-true}
-use lib.Dec.{leb}
+use borrow.Author.Tests.{leb-true, eqb-false, not-true}
+use lib.Dec.{leb, eqb}
 use Rattle.word.specs.Reply.{Test, _when_, answer, refusal, replied, firstOf}
 use Rattle.word.proofs.BoolLaws.{and-left, and-right}
 
@@ -86,3 +86,26 @@ replied-not-zero (suc n) a k h z = let y : suc n ≡ k = replied-number (suc n) 
 pub replied-alike : {A : Type 0} {B : Type 0} (n : ℕ) (a : A) (b : B) (k : ℕ) → replied n a ≡ refusal k → replied n b ≡ refusal k
 replied-alike zero a b k h = let z : _≡_ {A = ℕ} 0 1 = cc in let w : ⊥ = omega arith in absurd w
 replied-alike (suc n) a b k h = cc
+
+-- ---- a number that does not apply
+
+-- no test of the list with the number n applies
+abbrev pub without : ℕ → List Test → Bool
+without n [] = true
+without n ((k when b) ∷ ts) = not (eqb k n && b) && without n ts
+
+without-next : (n k : ℕ) (b : Bool) (ts : List Test) → (not (eqb k n && b) && without n ts) ≡ true → cond b k (firstOf ts) ≡ n
+    → (firstOf ts ≡ n → n ≡ 0) → n ≡ 0
+without-next n k true ts d h f =
+    absurd (eqb-false k n (sym (and-true (eqb k n)) ∙ not-true (eqb k n && true) (and-left (not (eqb k n && true)) (without n ts) d)) h)
+without-next n k false ts d h f = f h
+
+-- .. so n isn't the first that applies
+pub first-of-without : (n : ℕ) (ts : List Test) → without n ts ≡ true → firstOf ts ≡ n → n ≡ 0
+first-of-without n [] d h = sym h
+first-of-without n ((k when b) ∷ ts) d h =
+    without-next n k b ts d h (first-of-without n ts (and-right (not (eqb k n && b)) (without n ts) d))
+
+-- .. and the reply is not its refusal
+pub never : {A : Type 0} (n : ℕ) (ts : List Test) (a : A) → (n ≡ 0 → ⊥) → without n ts ≡ true → replied (firstOf ts) a ≡ refusal n → ⊥
+never n ts a z d h = z (first-of-without n ts d (replied-number (firstOf ts) a n h))

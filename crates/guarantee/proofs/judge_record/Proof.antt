@@ -29,15 +29,15 @@ same-length-3 c = search needs
 
 returns : tie.Need-returns
 returns c =
-    (got-refused _ (c .before .before .before .before .before .before .before .before .before .before .before .before .before .before .before .before .before .before .args .columns .now) (c .before .before .before .before .before .before .before .before .before .before .before .before .before .before .before .before .before .before .args .words .now) (c .before .before .before .before .before .before .before .before .before .before .before .before .before .before .before .before .before .before .args .file .now) _ _ _ _ (c .before .before .before .before .before .before .before .before .before .make-plan .ensures) _ _ _ (c .before .enum-told .given .1) (c .writing-number .ensures), c .before .before .before .before .before .before .before .before .before .make-plan .ensures .1)
+    (got-refused _ (c .before .before .before .before .before .before .before .before .before .before .before .before .before .before .before .before .before .before .args .working .now) (c .before .before .before .before .before .before .before .before .before .before .before .before .before .before .before .before .before .before .args .words .now) (c .before .before .before .before .before .before .before .before .before .before .before .before .before .before .before .before .before .before .args .file .now) _ _ _ _ (c .before .before .before .before .before .before .before .before .before .make-plan .ensures) _ _ _ (c .before .enum-told .given .1) (c .writing-number .ensures), c .before .before .before .before .before .before .before .before .before .make-plan .ensures .1)
 
 slice-reshare-prefix-judge-signed : tie.Need-slice-reshare-prefix-judge-signed
 slice-reshare-prefix-judge-signed c =
-    made-file _ (c .before .before .before .before .before .before .before .before .before .before .before .before .before .before .before .before .before .before .args .columns .now) (c .before .before .before .before .before .before .before .before .before .before .before .before .before .before .before .before .before .before .args .words .now) (c .before .before .before .before .before .before .before .before .before .before .before .before .before .before .before .before .before .before .args .file .now) _ _ _ _ (c .before .before .before .before .before .before .before .before .before .make-plan .ensures) _ (c .before .made .given .1) .0
+    made-file _ (c .before .before .before .before .before .before .before .before .before .before .before .before .before .before .before .before .before .before .args .working .now) (c .before .before .before .before .before .before .before .before .before .before .before .before .before .before .before .before .before .before .args .words .now) (c .before .before .before .before .before .before .before .before .before .before .before .before .before .before .before .before .before .before .args .file .now) _ _ _ _ (c .before .before .before .before .before .before .before .before .before .make-plan .ensures) _ (c .before .made .given .1) .0
 
 slice-aggregate-judge-signed : tie.Need-slice-aggregate-judge-signed
 slice-aggregate-judge-signed c =
-    sym (length-take-le _ _ (made-file _ (c .before .before .before .before .before .before .before .before .before .before .before .before .before .before .before .before .before .before .before .args .columns .now) (c .before .before .before .before .before .before .before .before .before .before .before .before .before .before .before .before .before .before .before .args .words .now) (c .before .before .before .before .before .before .before .before .before .before .before .before .before .before .before .before .before .before .before .args .file .now) _ _ _ _ (c .before .before .before .before .before .before .before .before .before .before .make-plan .ensures) _ (c .before .before .made .given .1) .0))
+    sym (length-take-le _ _ (made-file _ (c .before .before .before .before .before .before .before .before .before .before .before .before .before .before .before .before .before .before .before .args .working .now) (c .before .before .before .before .before .before .before .before .before .before .before .before .before .before .before .before .before .before .before .args .words .now) (c .before .before .before .before .before .before .before .before .before .before .before .before .before .before .before .before .before .before .before .args .file .now) _ _ _ _ (c .before .before .before .before .before .before .before .before .before .before .make-plan .ensures) _ (c .before .before .made .given .1) .0))
 
 judge-signed-requires : tie.Need-judge-signed-requires
 judge-signed-requires c κs = search needs
@@ -53,7 +53,7 @@ same-length-6 c = search needs
 
 returns-2 : tie.Need-returns-2
 returns-2 c =
-    (got-judged _ (c .before .before .before .before .before .before .before .before .before .before .before .before .before .before .before .before .before .before .before .before .args .columns .now) (c .before .before .before .before .before .before .before .before .before .before .before .before .before .before .before .before .before .before .before .before .args .words .now) (c .before .before .before .before .before .before .before .before .before .before .before .before .before .before .before .before .before .before .before .before .args .file .now) _ _ _ _ (c .before .before .before .before .before .before .before .before .before .before .before .make-plan .ensures) _ (c .before .before .before .made .given .1) _ _ (c .judge-signed .ensures), c .before .before .before .before .before .before .before .before .before .before .before .make-plan .ensures .1)
+    (got-judged _ (c .before .before .before .before .before .before .before .before .before .before .before .before .before .before .before .before .before .before .before .before .args .working .now) (c .before .before .before .before .before .before .before .before .before .before .before .before .before .before .before .before .before .before .before .before .args .words .now) (c .before .before .before .before .before .before .before .before .before .before .before .before .before .before .before .before .before .before .before .before .args .file .now) _ _ _ _ (c .before .before .before .before .before .before .before .before .before .before .before .make-plan .ensures) _ (c .before .before .before .made .given .1) _ _ (c .judge-signed .ensures), c .before .before .before .before .before .before .before .before .before .before .before .make-plan .ensures .1)
 
 pub judge-record-spec : {M : Type 1} → statement M
 judge-record-spec =

@@ -29,17 +29,17 @@ same-length-3 c = search needs
 
 returns : tie.Need-returns
 returns c =
-    both _ _ _ (c .before .before .before .before .before .before .before .before .before .before .before .before .before .before .before .before .before .before .before .args .columns .now) (c .before .before .before .before .before .before .before .before .before .before .before .before .before .before .before .before .before .before .before .args .words .now) (c .before .before .before .before .before .before .before .before .before .before .before .before .before .before .before .before .before .before .before .args .file .now) _ _ _ _ _
-    (got-refused _ (c .before .before .before .before .before .before .before .before .before .before .before .before .before .before .before .before .before .before .before .args .columns .now) (c .before .before .before .before .before .before .before .before .before .before .before .before .before .before .before .before .before .before .before .args .words .now) (c .before .before .before .before .before .before .before .before .before .before .before .before .before .before .before .before .before .before .before .args .file .now) _ _ _ _ (c .before .before .before .before .before .before .before .before .before .make-plan .ensures) _ _ _ (c .before .enum-told .given .1) (c .writing-number .ensures))
-    (got-refused _ (c .before .before .before .before .before .before .before .before .before .before .before .before .before .before .before .before .before .before .before .args .columns .now) (c .before .before .before .before .before .before .before .before .before .before .before .before .before .before .before .before .before .before .before .args .words .now) (c .before .before .before .before .before .before .before .before .before .before .before .before .before .before .before .before .before .before .before .args .file .now) _ _ _ _ (c .before .before .before .before .before .before .before .before .before .make-plan .ensures) _ _ _ (c .before .enum-told .given .1) (c .writing-number .ensures)) (c .before .before .before .before .before .before .before .before .before .make-plan .ensures .1)
+    both _ _ _ (c .before .before .before .before .before .before .before .before .before .before .before .before .before .before .before .before .before .before .before .args .working .now) (c .before .before .before .before .before .before .before .before .before .before .before .before .before .before .before .before .before .before .before .args .words .now) (c .before .before .before .before .before .before .before .before .before .before .before .before .before .before .before .before .before .before .before .args .file .now) _ _ _ _ _
+    (got-refused _ (c .before .before .before .before .before .before .before .before .before .before .before .before .before .before .before .before .before .before .before .args .working .now) (c .before .before .before .before .before .before .before .before .before .before .before .before .before .before .before .before .before .before .before .args .words .now) (c .before .before .before .before .before .before .before .before .before .before .before .before .before .before .before .before .before .before .before .args .file .now) _ _ _ _ (c .before .before .before .before .before .before .before .before .before .make-plan .ensures) _ _ _ (c .before .enum-told .given .1) (c .writing-number .ensures))
+    (got-refused _ (c .before .before .before .before .before .before .before .before .before .before .before .before .before .before .before .before .before .before .before .args .working .now) (c .before .before .before .before .before .before .before .before .before .before .before .before .before .before .before .before .before .before .before .args .words .now) (c .before .before .before .before .before .before .before .before .before .before .before .before .before .before .before .before .before .before .before .args .file .now) _ _ _ _ (c .before .before .before .before .before .before .before .before .before .make-plan .ensures) _ _ _ (c .before .enum-told .given .1) (c .writing-number .ensures)) (c .before .before .before .before .before .before .before .before .before .make-plan .ensures .1)
 
 slice-reshare-prefix-plan : tie.Need-slice-reshare-prefix-plan
 slice-reshare-prefix-plan c =
-    made-file _ (c .before .before .before .before .before .before .before .before .before .before .before .before .before .before .before .before .before .before .before .args .columns .now) (c .before .before .before .before .before .before .before .before .before .before .before .before .before .before .before .before .before .before .before .args .words .now) (c .before .before .before .before .before .before .before .before .before .before .before .before .before .before .before .before .before .before .before .args .file .now) _ _ _ _ (c .before .before .before .before .before .before .before .before .before .make-plan .ensures) _ (c .before .made .given .1) .0
+    made-file _ (c .before .before .before .before .before .before .before .before .before .before .before .before .before .before .before .before .before .before .before .args .working .now) (c .before .before .before .before .before .before .before .before .before .before .before .before .before .before .before .before .before .before .before .args .words .now) (c .before .before .before .before .before .before .before .before .before .before .before .before .before .before .before .before .before .before .before .args .file .now) _ _ _ _ (c .before .before .before .before .before .before .before .before .before .make-plan .ensures) _ (c .before .made .given .1) .0
 
 slice-aggregate-plan : tie.Need-slice-aggregate-plan
 slice-aggregate-plan c =
-    sym (length-take-le _ _ (made-file _ (c .before .before .before .before .before .before .before .before .before .before .before .before .before .before .before .before .before .before .before .before .args .columns .now) (c .before .before .before .before .before .before .before .before .before .before .before .before .before .before .before .before .before .before .before .before .args .words .now) (c .before .before .before .before .before .before .before .before .before .before .before .before .before .before .before .before .before .before .before .before .args .file .now) _ _ _ _ (c .before .before .before .before .before .before .before .before .before .before .make-plan .ensures) _ (c .before .before .made .given .1) .0))
+    sym (length-take-le _ _ (made-file _ (c .before .before .before .before .before .before .before .before .before .before .before .before .before .before .before .before .before .before .before .before .args .working .now) (c .before .before .before .before .before .before .before .before .before .before .before .before .before .before .before .before .before .before .before .before .args .words .now) (c .before .before .before .before .before .before .before .before .before .before .before .before .before .before .before .before .before .before .before .before .args .file .now) _ _ _ _ (c .before .before .before .before .before .before .before .before .before .before .make-plan .ensures) _ (c .before .before .made .given .1) .0))
 
 judge-signed-requires : tie.Need-judge-signed-requires
 judge-signed-requires c κs = search needs
@@ -58,9 +58,9 @@ same-length-6 c = search needs
 
 returns-2 : tie.Need-returns-2
 returns-2 c =
-    both _ _ _ (c .before .before .before .before .before .before .before .before .before .before .before .before .before .before .before .before .before .before .before .before .before .before .args .columns .now) (c .before .before .before .before .before .before .before .before .before .before .before .before .before .before .before .before .before .before .before .before .before .before .args .words .now) (c .before .before .before .before .before .before .before .before .before .before .before .before .before .before .before .before .before .before .before .before .before .before .args .file .now) _ _ _ _ _
-    (got-judged _ (c .before .before .before .before .before .before .before .before .before .before .before .before .before .before .before .before .before .before .before .before .before .before .args .columns .now) (c .before .before .before .before .before .before .before .before .before .before .before .before .before .before .before .before .before .before .before .before .before .before .args .words .now) (c .before .before .before .before .before .before .before .before .before .before .before .before .before .before .before .before .before .before .before .before .before .before .args .file .now) _ _ _ _ (c .before .before .before .before .before .before .before .before .before .before .before .before .make-plan .ensures) _ (c .before .before .before .before .made .given .1) _ _ (c .before .judge-signed .ensures))
-    (got-judged _ (c .before .before .before .before .before .before .before .before .before .before .before .before .before .before .before .before .before .before .before .before .before .before .args .columns .now) (c .before .before .before .before .before .before .before .before .before .before .before .before .before .before .before .before .before .before .before .before .before .before .args .words .now) (c .before .before .before .before .before .before .before .before .before .before .before .before .before .before .before .before .before .before .before .before .before .before .args .file .now) _ _ _ _ (c .before .before .before .before .before .before .before .before .before .before .before .before .make-plan .ensures) _ (c .before .before .before .before .made .given .1) _ _ (c .judge-signed2 .ensures)) (c .before .before .before .before .before .before .before .before .before .before .before .before .make-plan .ensures .1)
+    both _ _ _ (c .before .before .before .before .before .before .before .before .before .before .before .before .before .before .before .before .before .before .before .before .before .before .args .working .now) (c .before .before .before .before .before .before .before .before .before .before .before .before .before .before .before .before .before .before .before .before .before .before .args .words .now) (c .before .before .before .before .before .before .before .before .before .before .before .before .before .before .before .before .before .before .before .before .before .before .args .file .now) _ _ _ _ _
+    (got-judged _ (c .before .before .before .before .before .before .before .before .before .before .before .before .before .before .before .before .before .before .before .before .before .before .args .working .now) (c .before .before .before .before .before .before .before .before .before .before .before .before .before .before .before .before .before .before .before .before .before .before .args .words .now) (c .before .before .before .before .before .before .before .before .before .before .before .before .before .before .before .before .before .before .before .before .before .before .args .file .now) _ _ _ _ (c .before .before .before .before .before .before .before .before .before .before .before .before .make-plan .ensures) _ (c .before .before .before .before .made .given .1) _ _ (c .before .judge-signed .ensures))
+    (got-judged _ (c .before .before .before .before .before .before .before .before .before .before .before .before .before .before .before .before .before .before .before .before .before .before .args .working .now) (c .before .before .before .before .before .before .before .before .before .before .before .before .before .before .before .before .before .before .before .before .before .before .args .words .now) (c .before .before .before .before .before .before .before .before .before .before .before .before .before .before .before .before .before .before .before .before .before .before .args .file .now) _ _ _ _ (c .before .before .before .before .before .before .before .before .before .before .before .before .make-plan .ensures) _ (c .before .before .before .before .made .given .1) _ _ (c .judge-signed2 .ensures)) (c .before .before .before .before .before .before .before .before .before .before .before .before .make-plan .ensures .1)
 
 pub judge-records-spec : {M : Type 1} → statement M
 judge-records-spec =

@@ -26,15 +26,15 @@ same-length-2 c = search needs
 
 returns : tie.Need-returns
 returns c =
-    made-unplanned _ (c .before .before .before .before .before .before .before .before .before .before .before .before .before .before .args .columns .now) (c .before .before .before .before .before .before .before .before .before .before .before .before .before .before .args .words .now) _ _ _ (c .before .before .before .before .before .before .before .plan .ensures) _ _ _ (c .before .enum-told .given .1) (c .number-of .ensures)
+    made-unplanned _ (c .before .before .before .before .before .before .before .before .before .before .before .before .before .before .args .working .now) (c .before .before .before .before .before .before .before .before .before .before .before .before .before .before .args .words .now) _ _ _ (c .before .before .before .before .before .before .before .plan .ensures) _ _ _ (c .before .enum-told .given .1) (c .number-of .ensures)
 
 slice-reshare-prefix-write-plan : tie.Need-slice-reshare-prefix-write-plan
 slice-reshare-prefix-write-plan c =
-    planned-words _ (c .before .before .before .before .before .before .before .before .before .before .before .before .before .before .args .columns .now) (c .before .before .before .before .before .before .before .before .before .before .before .before .before .before .args .words .now) _ _ _ (c .before .before .before .before .before .before .before .plan .ensures) _ _ _ (c .before .planned .given .1) .0
+    planned-words _ (c .before .before .before .before .before .before .before .before .before .before .before .before .before .before .args .working .now) (c .before .before .before .before .before .before .before .before .before .before .before .before .before .before .args .words .now) _ _ _ (c .before .before .before .before .before .before .before .plan .ensures) _ _ _ (c .before .planned .given .1) .0
 
 slice-aggregate-write-plan : tie.Need-slice-aggregate-write-plan
 slice-aggregate-write-plan c =
-    sym (length-take-le _ _ (planned-words _ (c .before .before .before .before .before .before .before .before .before .before .before .before .before .before .before .args .columns .now) (c .before .before .before .before .before .before .before .before .before .before .before .before .before .before .before .args .words .now) _ _ _ (c .before .before .before .before .before .before .before .before .plan .ensures) _ _ _ (c .before .before .planned .given .1) .0))
+    sym (length-take-le _ _ (planned-words _ (c .before .before .before .before .before .before .before .before .before .before .before .before .before .before .before .args .working .now) (c .before .before .before .before .before .before .before .before .before .before .before .before .before .before .before .args .words .now) _ _ _ (c .before .before .before .before .before .before .before .before .plan .ensures) _ _ _ (c .before .before .planned .given .1) .0))
 
 write-plan-requires : tie.Need-write-plan-requires
 write-plan-requires c κs = search needs
@@ -50,7 +50,7 @@ same-length-5 c = search needs
 
 returns-2 : tie.Need-returns-2
 returns-2 c =
-    made-planned _ (c .before .before .before .before .before .before .before .before .before .before .before .before .before .before .before .before .before .before .before .args .columns .now) (c .before .before .before .before .before .before .before .before .before .before .before .before .before .before .before .before .before .before .before .args .words .now) _ _ _ (c .before .before .before .before .before .before .before .before .before .before .before .before .plan .ensures) _ _ _ (c .before .before .before .before .before .before .planned .given .1) _ _ _ (c .before .before .write-plan .ensures .0) (c .before .before .write-plan .ensures .1)
+    made-planned _ (c .before .before .before .before .before .before .before .before .before .before .before .before .before .before .before .before .before .before .before .args .working .now) (c .before .before .before .before .before .before .before .before .before .before .before .before .before .before .before .before .before .before .before .args .words .now) _ _ _ (c .before .before .before .before .before .before .before .before .before .before .before .before .plan .ensures) _ _ _ (c .before .before .before .before .before .before .planned .given .1) _ _ _ (c .before .before .write-plan .ensures .0) (c .before .before .write-plan .ensures .1)
 
 pub make-plan-spec : {M : Type 1} → statement M
 make-plan-spec =

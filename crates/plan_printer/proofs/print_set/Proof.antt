@@ -7,10 +7,10 @@ use Rattle.plan_printer.proofs.print_set.Tie as tie
 returns : tie.Need-returns
 returns c =
     let words = c .before .before .before .before .before .before in
-    let columns = words .before in
+    let working = words .before in
     let printed = c .before .before .print-plan .ensures in
-    lent-places (columns .before .before .args .set .now) (columns .no-columns .result) (words .no-words .result) _ _ _
-    (columns .no-columns .ensures) (words .no-words .ensures) (printed .0) (printed .1 .0)
+    lent-places (working .before .before .args .set .now) (working .no-places .result) (words .no-words .result) _ _ _
+    (working .no-places .ensures) (words .no-words .ensures) (printed .0) (printed .1 .0)
 
 pub print-set-spec : {M : Type 1} → statement M
 print-set-spec =
