@@ -36,7 +36,7 @@ use Rattle.signatures.specs.Columns.{sliceColumns, columnsBelow}
 use Rattle.signatures.specs.Sets.{columnsOf, unknownsOf, zeroSignature}
 use Rattle.columns.specs.Listing.{listTests, listReply}
 use Rattle.expectation.specs.Expecting.{wordTests, expectTests, expectReply}
-use Rattle.planner.specs.Planning.{wordsOf, expectedOf, wordsReply, PlanParts, partsOf, earlierTests, planTests, planReply}
+use Rattle.planner.specs.Planning.{wordsOf, expectedOf, wordsReply, PlanParts, partsOf, workTests, earlierTests, planTests, planReply}
 use Rattle.reduced_list.specs.WordCount.{badWordCount}
 use Rattle.plan_file.specs.Checking.{badPlanWidth, badPlanCount, badPlanEnd, planFileTests}
 use Rattle.plan_writer.specs.Writing.{planBytes}
@@ -95,19 +95,19 @@ worked =
     ∷ record { given = next (clockReply (holding 0 4) (1 ∷ 4 ∷ []) (0 ∷ [])); printed = 3 ∷ [] }
     ∷ record { given = next (clockReply (holding 0 7) (1 ∷ 4 ∷ []) (0 ∷ [])); printed = 5 ∷ [] }
     ∷ record { given = wrote (listReply (sample 0) 1) (columnsOf (sample 0)); printed = 3 ∷ [] }
-    ∷ record { given = wrote (planReply (sample 0) 1 2) (wordsOf (sample 0)); printed = 3 ∷ 4 ∷ [] }
-    ∷ record { given = expectedIn (planReply (sample 0) 1 2); printed = 0 ∷ [] }
+    ∷ record { given = wrote (planReply (sample 0) 64 2) (wordsOf (sample 0)); printed = 3 ∷ 4 ∷ [] }
+    ∷ record { given = expectedIn (planReply (sample 0) 64 2); printed = 0 ∷ [] }
     ∷ record { given = indexIn (sampleJudged 0 3); printed = [] }
     ∷ record { given = indexIn (sampleJudged 0 0); printed = [] }
     ∷ record { given = indexIn (sampleJudged 0 1); printed = 0 ∷ [] }
     ∷ record { given = indexIn (sampleJudged 0 7); printed = 1 ∷ [] }
     ∷ record { given = next (clockReply (holding 5 4) (1 ∷ 4 ∷ []) (0 ∷ [])); printed = 6 ∷ [] }
-    ∷ record { given = wrote (planReply (sample 5) 1 2) (wordsOf (sample 5)); printed = 3 ∷ 4 ∷ [] }
-    ∷ record { given = expectedIn (planReply (sample 5) 1 2); printed = 2 ∷ [] }
+    ∷ record { given = wrote (planReply (sample 5) 64 2) (wordsOf (sample 5)); printed = 3 ∷ 4 ∷ [] }
+    ∷ record { given = expectedIn (planReply (sample 5) 64 2); printed = 2 ∷ [] }
     ∷ record { given = indexIn (sampleJudged 5 7); printed = [] }
     ∷ record { given = indexIn (sampleJudged 5 4); printed = [] }
     ∷ record { given = indexIn (sampleJudged 5 3); printed = 1 ∷ [] }
-    ∷ record { given = wrote (wordsReply (sample 0) 1 2) (wordsOf (sample 0)); printed = 3 ∷ 4 ∷ [] }
+    ∷ record { given = wrote (wordsReply (sample 0) 64 2) (wordsOf (sample 0)); printed = 3 ∷ 4 ∷ [] }
     ∷ record { given = bitsIn (expectReply (sample 0) (3 ∷ 4 ∷ [])); printed = 0 ∷ [] }
     ∷ record { given = bitsIn (expectReply (sample 0) (1 ∷ 2 ∷ 4 ∷ [])); printed = 3 ∷ [] }
     ∷ record { given = bitsIn (expectReply (sample 0) []); printed = 20 ∷ 20 ∷ [] }
@@ -117,5 +117,5 @@ worked =
     ∷ []
 
 pub worked-agrees : agrees worked ≡ true
-unfolding worked sample eliminationReply eliminationTests clockReply clockTests listReply listTests setTests expectReply expectTests wordTests wordsReply planReply planTests earlierTests judgeReply judgeTests planFileTests planFile planBytes badWidth badTaps badChains badSpread badSlices badPlanWidth badPlanCount badPlanEnd badWordCount spareSet beyond anyBelow anyOf allOf front number numberAt wordsAt bytesOf wordBytes joined parities parity ones onesIn highestBit leadingZeros rank rankAfter grown xFree onlyEmpty reducedList wordsBelow independent made xorRows isReduced ascending topsClear advanced driven clocked valueRow markRow runs column sliceColumns columnsBelow columnsOf unknownsOf total zeroSignature wordsOf expectedOf verdictFrom
+unfolding worked sample eliminationReply eliminationTests clockReply clockTests listReply listTests setTests expectReply expectTests wordTests wordsReply planReply planTests earlierTests workTests judgeReply judgeTests planFileTests planFile planBytes badWidth badTaps badChains badSpread badSlices badPlanWidth badPlanCount badPlanEnd badWordCount spareSet beyond anyBelow anyOf allOf front number numberAt wordsAt bytesOf wordBytes joined parities parity ones onesIn highestBit leadingZeros rank rankAfter grown xFree onlyEmpty reducedList wordsBelow independent made xorRows isReduced ascending topsClear advanced driven clocked valueRow markRow runs column sliceColumns columnsBelow columnsOf unknownsOf total zeroSignature wordsOf expectedOf verdictFrom
 worked-agrees = refl
