@@ -231,6 +231,26 @@ fn ranks_that_rise_slowly() {
     }
 }
 
+#[test]
+fn chains_that_share_their_words() {
+    // few different columns though many cells are unknown, in a space that a clock leaves: a column clocked once too often or too seldom
+    // gives other words
+    let mut both = Both::new();
+    for seed in 307_000..307_200 {
+        let mut r = Random::new(seed);
+        let (m, n, s) = (48 + r.below(17), 64 + r.below(193), 1 + r.below(12));
+        let counts = r.pick(&[&MARKS[..], &[64], &[63, 2], &[31, 33], &[0, 1, 2]]);
+        let cells = grouped(&mut r, n, s, counts);
+        let mut content = content_with_marks(&mut r, (m, n, s), m, &cells, &[]);
+        let words: Vec<u64> = (0..1 + r.below(4)).map(|_| r.some_within(m)).collect();
+        for w in &mut content.spread {
+            *w = r.pick(&words);
+        }
+        both.at = format!("seed {seed}, m {m}, n {n}, s {s}, {} words", words.len());
+        assert_ne!(words_of(&mut both, &content), 0, "{}", both.at);
+    }
+}
+
 /// The words of a set, by planning and by eliminating all of its columns, which are listed first: calls of the library alone.
 fn by_both_ways(set: &[u8], unknowns: usize) -> [Result<Vec<u64>, u64>; 2] {
     let (mut working, mut planned) = ([u64::MAX; WORKING], [0; 64]);
