@@ -288,7 +288,7 @@ fn the_librarys_words_are_those_of_all_its_columns() {
     for seed in 306_000..306_400 {
         let mut r = Random::new(seed);
         let (m, n, s) = (40 + r.below(25), 60 + r.below(197), 100 + r.below(413));
-        let rank = r.pick(&[1, 10, 30, m - 1]);
+        let rank = r.pick(&[1, 10, 30, m - 4, m - 3, m - 2, m - 1]);
         let counts = r.pick(&[
             &MARKS[..],
             &[64],
