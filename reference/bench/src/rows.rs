@@ -450,7 +450,7 @@ pub fn elimination(count: usize, rank: usize, inputs: usize) -> Row {
 }
 
 /// The unknown cells and ranks of planning and of the words.
-const PLANNINGS: [(usize, usize); 21] = [
+const PLANNINGS: [(usize, usize); 22] = [
     (63, 63),
     (500, 10),
     (500, 40),
@@ -467,6 +467,8 @@ const PLANNINGS: [(usize, usize); 21] = [
     (65_536, 10),
     (65_536, 40),
     (65_536, 63),
+    // the longest way: one group of 64 marks to a portion, and one word left
+    (80_000, 63),
     (131_072, 1),
     (131_072, 10),
     (131_072, 40),
