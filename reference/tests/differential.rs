@@ -518,7 +518,7 @@ fn files_read_back_to_what_was_written() {
 #[test]
 fn a_million_calls() {
     let mut both = Both::new();
-    for seed in 1_000_000..1_010_500 {
+    for seed in 1_000_000..1_008_500 {
         draw::calls(&mut both, seed);
     }
     let compared = both.compared();

@@ -129,8 +129,8 @@ fn grouped(r: &mut Random, n: usize, s: usize, counts: &[usize]) -> Vec<(usize, 
     cells
 }
 
-/// A content with such cells, whose columns lie in `rank` dimensions; and the same with one more unknown cell in each of the slices
-/// `alone`, each in a chain of its own, whose column may lie anywhere.
+/// A content with such cells, whose columns lie in `rank` dimensions; and the same with one more unknown cell for each of the slices
+/// `alone`, each in a chain of its own whose spread word lies outside.
 fn with_cells_alone(
     r: &mut Random,
     (m, n, s): (usize, usize, usize),
