@@ -128,8 +128,7 @@ module _ (l part vs : List ℕ) (place start : ℕ) (inside : place ≤ length l
 
 -- ---- the loop over the slices
 
--- what the loop knows: the columns from those that are left on stand from `place` on, the words are ready for those that are left, and
--- something is done, or there is still all the room
+-- what the loop knows: the columns from those that are left on stand from `at` on, and the words are ready for those that are left
 pub record Filling (k : Circuit) (s : ℕ) (u : Response) (ps l₀ : List ℕ) (t₀ c₀ : ℕ) (ws l : List ℕ) (at t c : ℕ) : Type 0 where
   pub ready : Ready k s t ps ws
   pub few : c ≤ chains k
@@ -137,8 +136,6 @@ pub record Filling (k : Circuit) (s : ℕ) (u : Response) (ps l₀ : List ℕ) (
   pub long : length l ≡ length l₀
   pub listed : columnsLeft k s u t₀ c₀ ≡ columnsLeft k s u t c ++ drop at l
   pub kept : take at l ≡ take at l₀
-  pub less : 257 * t + c ≤ 257 * t₀ + c₀
-  pub some : 64 ≤ length l₀ → (64 ≤ at) ⊎ ((c ≡ 0) ⊎ (257 * t + c < 257 * t₀ + c₀))
 
 module _ (k : Circuit) (s : ℕ) (u : Response) (ps l₀ : List ℕ) (t₀ c₀ : ℕ) where
   pub filling-starts : (ws : List ℕ) → Ready k s t₀ ps ws → c₀ ≤ chains k → Filling k s u ps l₀ t₀ c₀ ws l₀ (length l₀) t₀ c₀
@@ -149,8 +146,6 @@ module _ (k : Circuit) (s : ℕ) (u : Response) (ps l₀ : List ℕ) (t₀ c₀ 
     long = refl;
     listed = sym (ap (λ (x : List ℕ). columnsLeft k s u t₀ c₀ ++ x) (drop-length l₀) ∙ append-nil (columnsLeft k s u t₀ c₀));
     kept = refl;
-    less = omega arith;
-    some = inl;
   }
 
   -- a row is listed as far as there is room, and what was listed is made the columns
@@ -191,21 +186,6 @@ module _ (k : Circuit) (s : ℕ) (u : Response) (ps l₀ : List ℕ) (t₀ c₀ 
         split : markedWords (take c ws) (cell row) c ≡ markedWords (take c ws) (cell row) (r .chains) ++ drop (r .place) part
         split = ap (markedWords (take c ws) (cell row)) (sym words-long) ∙ fit .listed
 
-    -- with 64 places something is done, unless nothing was left of the row
-    pub row-some : 64 ≤ length l₀ → (r .chains ≡ 0) ⊎ (257 * suc t + r .chains < 257 * t₀ + c₀)
-    row-some room =
-        dite (ℕ-discrete (r .chains) 0) (λ (z : r .chains ≡ 0). inl z)
-        (λ (n : r .chains ≡ 0 → ⊥).
-        inr
-        (⊎-elim
-        (λ (a : 64 ≤ place).
-        let fits : 64 ≤ length (take place l) = omega (arith, length-take-le place l inside) in
-        let there : 0 < length (take c ws) = omega (arith, fit .chains, n) in
-        omega (arith, fit .some fits there, words-long, f .less))
-        (λ (a : (c ≡ 0) ⊎ (257 * suc t + c < 257 * t₀ + c₀)).
-        ⊎-elim (λ (z : c ≡ 0). let no : ⊥ = n (omega (arith, fewer, z)) in absurd no)
-        (λ (z : 257 * suc t + c < 257 * t₀ + c₀). omega (arith, fewer, z)) a) (f .some room)))
-
     pub filling-row : Filling k s u ps l₀ t₀ c₀ ws l₂ (r .place) (suc t) (r .chains)
     filling-row = record {
       ready = f .ready;
@@ -220,8 +200,6 @@ module _ (k : Circuit) (s : ℕ) (u : Response) (ps l₀ : List ℕ) (t₀ c₀ 
       kept =
           changed-kept l part vs place (r .place) inside (fit .long) early (fit .kept) l₂ e₂
               ∙ sym (take-take (r .place) place l early) ∙ ap (take (r .place)) (f .kept) ∙ take-take (r .place) place l₀ early;
-      less = omega (arith, fewer, f .less);
-      some = (λ room. inr (row-some room));
     }
       where
         regroup : (a b d e : List ℕ) → a ++ (b ++ d) ++ e ≡ a ++ b ++ (d ++ e)
@@ -243,8 +221,6 @@ module _ (k : Circuit) (s : ℕ) (u : Response) (ps l₀ : List ℕ) (t₀ c₀ 
     long = f .long;
     listed = f .listed ∙ ap (λ (x : List ℕ). x ++ drop place l) (left-none k s u t ∙ sym (left-all k s u t));
     kept = f .kept;
-    less = omega (arith, f .less, f .ready .few);
-    some = (λ room. inr (inr (omega (arith, f .less, f .ready .few))));
   }
     where
       more : suc (s - suc t) ≡ s - t
@@ -279,38 +255,23 @@ module _ (k : Circuit) (s : ℕ) (u : Response) (ps l₀ : List ℕ) (t₀ c₀ 
     clocked : clocks ≡ s - suc (t - 1)
     clocked = omega arith
 
-    turned : Filling k s u ps l₀ t₀ c₀ ws l₂ (r .place) t (r .chains)
-    turned =
+    pub row-turns : Filling k s u ps l₀ t₀ c₀ ws l₂ (r .place) t (r .chains)
+    row-turns =
         subst (λ (x : ℕ). Filling k s u ps l₀ t₀ c₀ ws l₂ (r .place) x (r .chains)) (sym back-up)
         (filling-row ws l part vs l₂ row place (t - 1) c width clocks r (subst (λ (x : ℕ). Filling k s u ps l₀ t₀ c₀ ws l place x c) back-up f) er fit clocked wide stay put many e₂)
 
-    less : 64 ≤ length l₀ → 0 < r .chains → 257 * t + r .chains < 257 * t₀ + c₀
-    less room some =
-        ⊎-elim (λ (z : r .chains ≡ 0). let no : ⊥ = omega arith in absurd no)
-        (λ (z : 257 * suc (t - 1) + r .chains < 257 * t₀ + c₀). omega (arith, z, back-up))
-        (row-some ws l part vs l₂ row place (t - 1) c width clocks r (subst (λ (x : ℕ). Filling k s u ps l₀ t₀ c₀ ws l place x c) back-up f) er fit clocked wide stay put many e₂ room)
-
-    pub row-turns : Filling k s u ps l₀ t₀ c₀ ws l₂ (r .place) t (r .chains) × (64 ≤ length l₀ → 0 < r .chains → 257 * t + r .chains < 257 * t₀ + c₀)
-    row-turns = (turned, less)
-
-  -- ---- the ends
+  -- ---- the end
 
   pub filling-gives : (from : Portion) (ws l : List ℕ) (place t c : ℕ) → from .t ≡ t₀ → from .chains ≡ c₀ → Filling k s u ps l₀ t₀ c₀ ws l place t c
-      → (64 ≤ length l₀ → 0 < t₀ → 257 * t + c < 257 * t₀ + c₀) → PortionOf k s u ps from ws l₀ l (record { t = t; chains = c; place = place })
-  filling-gives from ws l place t c et ec f some = record {
+      → PortionOf k s u ps from ws l₀ l (record { t = t; chains = c; place = place })
+  filling-gives from ws l place t c et ec f = record {
     chains = f .few;
     place = f .place;
     long = f .long;
     listed = ap₂ (columnsLeft k s u) et ec ∙ f .listed;
     kept = f .kept;
     ready = f .ready;
-    some = (λ room there. let less : 257 * t + c < 257 * t₀ + c₀ = some room (omega (arith, et)) in omega (arith, et, ec));
   }
-
-  pub filling-ends : (from : Portion) (ws l : List ℕ) (place t c : ℕ) → from .t ≡ t₀ → from .chains ≡ c₀ → Filling k s u ps l₀ t₀ c₀ ws l place t c → t ≡ 0
-      → PortionOf k s u ps from ws l₀ l (record { t = t; chains = c; place = place })
-  filling-ends from ws l place t c et ec f z =
-      filling-gives from ws l place t c et ec f (λ room there. omega (arith, f .few, f .ready .few))
 
 -- the same number of slices by another name
 pub ready-at : (k : Circuit) (s s′ t : ℕ) (ps ws : List ℕ) → s′ ≡ s → Ready k s t ps ws → Ready k s′ t ps ws
@@ -323,3 +284,43 @@ portion-at k s s′ u ps from ws l₀ l r e p = subst (λ (x : ℕ). PortionOf k
 -- the chains that are left are no more than there are words
 pub chains-same : (k : Circuit) (s t : ℕ) (ps ws : List ℕ) (n c : ℕ) → Ready k s t ps ws → n ≤ chains k → c ≡ min (n + 0) (length ws) → n ≡ c
 chains-same k s t ps ws n c r h e = omega (arith, way-length k (s - t) ps ws (r .way))
+
+-- ---- something is done in every portion
+
+-- with at most 256 words no more cells are left than there were, and with 64 places fewer, but for the start and for a row that is done
+pub Moving : ℕ → ℕ → ℕ → ℕ → ℕ → ℕ → ℕ → Type 0
+Moving n room t₀ c₀ at t c =
+    n ≤ 256 → (257 * t + c ≤ 257 * t₀ + c₀) × (64 ≤ room → (64 ≤ at) ⊎ ((c ≡ 0) ⊎ (257 * t + c < 257 * t₀ + c₀)))
+
+module _ (n room t₀ c₀ : ℕ) where
+  pub moving-starts : Moving n room t₀ c₀ room t₀ c₀
+  unfolding Moving
+  moving-starts h = (omega arith, inl)
+
+  -- the row ws of c cells is listed in the first `at` places of a list
+  module _ (ws l part : List ℕ) (x : Cells) (at t c : ℕ) (r : Fitted) (m : Moving n room t₀ c₀ at t c) (fit : FittedIn ws x l part r) (many : length ws ≡ c)
+      (long : length l ≡ at) where
+    row-moves : n ≤ 256 → 64 ≤ room → (r .chains ≡ 0) ⊎ (257 * t + r .chains < 257 * t₀ + c₀)
+    unfolding Moving
+    row-moves h wide =
+        dite (ℕ-discrete (r .chains) 0) (λ (z : r .chains ≡ 0). inl z)
+        (λ (d : r .chains ≡ 0 → ⊥).
+        let there : 0 < length ws = omega (arith, fit .chains, d) in
+        inr
+        (⊎-elim (λ (a : 64 ≤ at). let fits : 64 ≤ length l = omega arith in omega (arith, fit .some fits there, m h .0))
+        (λ (a : (c ≡ 0) ⊎ (257 * t + c < 257 * t₀ + c₀)).
+        ⊎-elim (λ (z : c ≡ 0). let no : ⊥ = d (omega (arith, fit .chains, z)) in absurd no)
+        (λ (z : 257 * t + c < 257 * t₀ + c₀). omega (arith, fit .chains, z)) a)
+        (m h .1 wide)))
+
+    pub moving-turns : Moving n room t₀ c₀ (r .place) t (r .chains)
+    unfolding Moving
+    moving-turns h = (omega (arith, fit .chains, m h .0), (λ wide. inr (row-moves h wide)))
+
+    pub moving-less : n ≤ 256 → 64 ≤ room → 0 < r .chains → 257 * t + r .chains < 257 * t₀ + c₀
+    moving-less h wide some =
+        ⊎-elim (λ (z : r .chains ≡ 0). let no : ⊥ = omega arith in absurd no) (λ (z : 257 * t + r .chains < 257 * t₀ + c₀). z) (row-moves h wide)
+
+  pub moving-down : (at t c : ℕ) → 0 < t → Moving n room t₀ c₀ at t c → Moving n room t₀ c₀ at (t - 1) n
+  unfolding Moving
+  moving-down at t c h m few = (omega (arith, m few .0), (λ wide. inr (inr (omega (arith, m few .0)))))

@@ -10,7 +10,7 @@
 use mathlib.Core.Path.{_≡_}
 use mathlib.Core.Bool.{false}
 use mathlib.Core.List.{List, [], _++_, map}
-use Prim.Native.Nat.{ℕ, zero, suc, _+_, _-_, _*_, _≤_, _<_, min}
+use Prim.Native.Nat.{ℕ, zero, suc, _-_, _≤_, _<_, min}
 use lib.ListN.{length, take, drop, getD}
 use Rattle.chains.specs.Driven.{badSpread}
 use Rattle.register.specs.Circuit.{Circuit, circuit, chains}
@@ -42,7 +42,7 @@ pub record Ready (k : Circuit) (s t : ℕ) (ps ws : List ℕ) : Type 0 where
   pub way : Way k (s - t) ps ws
 
 -- the columns from those that r leaves on, up to those that `from` had left, stand from r .place on, and nothing else of the list has
--- changed; the words are ready for what is left; with 64 places something is done
+-- changed; the words are ready for what is left
 pub record PortionOf (k : Circuit) (s : ℕ) (u : Response) (ps : List ℕ) (from : Portion) (ws′ l l′ : List ℕ) (r : Portion) : Type 0 where
   pub chains : r .chains ≤ chains k
   pub place : r .place ≤ length l
@@ -50,4 +50,3 @@ pub record PortionOf (k : Circuit) (s : ℕ) (u : Response) (ps : List ℕ) (fro
   pub listed : columnsLeft k s u (from .t) (from .chains) ≡ columnsLeft k s u (r .t) (r .chains) ++ drop (r .place) l′
   pub kept : take (r .place) l′ ≡ take (r .place) l
   pub ready : Ready k s (r .t) ps ws′
-  pub some : 64 ≤ length l → 0 < from .t → 257 * r .t + r .chains < 257 * from .t + from .chains

@@ -2,7 +2,7 @@
 // sees the register's powers and the marked words of a row; it knows no file. Every function is total.
 ghost use mathlib.Core.Path.{_≡_};
 ghost use mathlib.Core.List.{List, map};
-ghost use Prim.Native.Nat.{ℕ, _+_, _-_, _≤_, _<_, min};
+ghost use Prim.Native.Nat.{ℕ, _+_, _-_, _*_, _≤_, _<_, min};
 ghost use lib.ListN.{length, take, drop};
 ghost use Rattle.rows.specs.Lists.{cellsOf};
 ghost use Rattle.register.specs.Circuit.{advanced};
@@ -68,8 +68,8 @@ fn put_later(powers: &[u64], clocks: usize, width: usize, words: &mut [u64])
 
 // Writes the last of the columns that are left over the end of the list, as many as there is room for, and answers with which are left
 // then. The words are those of the chains: with the register's powers the spread words, which stay as they are; without powers the spread
-// words advanced once for each slice after the first t. 64 places always take some column, or the last slice that had none. It meets no number: a width
-// counts as at most 64, the slices as at most 512, and a row past the end has no mark.
+// words advanced once for each slice after the first t. With 64 places, and at most 256 chains, fewer cells are left then. It meets no
+// number: a width counts as at most 64, the slices as at most 512, and a row past the end has no mark.
 pub fn fill_portion(
     source: Source,
     list: &[u8],
@@ -78,7 +78,9 @@ pub fn fill_portion(
     columns: &mut [u64],
     from: Portion,
 ) -> Portion
-    ensures { λ r. ⌜ ((spread : List ℕ) → from .chains ≤ length spread → Ready (wiring source spread) (slicesIn source) (from .t) (now (powers .entry)) (now (words .entry)) → PortionOf (wiring source spread) (slicesIn source) (cellsOf (now (list .entry)) (source .marks)) (now (powers .entry)) from (now (words .exit)) (now (columns .entry)) (now (columns .exit)) r) ⌝ }
+    ensures place { λ r. ⌜ r .place ≤ length (now (columns .entry)) ⌝ }
+    ensures less { λ r. ⌜ (64 ≤ length (now (columns .entry)) → length (now (words .entry)) ≤ 256 → 0 < from .t → 257 * r .t + r .chains < 257 * from .t + from .chains) ⌝ }
+    ensures portion { λ r. ⌜ ((spread : List ℕ) → from .chains ≤ length spread → Ready (wiring source spread) (slicesIn source) (from .t) (now (powers .entry)) (now (words .entry)) → PortionOf (wiring source spread) (slicesIn source) (cellsOf (now (list .entry)) (source .marks)) (now (powers .entry)) from (now (words .exit)) (now (columns .entry)) (now (columns .exit)) r) ⌝ }
 {
     let register = source.register;
     let marks = source.marks;
