@@ -3,6 +3,7 @@
 use super::elimination::{byte_table, put_words, reduce, skip_by_table, unit_words};
 use super::response::*;
 use super::set::Read;
+use super::*;
 
 /// As much of a row as there is room for, over the end of the list: by words of 64 marks, up to the first that doesn't fit. How many
 /// places stand before it, and how many chains are left.
@@ -21,24 +22,29 @@ fn list_fitting(columns: &mut [u64], words: &[u64], row: &[u8]) -> (usize, usize
 
 /// Which columns are left: those of the first t slices, but that in the last of these only the first `chains` chains are left. In a
 /// list with a portion so many places stand before it.
-#[derive(Clone, Copy)]
 struct Portion {
     t: usize,
     chains: usize,
     place: usize,
 }
 
+/// Where the marked cells come from, and the powers of the register, or none.
+#[derive(Clone, Copy)]
+struct Source<'a> {
+    set: &'a [u8],
+    read: Read,
+    powers: &'a [u64],
+}
+
 /// Fills a list from its end. `words` are those of the chains for the slice that comes next; with powers they stay the spread words.
 fn fill_portion(
-    set: &[u8],
-    read: Read,
-    powers: &[u64],
+    source: Source,
     words: &mut [u64],
     columns: &mut [u64],
-    from: Portion,
+    (mut t, mut chains): (usize, usize),
 ) -> Portion {
-    let Portion { mut t, chains, .. } = from;
-    let (mut chains, mut place) = (chains, columns.len());
+    let Source { set, read, powers } = source;
+    let mut place = columns.len();
     while 0 < t {
         let row = mark_row(set, read.n, t - 1);
         let (start, left) = list_fitting(&mut columns[..place], &words[..chains], row);
@@ -47,12 +53,9 @@ fn fill_portion(
             power_words(later, &mut columns[start..place]);
         }
         place = start;
-        if 0 < left {
-            return Portion {
-                t,
-                chains: left,
-                place,
-            };
+        chains = left;
+        if 0 < chains {
+            break;
         }
         if powers.is_empty() {
             advance_words(read, words);
@@ -63,58 +66,69 @@ fn fill_portion(
     Portion { t, chains, place }
 }
 
-/// Whether the table is that of the words: it stays, is made anew where it pays, or is none.
-fn renew_table(
-    table: &mut [u64; 2048],
-    tabled: bool,
-    words: &[u64],
-    before: usize,
+/// How far the work has come: the columns that are left, as after a portion; how many words are left, and about how many columns;
+/// whether the last portion took at most one word away.
+#[derive(Clone, Copy)]
+struct Progress {
+    t: usize,
+    chains: usize,
+    left: usize,
     more: usize,
-) -> bool {
-    let count = words.len();
-    if tabled && count == before {
-        return true;
+    calm: bool,
+}
+
+fn is_table_worth(at: Progress, words: usize) -> bool {
+    2 <= words && at.calm && 256 <= at.more / 64 * words
+}
+
+/// The next portion: its columns through the elimination. With a table of the words, first all portions that leave them as they are.
+fn add_next(
+    source: Source,
+    words: &mut [u64],
+    working: &mut [u64],
+    held: &mut [u64],
+    mut at: Progress,
+) -> Progress {
+    let worth = is_table_worth(at, held.len());
+    let table = worth.then(|| byte_table(held));
+    while 0 < at.t {
+        let portion = fill_portion(source, words, working, (at.t, at.chains));
+        let columns = &working[portion.place..];
+        (at.t, at.chains) = (portion.t, portion.chains);
+        at.more = at.more.saturating_sub(columns.len());
+        at.calm = true;
+        let even = table.as_ref().map_or(0, |t| skip_by_table(t, columns));
+        if even < columns.len() || table.is_none() {
+            at.left = reduce(held, &columns[even..]);
+            at.calm = held.len() - at.left < 2;
+            break;
+        }
     }
-    if count < 2 || count + 1 < before || more / 64 * count < 256 {
-        return false;
-    }
-    *table = byte_table(words);
-    true
+    at
 }
 
 /// How many words are left, at the front of `held`.
-fn reduce_portions(
-    set: &[u8],
-    read: Read,
-    powers: &[u64],
+fn reduce_all(
+    source: Source,
     words: &mut [u64],
     working: &mut [u64],
     held: &mut [u64],
     unknowns: usize,
 ) -> usize {
-    let (mut table, mut tabled) = ([0; 2048], false);
-    let (mut more, mut left) = (unknowns, held.len());
-    let mut part = Portion {
-        t: read.s,
+    let mut at = Progress {
+        t: source.read.s,
         chains: words.len(),
-        place: 0,
+        left: held.len(),
+        more: unknowns,
+        calm: false,
     };
-    while 0 < part.t {
-        if left == 0 {
+    while 0 < at.t {
+        if at.left == 0 {
             return 0;
         }
-        part = fill_portion(set, read, powers, words, working, part);
-        let columns = &working[part.place..];
-        let even = match tabled {
-            true => skip_by_table(&table, columns),
-            false => 0,
-        };
-        let before = left;
-        left = reduce(&mut held[..left], &columns[even..]);
-        more -= columns.len();
-        tabled = renew_table(&mut table, tabled, &held[..left], before, more);
+        at = add_next(source, words, working, &mut held[..at.left], at);
     }
-    left
+    at.left
 }
 
 /// The words of a set that was read: how many they are. Up to 512 columns are made one by one; for more, all the chains' words are
@@ -132,16 +146,12 @@ pub fn fill_words(
     let mut held = unit_words();
     let mut all = *spread;
     let unknowns = count_unknowns(set, read);
-    let few = (unknowns <= 512).then(|| powers(read));
-    let left = reduce_portions(
-        set,
-        read,
-        few.as_ref().map_or(&[], |p| p),
-        &mut all[..read.n],
-        working,
-        &mut held[..read.m as usize],
-        unknowns,
-    );
+    let many = unknowns > 512 || bad_spread(read.m, &spread[..read.n]);
+    let table = (!many).then(|| powers(read));
+    let powers = table.as_ref().map_or(&[][..], |p| p);
+    let source = Source { set, read, powers };
+    let (words_of_chains, held_words) = (&mut all[..read.n], &mut held[..read.m as usize]);
+    let left = reduce_all(source, words_of_chains, working, held_words, unknowns);
     working.fill(0);
     put_words(&held[..left], words)
 }
