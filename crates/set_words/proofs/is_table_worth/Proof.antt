@@ -1,22 +1,23 @@
+-- `is_table_worth` meets its contract.
+use mathlib.Core.Path.{refl}
+use mathlib.Core.Bool.{false}
+use Prim.Native.Nat.{_/_}
+use native.Mathlib.Nat.{mul-le-mul-left}
+use native.Mathlib.Omega.{arith}
+use Rattle.word.proofs.BoolLaws.{true-not-false}
 use borrow.Author.Needs.{needs}
 use Rattle.set_words.proofs.is_table_worth.Statement.{statement}
 use Rattle.set_words.proofs.is_table_worth.Tie as tie
-use Rattle.set_words.proofs.is_table_worth.Reads as reads
-use Rattle.set_words.proofs.is_table_worth.Lts as lts
 
--- src/lib.rt:56:9
 returns : tie.Need-returns
-returns c = search needs
+returns c = λ e. absurd (true-not-false false e refl)
 
--- src/lib.rt:59:9
 returns-2 : tie.Need-returns-2
 returns-2 c = search needs
 
--- src/lib.rt:61:23
 mul-result : tie.Need-mul-result
-mul-result c = search needs
+mul-result c = omega (arith, mul-le-mul-left (c .before .before .before .args .at .more / 64) (c .before .before .if1 .left))
 
--- src/lib.rt:52:1
 returns-3 : tie.Need-returns-3
 returns-3 c = search needs
 
