@@ -4,6 +4,7 @@
 
 use crate::fence::{Fenced, SIDES};
 use crate::library::*;
+use crate::random::Random;
 use crate::second::elimination::eliminate;
 use crate::second::plan::{judge, read_plan_into, write_plan, Judged, Plan};
 use crate::second::planning::{expect, plan, plan_words, Planning};
@@ -86,6 +87,8 @@ impl Lent {
 /// The two implementations, with fenced memory for the library's slices.
 pub struct Both {
     fences: [[Fenced; 4]; 2],
+    /// What is lent to be written holds in the two calls: noise, and other noise.
+    pub before: [Before; 2],
     /// How often each call was compared, by the number it gave; 0 for an answer.
     seen: BTreeMap<(&'static str, u64), u64>,
     /// What the test is at, for the message of a failure.
@@ -127,14 +130,23 @@ fn front<T, E>(reply: &Reply<T>, of: impl FnOnce(&T) -> &[E]) -> &[E] {
     reply.as_ref().map_or(&[], of)
 }
 
-/// Lays the slices against the fences: an input as it is, a list to be written filled.
-fn lay(fences: &mut [Fenced; 4], lend: &[Lend], fill: u8) -> Vec<Lent> {
+/// What a slice of so many bytes that is lent to be written holds before the call.
+pub type Before = fn(usize) -> Vec<u8>;
+
+fn noise(seed: u64, bytes: usize) -> Vec<u8> {
+    let mut r = Random::new(seed);
+    let words = (0..bytes.div_ceil(8)).flat_map(|_| r.word().to_le_bytes());
+    words.take(bytes).collect()
+}
+
+/// Lays the slices against the fences: an input as it is, a list to be written with what it holds before.
+fn lay(fences: &mut [Fenced; 4], lend: &[Lend], held: Before) -> Vec<Lent> {
     let lay_one = |(slice, fence): (&Lend, &mut Fenced)| {
         let (bytes, known, before) = slice.laid();
         let memory = fence.bytes(bytes);
         match before {
             true => memory.copy_from_slice(known),
-            false => memory.fill(fill),
+            false => memory.copy_from_slice(&held(bytes)),
         }
         Lent {
             at: memory.as_mut_ptr(),
@@ -148,6 +160,7 @@ impl Both {
     pub fn new() -> Both {
         Both {
             fences: SIDES.map(|side| [0; 4].map(|_| Fenced::new(side, 4096 * 16))),
+            before: [|bytes| noise(1, bytes), |bytes| noise(2, bytes)],
             seen: BTreeMap::new(),
             at: String::new(),
         }
@@ -160,7 +173,7 @@ impl Both {
     }
 
     /// The library's call on both sides of the fenced memory, held to `want`, to the lists as they must be left, and to the inputs
-    /// as they were. What is not known of a lent list is filled before the call, and must be filled so after it.
+    /// as they were. What is not known of a lent list must hold after the call what it held before.
     fn compare<A: Answer>(
         &mut self,
         call: &'static str,
@@ -168,8 +181,8 @@ impl Both {
         want: A,
         make: impl Fn(&[Lent]) -> A,
     ) {
-        for (fences, fill) in self.fences.iter_mut().zip([0xA7, 0x58]) {
-            let lent = lay(fences, lend, fill);
+        for (fences, held) in self.fences.iter_mut().zip(self.before) {
+            let lent = lay(fences, lend, held);
             let got = make(&lent);
             assert!(
                 got == want,
@@ -180,7 +193,7 @@ impl Both {
                 let (bytes, known, _) = slice.laid();
                 let (front, rest) = fence.bytes(bytes).split_at(known.len());
                 assert!(
-                    front == known && rest.iter().all(|&b| b == fill),
+                    front == known && (rest.is_empty() || *rest == held(bytes)[known.len()..]),
                     "{call}, {}: slice {i} is not left as the second implementation says",
                     self.at
                 );
@@ -369,8 +382,8 @@ impl Both {
         ];
         self.compare(call, &lend, want, |lent| {
             let (set, set_len) = lent[0].bytes();
-            let ((columns, columns_len), (words, words_len)) = (lent[1].list(), lent[2].list());
-            unsafe { make(set, set_len, columns, columns_len, words, words_len) }
+            let ((working, working_len), (words, words_len)) = (lent[1].list(), lent[2].list());
+            unsafe { make(set, set_len, working, working_len, words, words_len) }
         });
     }
 
@@ -378,17 +391,17 @@ impl Both {
     pub fn plan_words(
         &mut self,
         set: &[u8],
-        column_room: usize,
+        working_room: usize,
         word_room: usize,
     ) -> Reply<(u64, Vec<u64>)> {
-        let Planning { reply, columns } = plan_words(set, column_room, word_room);
+        let Planning { reply, working } = plan_words(set, working_room, word_room);
         let want = answer(&reply, |(m, words)| CWorded {
             refusal: 0,
             m: *m,
             q: words.len() as u64,
         });
-        let (rooms, columns) = ([column_room, word_room], columns.unwrap_or_default());
-        let left = [&columns, front(&reply, |(_, words)| words)];
+        let rooms = [working_room, word_room];
+        let left = [&working, front(&reply, |(_, words)| words)];
         self.makes_words("plan_words", set, rooms, left, want, canceller_plan_words);
         reply
     }
@@ -409,10 +422,10 @@ impl Both {
     }
 
     /// Planning, with lists of these many places.
-    pub fn plan(&mut self, set: &[u8], column_room: usize, word_room: usize) -> Reply<Plan> {
-        let Planning { reply, columns } = plan(set, column_room, word_room);
-        let (rooms, columns) = ([column_room, word_room], columns.unwrap_or_default());
-        let left = [&columns, front(&reply, |p| &p.words)];
+    pub fn plan(&mut self, set: &[u8], working_room: usize, word_room: usize) -> Reply<Plan> {
+        let Planning { reply, working } = plan(set, working_room, word_room);
+        let rooms = [working_room, word_room];
+        let left = [&working, front(&reply, |p| &p.words)];
         let want = planned_answer(&reply);
         self.makes_words("plan", set, rooms, left, want, canceller_plan);
         reply

@@ -4,6 +4,7 @@ use crate::both::Both;
 use crate::random::*;
 use crate::second::layout::*;
 use crate::second::plan::{write_plan, Plan};
+use crate::second::planning::WORKING;
 use crate::second::set::Content;
 use crate::second::{number_at, Reply};
 
@@ -41,6 +42,7 @@ pub fn calls(both: &mut Both, seed: u64) {
         bad_content(both, r);
         bad_clock(both, r);
         elimination(both, r);
+        lent_lists(both, r);
         expectation(both, r);
         plan_content(both, r);
         bad_plan(both, r);
@@ -82,12 +84,15 @@ pub fn every_call(both: &mut Both, files: &Files) {
         let listed = both.list_columns(set, room);
         assert_eq!(listed.is_ok(), room >= *unknowns, "{}", both.at);
     }
-    let planned = planning(both, set, *unknowns, 64);
-    planning(both, set, unknowns.saturating_sub(1), 64).ok();
-    let Ok(plan) = planned else {
+    // 14 comes before 17 and 18, and has nothing to do with the unknown cells
+    for room in [0, WORKING - 1] {
+        let short = planning(both, set, room, 0);
+        assert_eq!(short, Err(14), "{}", both.at);
+    }
+    let Ok(plan) = planning(both, set, WORKING, 64) else {
         // 17 comes before 18, and is no number of the expected bits
         for room in [0, 1] {
-            let again = planning(both, set, unknowns + 1, room);
+            let again = planning(both, set, WORKING + room, room);
             assert_eq!(again, Err(17), "{}", both.at);
         }
         assert!(both.expect(set, &[1]).is_ok(), "{}", both.at);
@@ -95,16 +100,16 @@ pub fn every_call(both: &mut Both, files: &Files) {
     };
     let q = plan.words.len();
     for room in [q, q - 1, q + 1] {
-        let again = planning(both, set, unknowns + 1, room);
+        let again = planning(both, set, WORKING + room, room);
         assert_eq!(again.is_ok(), room >= q, "{}", both.at);
     }
     good_plan(both, &plan);
 }
 
 /// Planning, and its two calls in a row, which come to the same.
-pub fn planning(both: &mut Both, set: &[u8], column_room: usize, word_room: usize) -> Reply<Plan> {
-    let plan = both.plan(set, column_room, word_room);
-    let words = both.plan_words(set, column_room, word_room);
+pub fn planning(both: &mut Both, set: &[u8], working_room: usize, word_room: usize) -> Reply<Plan> {
+    let plan = both.plan(set, working_room, word_room);
+    let words = both.plan_words(set, working_room, word_room);
     let in_a_row = words.and_then(|(m, words)| {
         let expected = both.expect(set, &words)?;
         Ok(Plan { m, words, expected })
@@ -140,7 +145,7 @@ pub fn set_calls(both: &mut Both, set: &[u8], record: &[u8], unknowns: usize) {
     both.sign(set, record).ok();
     both.rows(set, 0).ok();
     both.list_columns(set, unknowns).ok();
-    planning(both, set, unknowns, 64).ok();
+    planning(both, set, WORKING, 64).ok();
     for words in [&[1][..], &[], &[2, 1]] {
         both.expect(set, words).ok();
     }
@@ -379,12 +384,23 @@ pub fn elimination(both: &mut Both, r: &mut Random) {
     both.eliminate(width, &columns, room).ok();
 }
 
+/// Planning of a set that may be bad, with a working list around 64 places and a word list of any length.
+pub fn lent_lists(both: &mut Both, r: &mut Random) {
+    let content = small_content(r, 12, 10, 4);
+    let mut set = file_of(&content);
+    if r.one_in(4) {
+        set = damaged_set(r, &set);
+    }
+    let working = r.pick(&[0, 1, 62, 63, 64, 64, 65, 66, 128, 4_096]);
+    planning(both, &set, working, r.below(14)).ok();
+}
+
 /// Expected bits of a good set for its own words, if it has any, or for another reduced list, with up to two changes.
 pub fn expectation(both: &mut Both, r: &mut Random) {
     let largest_m = r.pick(&[4, 12, 64]);
     let content = small_content(r, largest_m, 12, 4);
     let (set, m) = (file_of(&content), content.m as usize);
-    let own = both.plan_words(&set, unknowns_of(&content), 64);
+    let own = both.plan_words(&set, WORKING, 64);
     let mut words = match own {
         Ok((_, words)) if r.one_in(2) => words,
         _ => reduced_words(r, m),

@@ -30,6 +30,6 @@ macro_rules! answers {
 
 answers!(CSet CStretch CWritten CClocked CSigned CListed CEliminated CWorded CExpected CPlanned CJudged);
 
-/// A call that is lent a set, a column list and a word list.
+/// A call that is lent a set, a working list and a word list.
 pub type MakesWords<A> =
     unsafe extern "C" fn(*const u8, usize, *mut u64, usize, *mut u64, usize) -> A;

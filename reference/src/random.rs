@@ -127,7 +127,7 @@ fn rows_with(r: &mut Random, n: usize, s: usize, chains: &[usize], count: usize)
 }
 
 /// Some of n things: `count` different numbers below n.
-fn some_of(r: &mut Random, n: usize, count: usize) -> Vec<usize> {
+pub fn some_of(r: &mut Random, n: usize, count: usize) -> Vec<usize> {
     let mut all: Vec<usize> = (0..n).collect();
     for i in 0..count {
         let other = i + r.below(n - i);
@@ -183,12 +183,25 @@ fn polynomial(r: &mut Random, degree: usize) -> u128 {
     u128::from(r.within(degree)) | 1 | 1 << degree
 }
 
+/// The tap word of a register of m bits, and a polynomial d of which the multiples are `rank` dimensions that no clock leaves.
+///
+/// A state is a polynomial, and a clock multiplies it by x modulo x^m + the tap word. Here that is the product of d and a polynomial of
+/// degree `rank`.
+fn closed_space(r: &mut Random, m: usize, rank: usize) -> (u64, u128) {
+    let divisor = polynomial(r, m - rank);
+    let modulus = product(divisor, polynomial(r, rank));
+    (modulus as u64 & (u64::MAX >> (64 - m)), divisor)
+}
+
+/// A multiple of the divisor that isn't 0.
+fn multiple(r: &mut Random, divisor: u128, rank: usize) -> u64 {
+    product(divisor, u128::from(r.some_within(rank))) as u64
+}
+
 /// A good content with exactly `unknowns` unknown cells, whose columns have exactly this rank, 1 to m.
 ///
-/// A state is a polynomial, and a clock multiplies it by x modulo x^m + the tap word. Where that is the product of d and a
-/// polynomial of degree `rank`, the multiples of d are `rank` dimensions that no clock leaves. The unknown cells stand in chains
-/// whose spread words are such multiples; half of the chains, where that leaves cells enough, have none and any spread word: were
-/// the known cells' words multiples too, every signature would be explained and every expected bit 0.
+/// The unknown cells stand in chains whose spread words lie in a closed space; half of the chains, where that leaves cells enough, have
+/// none and any spread word: were the known cells' words in that space too, every signature would be explained and every expected bit 0.
 pub fn content_of_rank(
     r: &mut Random,
     (m, n, s): (usize, usize, usize),
@@ -196,17 +209,16 @@ pub fn content_of_rank(
     unknowns: usize,
 ) -> Content {
     loop {
-        let divisor = polynomial(r, m - rank);
-        let modulus = product(divisor, polynomial(r, rank));
+        let (taps, divisor) = closed_space(r, m, rank);
         let chains = some_of(r, n, unknowns.div_ceil(s).max(n.div_ceil(2)));
         let mut spread: Vec<u64> = (0..n).map(|_| r.some_within(m)).collect();
         for &c in &chains {
-            spread[c] = product(divisor, u128::from(r.some_within(rank))) as u64;
+            spread[c] = multiple(r, divisor, rank);
         }
         let marks = rows_with(r, n, s, &chains, unknowns);
         let content = Content {
             m: m as u64,
-            taps: modulus as u64 & (u64::MAX >> (64 - m)),
+            taps,
             inversion: r.aside().inversion(m),
             spread,
             values: values_beside(r, n, s, &marks),
@@ -216,6 +228,41 @@ pub fn content_of_rank(
         if rank_of(&swept_columns(&content)) == rank {
             return content;
         }
+    }
+}
+
+/// A good content with these cells unknown, by slice and chain. The spread words of all chains but `outside` lie in a closed space of
+/// `rank` dimensions, and those of the others each add one, as long as there is one more.
+pub fn content_with_marks(
+    r: &mut Random,
+    (m, n, s): (usize, usize, usize),
+    rank: usize,
+    marked: &[(usize, usize)],
+    outside: &[usize],
+) -> Content {
+    let (taps, divisor) = closed_space(r, m, rank);
+    let mut spread: Vec<u64> = (0..n).map(|_| multiple(r, divisor, rank)).collect();
+    let mut space: Vec<u64> = (0..rank).map(|i| (divisor << i) as u64).collect();
+    for &c in outside {
+        let more = (rank_of(&space) + 1).min(m);
+        space.push(r.some_within(m));
+        while rank_of(&space) < more {
+            *space.last_mut().expect("a word") = r.some_within(m);
+        }
+        spread[c] = space[space.len() - 1];
+    }
+    let mut marks = vec![0u8; record_length(n, s)];
+    for (t, c) in marked {
+        marks[row_bytes(n) * t + c / 8] |= 1 << (c % 8);
+    }
+    Content {
+        m: m as u64,
+        taps,
+        inversion: r.inversion(m),
+        spread,
+        values: values_beside(r, n, s, &marks),
+        marks,
+        s: s as u64,
     }
 }
 

@@ -69,7 +69,26 @@ static void must(int holds, int line) {
 static const uint64_t spread[2] = {1, 4};
 static const uint8_t values[2] = {1, 1}, marks[2] = {2, 0};
 static uint8_t set[48], plan[CANCELLER_PLAN_MAX];
-static uint64_t columns[3] = {9, 9, 9}, words[4] = {8, 8, 8, 8};
+static uint64_t columns[3] = {9, 9, 9}, working[CANCELLER_WORKING + 1], words[4] = {8, 8, 8, 8};
+
+/* Noise in the working list, and whether it was left as planning leaves it. */
+static void disturb(void) {
+    for (size_t i = 0; i <= CANCELLER_WORKING; i++) working[i] = 77 + i;
+}
+
+static int untouched(void) {
+    for (size_t i = 0; i <= CANCELLER_WORKING; i++) {
+        if (working[i] != 77 + i) return 0;
+    }
+    return 1;
+}
+
+static int cleared(void) {
+    for (size_t i = 0; i < CANCELLER_WORKING; i++) {
+        if (working[i] != 0) return 0;
+    }
+    return working[CANCELLER_WORKING] == 77 + CANCELLER_WORKING;
+}
 
 static void sets(void) {
     memset(set, 0xEE, sizeof set);
@@ -112,9 +131,9 @@ static void inverted(void) {
 
     canceller_signed with_zero = canceller_sign(other, 42, values, 2);
     MUST(with_zero.refusal == 0 && with_zero.signature == 5);
-    canceller_planned planned = canceller_plan(other, 42, columns, 3, words, 4);
+    canceller_planned planned = canceller_plan(other, 42, working, CANCELLER_WORKING, words, 4);
     MUST(planned.refusal == 0 && planned.q == 2 && planned.expected == 3);
-    MUST(columns[0] == 3 && words[0] == 3 && words[1] == 4);
+    MUST(words[0] == 3 && words[1] == 4);
 
     other[10] = 8;
     read = canceller_read_set(other, 42);
@@ -156,12 +175,17 @@ static void eliminations(void) {
 
 /* Planning's two calls, on the sample and on the sample with chain 0's cell of slice 1 revised to 0. */
 static void words_and_bits(void) {
-    uint64_t of_set[3] = {7, 7, 7}, place[2] = {7, 7};
-    canceller_worded worded = canceller_plan_words(set, 42, place, 2, of_set, 3);
-    MUST(worded.refusal == 0 && worded.m == 3 && worded.q == 2);
-    MUST(of_set[0] == 3 && of_set[1] == 4 && of_set[2] == 7 && place[0] == 3 && place[1] == 7);
-    worded = canceller_plan_words(set, 42, place, 2, NULL, 0);
-    MUST(worded.refusal == 18 && worded.m == 0 && worded.q == 0);
+    uint64_t of_set[3] = {7, 7, 7};
+    disturb();
+    canceller_worded worded = canceller_plan_words(set, 42, working, CANCELLER_WORKING + 1, of_set, 3);
+    MUST(worded.refusal == 0 && worded.m == 3 && worded.q == 2 && cleared());
+    MUST(of_set[0] == 3 && of_set[1] == 4 && of_set[2] == 7);
+    disturb();
+    worded = canceller_plan_words(set, 42, working, CANCELLER_WORKING, NULL, 0);
+    MUST(worded.refusal == 18 && worded.m == 0 && worded.q == 0 && cleared());
+    disturb();
+    worded = canceller_plan_words(set, 42, working, CANCELLER_WORKING - 1, of_set, 3);
+    MUST(worded.refusal == 14 && worded.m == 0 && worded.q == 0 && untouched());
     MUST(canceller_plan_words(set, 42, NULL, 0, of_set, 3).refusal == 14);
 
     uint8_t revised[42];
@@ -181,7 +205,10 @@ static void words_and_bits(void) {
 }
 
 static void plans(void) {
-    canceller_planned planned = canceller_plan(set, 42, columns, 3, words, 4);
+    disturb();
+    MUST(canceller_plan(set, 42, working, CANCELLER_WORKING - 1, words, 4).refusal == 14 && untouched());
+    canceller_planned planned = canceller_plan(set, 42, working, CANCELLER_WORKING + 1, words, 4);
+    MUST(cleared());
     MUST(planned.refusal == 0 && planned.m == 3 && planned.q == 2 && planned.expected == 0);
     MUST(words[0] == 3 && words[1] == 4);
     printf("planned: words %d %d, expected %d\n", (int)words[0], (int)words[1], (int)planned.expected);

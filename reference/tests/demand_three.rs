@@ -7,6 +7,7 @@ use reference::both::Both;
 use reference::random::*;
 use reference::second::elimination::x_free;
 use reference::second::plan::Plan;
+use reference::second::planning::WORKING;
 use reference::second::set::{driving, read_set, Set};
 use reference::second::{word_of, Bits};
 use std::collections::BTreeSet;
@@ -81,7 +82,7 @@ fn exactly_the_explained_signatures_pass() {
         let explained = explained(&set);
         let all = 1u64 << set.circuit.m;
         let every = explained.len() as u64 == all;
-        let planned = both.plan(&file, u, 64);
+        let planned = both.plan(&file, WORKING, 64);
         assert_eq!(planned.clone().err(), every.then_some(17), "seed {seed}");
         inverting[usize::from(every)] += usize::from(inverts(&set));
         let Ok(p) = planned else {
@@ -113,7 +114,7 @@ fn exactly_the_signatures_that_a_revised_set_explains_pass_by_the_old_words_and_
         if u > 12 {
             continue;
         }
-        let Ok((m, words)) = both.plan_words(&old, u, 64) else {
+        let Ok((m, words)) = both.plan_words(&old, WORKING, 64) else {
             continue;
         };
         let expected = both.expect(&new, &words).expect("a reduced list");
@@ -138,7 +139,7 @@ fn records_alike_in_the_known_cells_are_judged_alike() {
         let file = file_of(&c);
         let set = read_set(&file).unwrap();
         let unknowns = set.unknowns();
-        let Ok(p) = both.plan(&file, unknowns.len(), 64) else {
+        let Ok(p) = both.plan(&file, WORKING, 64) else {
             continue;
         };
         let plan = both.write_plan(&p, 600).unwrap();
@@ -175,7 +176,7 @@ fn a_record_with_one_known_cell_changed_fails_or_is_explained() {
         let file = file_of(&c);
         let set = read_set(&file).unwrap();
         let u = set.unknowns().len();
-        let Ok(p) = both.plan(&file, u, 64) else {
+        let Ok(p) = both.plan(&file, WORKING, 64) else {
             continue;
         };
         if u > 10 || set.s() == 0 {
@@ -210,7 +211,7 @@ fn the_listed_words_make_every_x_free_combination_and_no_other() {
         let c = small_content(&mut r, 8, 5, 3);
         let file = file_of(&c);
         let columns = read_set(&file).unwrap().columns();
-        let words = match both.plan(&file, columns.len(), 64) {
+        let words = match both.plan(&file, WORKING, 64) {
             Ok(p) => p.words,
             Err(_) => Vec::new(),
         };

@@ -8,6 +8,7 @@ use reference::draw::Files;
 use reference::random::*;
 use reference::second::elimination::{reduced_list, reduced_list_by_trial};
 use reference::second::layout::*;
+use reference::second::planning::WORKING;
 use reference::second::set::{read_set, Circuit, Content};
 use reference::second::word_of;
 
@@ -36,7 +37,7 @@ fn valid_sets_of_all_sizes() {
             }
         }
     }
-    mixed(&both, "plan", 50);
+    mixed(&both, "plan", 35);
 }
 
 #[test]
@@ -60,7 +61,7 @@ fn every_width_every_chain_count_and_every_slice_count() {
         let c = content(&mut r, 9, 3, s, 1, 1 + s / 2);
         draw::every_call(&mut both, &draw::files_of(&mut r, &c));
     }
-    mixed(&both, "plan", 50);
+    mixed(&both, "plan", 35);
 }
 
 /// The calls on a set of the largest shape, its plan accepted or not.
@@ -74,7 +75,7 @@ fn largest_set(both: &mut Both, r: &mut Random, c: &Content) -> bool {
     both.list_columns(&files.set, files.unknowns).unwrap();
     both.write_set(c, 34_838).unwrap();
     assert_eq!(both.write_set(c, 34_837), Err(24));
-    draw::planning(both, &files.set, files.unknowns, 64).is_ok()
+    draw::planning(both, &files.set, WORKING, 64).is_ok()
 }
 
 #[test]
@@ -101,9 +102,9 @@ fn the_largest_sets_with_plans_of_every_rank() {
         let c = content_of_rank(&mut r, (64, 256, 512), rank, unknowns);
         assert!(largest_set(&mut both, &mut r, &c), "{}", both.at);
         let file = file_of(&c);
-        let plan = both.plan(&file, unknowns, 64 - rank).unwrap();
+        let plan = both.plan(&file, WORKING, 64 - rank).unwrap();
         assert_eq!(plan.words.len(), 64 - rank, "{}", both.at);
-        let short = both.plan(&file, unknowns, 63 - rank);
+        let short = both.plan(&file, WORKING, 63 - rank);
         assert_eq!(short, Err(18), "{}", both.at);
         let written = both.write_plan(&plan, 526).unwrap();
         let good = both.sign(&file, &c.values).unwrap();
@@ -137,7 +138,7 @@ fn plans_of_every_width_and_rank() {
             }
             both.at = format!("m {m}, n {n}, s {s}, rank {rank}, {unknowns} unknown cells");
             let c = content_of_rank(&mut r, (m, n, s), rank, unknowns);
-            let planned = both.plan(&file_of(&c), unknowns, 64);
+            let planned = both.plan(&file_of(&c), WORKING, 64);
             expecting += u64::from(planned.as_ref().is_ok_and(|p| p.expected != 0));
             assert_eq!(planned.err(), (rank == m).then_some(17), "{}", both.at);
             refused += u64::from(rank == m);
@@ -152,14 +153,14 @@ fn plans_of_every_width_and_rank() {
 
 #[test]
 fn every_cell_unknown() {
-    // 131,072 columns: of rank 63, a plan; of full rank, 17
+    // 131,072 columns: of rank 63 or less, a plan; of full rank, 17
     let mut both = Both::new();
-    for (rank, answer) in [(63, None), (64, Some(17))] {
+    for (rank, answer) in [(1, None), (40, None), (63, None), (64, Some(17))] {
         both.at = format!("seed 32, every cell unknown, rank {rank}");
         let mut r = Random::new(32);
         let c = content_of_rank(&mut r, (64, 256, 512), rank, 131_072);
         let set = file_of(&c);
-        assert_eq!(both.plan(&set, 131_072, 64).err(), answer, "{}", both.at);
+        assert_eq!(both.plan(&set, WORKING, 64).err(), answer, "{}", both.at);
         assert_eq!(both.list_columns(&set, 131_071), Err(14));
     }
 }
@@ -266,6 +267,8 @@ fn lists_of_every_length_around_what_is_needed() {
         let unknowns = unknowns_of(&c);
         for room in unknowns.saturating_sub(3)..unknowns + 4 {
             both.list_columns(&file, room).ok();
+        }
+        for room in WORKING - 3..WORKING + 4 {
             for words in 0..c.m as usize + 2 {
                 draw::planning(&mut both, &file, room, words).ok();
             }
@@ -515,7 +518,7 @@ fn files_read_back_to_what_was_written() {
 #[test]
 fn a_million_calls() {
     let mut both = Both::new();
-    for seed in 1_000_000..1_010_500 {
+    for seed in 1_000_000..1_008_500 {
         draw::calls(&mut both, seed);
     }
     let compared = both.compared();

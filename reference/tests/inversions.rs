@@ -4,6 +4,7 @@
 use reference::both::Both;
 use reference::random::*;
 use reference::second::layout::{record_length, row_bytes};
+use reference::second::planning::WORKING;
 use reference::second::set::Content;
 
 /// A content with its chains, its slices, and the file of it.
@@ -81,7 +82,7 @@ fn columns_and_words_are_the_same_under_every_inversion() {
                 both.at = format!("seed {seed}, inversion {inversion}, {room} places");
                 let set = file_of(&inverted(&c, inversion));
                 let columns = both.list_columns(&set, unknowns);
-                (columns, both.plan(&set, unknowns, room).map(|p| p.words))
+                (columns, both.plan(&set, WORKING, room).map(|p| p.words))
             };
             let plain = made(0);
             for inversion in some_inversions(c.m) {
@@ -111,11 +112,10 @@ fn signatures_and_expected_bits_move_by_the_signature_of_the_response_of_zeros()
         let with = both.sign(&file, &record).expect("a record");
         let without = both.sign(&plain, &record).expect("a record");
         assert_eq!(with ^ without, shift, "{}", both.at);
-        let unknowns = unknowns_of(&c);
-        let Ok(plan) = both.plan(&file, unknowns, 64) else {
+        let Ok(plan) = both.plan(&file, WORKING, 64) else {
             continue;
         };
-        let other = both.plan(&plain, unknowns, 64).expect("the same words");
+        let other = both.plan(&plain, WORKING, 64).expect("the same words");
         for (i, word) in plan.words.iter().enumerate() {
             let moves = (plan.expected ^ other.expected) >> i & 1 == 1;
             let odd = (word & shift).count_ones() % 2 == 1;
@@ -160,7 +160,7 @@ fn a_response_without_slices_has_signature_0_under_every_inversion() {
             both.at = format!("m {m}, inversion {inversion:#x}");
             let set = file_of(&inverted(&plain, inversion));
             assert_eq!(both.sign(&set, &[]), Ok(0), "{}", both.at);
-            let plan = both.plan(&set, 0, 64).expect("m words");
+            let plan = both.plan(&set, WORKING, 64).expect("m words");
             let bits: Vec<u64> = (0..m).map(|i| 1 << i).collect();
             assert_eq!((plan.words, plan.expected), (bits, 0), "{}", both.at);
         }

@@ -4,6 +4,7 @@ use reference::both::Both;
 use reference::random::without_rows;
 use reference::repository::sample;
 use reference::second::plan::Plan;
+use reference::second::planning::WORKING;
 use reference::second::set::{read_set, Content};
 use reference::second::word_of;
 
@@ -36,8 +37,11 @@ fn refused_by_all(both: &mut Both, what: &str, set: &[u8], n: u64) {
     assert_eq!(number(both.rows(set, 0)), n, "{what}");
     assert_eq!(number(both.sign(set, &[])), n, "{what}");
     assert_eq!(number(both.list_columns(set, 9)), n, "{what}");
-    assert_eq!(number(both.plan(set, 9, 9)), n, "{what}");
-    assert_eq!(number(both.plan_words(set, 9, 9)), n, "{what}");
+    // with lists long enough and too short: the set's numbers come before 14
+    for room in [WORKING, 9] {
+        assert_eq!(number(both.plan(set, room, 9)), n, "{what}");
+        assert_eq!(number(both.plan_words(set, room, 9)), n, "{what}");
+    }
     // good words, none, too many, and lists that aren't reduced: the set's numbers come before 20 and 21
     for words in [&[1][..], &[], &[1; 65], &[2, 1], &[0]] {
         assert_eq!(number(both.expect(set, words)), n, "{what}, {words:?}");
@@ -186,16 +190,18 @@ fn calls_on_the_sample_and_on_sets_at_the_edges() {
     assert_eq!(number(both.list_columns(&set, 0)), 14);
     let none = sample("no-words.set");
     let lines = [
-        (&set, 1, 2, 0),
-        (&set, 0, 2, 14),
-        (&set, 1, 1, 18),
-        (&none, 1, 0, 17),
-        (&none, 0, 0, 14),
+        (&set, 64, 2, 0),
+        (&set, 63, 2, 14),
+        (&set, 1, 2, 14),
+        (&set, 64, 1, 18),
+        (&set, 63, 1, 14),
+        (&none, 64, 0, 17),
+        (&none, 63, 0, 14),
     ];
-    for (set, columns, words, n) in lines {
-        let what = format!("{} bytes, {columns} and {words} places", set.len());
-        assert_eq!(number(both.plan(set, columns, words)), n, "{what}");
-        assert_eq!(number(both.plan_words(set, columns, words)), n, "{what}");
+    for (set, working, words, n) in lines {
+        let what = format!("{} bytes, {working} and {words} places", set.len());
+        assert_eq!(number(both.plan(set, working, words)), n, "{what}");
+        assert_eq!(number(both.plan_words(set, working, words)), n, "{what}");
     }
     for (name, n) in [
         ("chains-256.set", 0),

@@ -106,6 +106,23 @@ fn the_sample_writes_document_01s_four_lines() {
 }
 
 #[test]
+fn more_unknown_cells_than_the_printer_lends_places() {
+    // every column is 7, as in the elimination of 512 columns that document 01 works on paper
+    assert_eq!(
+        prints(&sample("unknowns-4097.set"), 1 << 20),
+        "set 3 256 17 4097\nword 0 3 0\nword 1 5 0\nend 2\n"
+    );
+    let mut r = Random::new(7);
+    let set = file_of(&content_of_rank(&mut r, (64, 256, 512), 63, 131_072));
+    let text = prints(&set, 1 << 20);
+    assert!(
+        text.starts_with("set 64 256 512 131072\n") && text.ends_with("end 1\n"),
+        "{text}"
+    );
+    assert_eq!(text, printed(&set));
+}
+
+#[test]
 fn random_sets() {
     for seed in 200_000..200_150 {
         let mut r = Random::new(seed);

@@ -3,6 +3,7 @@
 
 use reference::both::Both;
 use reference::repository::{repository, sample, text};
+use reference::second::planning::WORKING;
 use std::os::unix::fs::symlink;
 use std::path::{Path, PathBuf};
 use std::process::Command;
@@ -117,7 +118,7 @@ fn the_bytes_in_the_tables_are_the_sample_and_its_plan() {
     let of_set = bytes_in_table(&readme, "In the sample (42 bytes, in hexadecimal)");
     assert_eq!(of_set, set);
     let mut both = Both::at("the sample");
-    let plan = both.plan(&set, 1, 64).unwrap();
+    let plan = both.plan(&set, WORKING, 64).unwrap();
     let plan = both.write_plan(&plan, 526).unwrap();
     let of_plan = bytes_in_table(&readme, "In the sample's plan (23 bytes, in hexadecimal)");
     assert_eq!(of_plan, plan);

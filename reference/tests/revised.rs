@@ -7,6 +7,7 @@ use reference::library::{canceller_expect, canceller_plan, canceller_plan_words,
 use reference::random::*;
 use reference::second::layout::expected_at;
 use reference::second::plan::Plan;
+use reference::second::planning::WORKING;
 use reference::second::set::Content;
 use std::collections::{BTreeMap, BTreeSet};
 
@@ -34,17 +35,16 @@ fn revised_plan(
     before: &Content,
     after: &Content,
 ) -> Option<(Vec<u8>, Plan, u64)> {
-    let unknowns = unknowns_of(before);
     let (old, new) = (file_of(before), file_of(after));
-    let words = both.plan_words(&old, unknowns, 64);
-    assert_eq!(both.plan_words(&new, unknowns, 64), words, "{}", both.at);
+    let words = both.plan_words(&old, WORKING, 64);
+    assert_eq!(both.plan_words(&new, WORKING, 64), words, "{}", both.at);
     let (m, words) = words.ok()?;
     let earlier = both.expect(&old, &words).expect("a reduced list");
     let expected = both.expect(&new, &words).expect("a reduced list");
     let plan = Plan { m, words, expected };
     let file = both.write_plan(&plan, 526).expect("a good plan");
     let anew = both
-        .plan(&new, unknowns, 64)
+        .plan(&new, WORKING, 64)
         .expect("a plan, as it has words");
     assert_eq!(both.write_plan(&anew, 526), Ok(file.clone()), "{}", both.at);
     Some((file, plan, earlier))
@@ -66,7 +66,7 @@ fn a_plan_of_the_old_words_and_the_revised_bits_is_the_plan_made_anew() {
         };
         // all but the expected bits is the old plan's
         let (old, words) = (file_of(&before), expected_at(plan.words.len()));
-        let old = both.plan(&old, unknowns_of(&before), 64).expect("a plan");
+        let old = both.plan(&old, WORKING, 64).expect("a plan");
         assert_eq!(old.expected, earlier, "{}", both.at);
         let old = both.write_plan(&old, 526).expect("a good plan");
         assert_eq!(file[..words], old[..words], "{}", both.at);
@@ -135,7 +135,7 @@ fn for_words_of_single_bits_the_expected_bits_are_the_signature_for_all_unknowns
             let (set, signature) = (file_of(content), zero_signature(&mut both, content));
             assert_eq!(both.expect(&set, &bits), Ok(signature), "{}", both.at);
             // .. and a set without unknown cells has these words
-            let own = both.plan_words(&set, unknowns_of(content), 64);
+            let own = both.plan_words(&set, WORKING, 64);
             if unknowns_of(content) == 0 {
                 assert_eq!(own, Ok((m as u64, bits.clone())), "{}", both.at);
             }
@@ -176,7 +176,7 @@ fn every_reduced_list_of_a_small_width_gets_its_parities_for_every_set() {
             for (i, content) in contents(&mut r, m as usize).iter().enumerate() {
                 both.at = format!("seed {seed}, m {m}, content {i}");
                 let (set, signature) = (file_of(content), zero_signature(&mut both, content));
-                let own = both.plan_words(&set, unknowns_of(content), 64);
+                let own = both.plan_words(&set, WORKING, 64);
                 without_words += usize::from(own == Err(17));
                 for words in &lists {
                     let bits = parities(words, signature);
@@ -246,7 +246,7 @@ fn a_sets_own_words_but_one_have_the_bits_that_they_had() {
         let mut r = Random::new(seed);
         let content = small_content(&mut r, 64, 20, 8);
         let set = file_of(&content);
-        let Ok(plan) = both.plan(&set, unknowns_of(&content), 64) else {
+        let Ok(plan) = both.plan(&set, WORKING, 64) else {
             continue;
         };
         for i in 0..plan.words.len() {
@@ -270,10 +270,10 @@ const FILL: u64 = 0x5EED_5EED_5EED_5EED;
 /// The library's call on lists of these many places: its answer, and the lists as it leaves them.
 fn made<A>(call: MakesWords<A>, set: &[u8], rooms: [usize; 2]) -> (A, [Vec<u64>; 2]) {
     let mut lists = rooms.map(|room| vec![FILL; room]);
-    let [columns, words] = &mut lists;
-    let (c, c_len) = (columns.as_mut_ptr(), columns.len());
+    let [working, words] = &mut lists;
+    let (k, k_len) = (working.as_mut_ptr(), working.len());
     let (w, w_len) = (words.as_mut_ptr(), words.len());
-    let answer = unsafe { call(set.as_ptr(), set.len(), c, c_len, w, w_len) };
+    let answer = unsafe { call(set.as_ptr(), set.len(), k, k_len, w, w_len) };
     (answer, lists)
 }
 
@@ -305,10 +305,9 @@ fn the_librarys_planning_is_its_two_calls_in_a_row() {
             let (_, fault) = r.pick(&draw::set_faults());
             fault(&mut set);
         }
-        let unknowns = unknowns_of(&content);
-        let columns = r.pick(&[unknowns, unknowns + 2, unknowns.saturating_sub(1)]);
+        let working = r.pick(&[WORKING, WORKING + 2, WORKING - 1]);
         let words = r.below(12);
-        let rooms = [columns, r.pick(&[64, largest_m, words])];
+        let rooms = [working, r.pick(&[64, largest_m, words])];
         let number = in_a_row(&set, rooms, &format!("seed {seed}"));
         *seen.entry(number).or_insert(0) += 1;
     }
@@ -335,9 +334,9 @@ fn the_librarys_planning_of_the_largest_sets_is_its_two_calls_in_a_row() {
         let at = format!("rank {rank}, {unknowns} unknown cells");
         let mut r = Random::new(154_000 + rank as u64);
         let set = file_of(&content_of_rank(&mut r, (64, 256, 512), rank, unknowns));
-        assert_eq!(in_a_row(&set, [unknowns, 64], &at), number, "{at}");
-        let short = in_a_row(&set, [unknowns, 63 - rank.min(63)], &at);
+        assert_eq!(in_a_row(&set, [WORKING, 64], &at), number, "{at}");
+        let short = in_a_row(&set, [WORKING, 63 - rank.min(63)], &at);
         assert_eq!(short, if number == 0 { 18 } else { number }, "{at}");
-        assert_eq!(in_a_row(&set, [unknowns - 1, 64], &at), 14, "{at}");
+        assert_eq!(in_a_row(&set, [WORKING - 1, 64], &at), 14, "{at}");
     }
 }

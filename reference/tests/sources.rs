@@ -6,6 +6,7 @@ use reference::both::Both;
 use reference::random::{file_of, Random};
 use reference::second::layout::row_bytes;
 use reference::second::plan::Plan;
+use reference::second::planning::WORKING;
 use reference::second::set::Content;
 use std::collections::BTreeSet;
 
@@ -54,7 +55,7 @@ fn cells(n: usize, ones: &[usize]) -> Vec<u8> {
 
 fn planned(both: &mut Both, set: &[u8]) -> (Plan, Vec<u8>) {
     let p = both
-        .plan(set, 300, 64)
+        .plan(set, WORKING, 64)
         .expect("the paper's example has X-free words");
     let file = both.write_plan(&p, 600).expect("a plan can be written");
     (p, file)

@@ -4,6 +4,7 @@
 use reference::both::Both;
 use reference::random::without_rows;
 use reference::repository::sample;
+use reference::second::planning::WORKING;
 use reference::second::set::{read_set, row_place, Row};
 use reference::second::word_of;
 
@@ -97,7 +98,7 @@ fn the_sample() {
     assert_eq!(read(&set), Ok((3, 3, 0, 2, 2)));
     let mut both = both();
     assert_eq!(both.list_columns(&set, 1), Ok(vec![3]));
-    let p = both.plan(&set, 1, 2).unwrap();
+    let p = both.plan(&set, WORKING, 2).unwrap();
     assert_eq!((p.m, p.words.clone(), p.expected), (3, vec![3, 4], 0));
     let plan = both.write_plan(&p, 23).unwrap();
     for (y, verdict) in [(3, None), (0, None), (1, Some(0)), (7, Some(1))] {
@@ -113,7 +114,7 @@ fn the_sample() {
 fn the_samples_words_and_expected_bits_by_two_calls() {
     let set = sample("sample.set");
     let mut both = both();
-    assert_eq!(both.plan_words(&set, 1, 2), Ok((3, vec![3, 4])));
+    assert_eq!(both.plan_words(&set, WORKING, 2), Ok((3, vec![3, 4])));
     // the signature for the unknown cell 0 is 3: bits 0 and 1
     let lines: [(&[u64], u64); 7] = [
         (&[3, 4], 0),
@@ -131,11 +132,11 @@ fn the_samples_words_and_expected_bits_by_two_calls() {
     let mut revised = set.clone();
     revised[40] = 0;
     assert_eq!(both.sign(&revised, &[1, 0]), Ok(2));
-    assert_eq!(both.plan_words(&revised, 1, 2), Ok((3, vec![3, 4])));
+    assert_eq!(both.plan_words(&revised, WORKING, 2), Ok((3, vec![3, 4])));
     assert_eq!(both.expect(&revised, &[3, 4]), Ok(0b01));
     // m 1 and one unknown cell with the column 1: no words, and the signature for that cell 0 is 0
     let none = sample("no-words.set");
-    assert_eq!(both.plan_words(&none, 1, 1), Err(17));
+    assert_eq!(both.plan_words(&none, WORKING, 1), Err(17));
     assert_eq!(both.expect(&none, &[1]), Ok(0));
 }
 
@@ -148,7 +149,7 @@ fn the_sample_with_bit_1_inverted() {
     assert_eq!(both.list_columns(&set, 1), Ok(vec![3]));
     assert_eq!(both.sign(&set, &[1, 1]), Ok(5));
     assert_eq!(both.sign(&set, &[3, 1]), Ok(5 ^ 3));
-    let p = both.plan(&set, 1, 2).unwrap();
+    let p = both.plan(&set, WORKING, 2).unwrap();
     assert_eq!((p.m, p.words.clone(), p.expected), (3, vec![3, 4], 0b11));
     assert_eq!(both.expect(&set, &[3, 4]), Ok(0b11));
     assert_eq!(both.expect(&set, &[1, 2, 4]), Ok(5));
@@ -169,7 +170,7 @@ fn a_register_of_64_bits_that_inverts_the_last() {
     assert_eq!(both.sign(&set, &[0, 1]), Ok(signature));
     assert_eq!(both.sign(&set, &[1, 1]), Ok(signature ^ 4));
     assert_eq!(both.list_columns(&set, 1), Ok(vec![4]));
-    let p = both.plan(&set, 1, 64).unwrap();
+    let p = both.plan(&set, WORKING, 64).unwrap();
     let words: Vec<u64> = (0..64).filter(|i| *i != 2).map(|i| 1 << i).collect();
     assert_eq!(p.words, words);
     let expecting = (0..63).filter(|i| p.expected >> i & 1 == 1);

@@ -3,16 +3,16 @@
 use reference::library::*;
 use reference::second::set::Content;
 
-pub fn plan(set: &[u8], columns: &mut [u64], words: &mut [u64]) -> CPlanned {
-    let (c, c_len) = (columns.as_mut_ptr(), columns.len());
+pub fn plan(set: &[u8], working: &mut [u64], words: &mut [u64]) -> CPlanned {
+    let (k, k_len) = (working.as_mut_ptr(), working.len());
     let (w, w_len) = (words.as_mut_ptr(), words.len());
-    unsafe { canceller_plan(set.as_ptr(), set.len(), c, c_len, w, w_len) }
+    unsafe { canceller_plan(set.as_ptr(), set.len(), k, k_len, w, w_len) }
 }
 
-pub fn plan_words(set: &[u8], columns: &mut [u64], words: &mut [u64]) -> CWorded {
-    let (c, c_len) = (columns.as_mut_ptr(), columns.len());
+pub fn plan_words(set: &[u8], working: &mut [u64], words: &mut [u64]) -> CWorded {
+    let (k, k_len) = (working.as_mut_ptr(), working.len());
     let (w, w_len) = (words.as_mut_ptr(), words.len());
-    unsafe { canceller_plan_words(set.as_ptr(), set.len(), c, c_len, w, w_len) }
+    unsafe { canceller_plan_words(set.as_ptr(), set.len(), k, k_len, w, w_len) }
 }
 
 pub fn expect(set: &[u8], words: &[u64]) -> CExpected {

@@ -3,7 +3,7 @@
 use crate::others::kernels;
 use crate::row::{put, Row, Side};
 use crate::same::elimination::eliminate;
-use crate::same::response::{expect, list_columns, plan, plan_words, sign};
+use crate::same::response::*;
 use crate::same::set::{clock, mark_row, read_set, value_row, write_set};
 use crate::{ours, plain, same};
 use reference::library::{Answer, CPlanned, CStretch, CWorded};
@@ -83,19 +83,34 @@ fn planned(p: CPlanned) -> [u64; 3] {
     [p.m, p.q, p.expected]
 }
 
-/// A call that is lent a set, a column list and a word list.
+/// A call that is lent a set, a working list, or a column list, and a word list.
 type MakesWords<A> = fn(&[u8], &mut [u64], &mut [u64]) -> A;
 
-/// The sets, and the row of such a call by ours, whose answer `numbers` puts into words, and by the same algorithm in Rust.
+/// The words of a set by listing all columns and eliminating them: q, and the refusal.
+fn listed_words(set: &[u8], columns: &mut [u64], words: &mut [u64]) -> (u64, u64) {
+    let listed = black_box(ours::list_columns(set, columns));
+    let e = black_box(ours::eliminate(&columns[..listed.count as usize], words));
+    (e.q, e.refusal)
+}
+
+/// The sets, and the row of such a call by ours, whose answer `numbers` puts into words, by the same algorithm in Rust, and in Rust by
+/// listing all columns.
 fn making_words<A: Answer + 'static, const N: usize>(
     call: &'static str,
     (s, unknowns, rank, inputs): (usize, usize, usize, usize),
     ours: (MakesWords<A>, fn(A) -> [u64; N]),
-    same: MakesWords<Result<[u64; N], u64>>,
+    same: [MakesWords<Result<[u64; N], u64>>; 2],
 ) -> (Files, Row) {
     let sets = sets(2, s, unknowns, rank, inputs);
-    let (mut columns, mut words) = (vec![0; 131_072], [0; 64]);
-    let (mut other, mut in_rust) = (vec![0; 131_072], [0; 64]);
+    let (mut working, mut words) = ([0; 64], [0; 64]);
+    let [same, listing] = same;
+    let in_rust = |call: MakesWords<Result<[u64; N], u64>>, places: usize| {
+        let (mut list, mut words) = (vec![0; places], [0; 64]);
+        move |i: usize, ask: bool| {
+            let p = black_box(call(&sets[i], &mut list, &mut words));
+            put(ask, p.err().unwrap_or(0), || of_plan(&p.unwrap(), &words))
+        }
+    };
     let size = match rank {
         64 => format!("{unknowns} unknowns of full rank"),
         _ => format!("{unknowns} unknowns of rank {rank}"),
@@ -103,21 +118,24 @@ fn making_words<A: Answer + 'static, const N: usize>(
     let (one, numbers) = ours;
     let row = Row::new(call, size, inputs)
         .side(Side::Ours, move |i, ask| {
-            let p = black_box(one(&sets[i], &mut columns, &mut words));
+            let p = black_box(one(&sets[i], &mut working, &mut words));
             put(ask, p.refusal(), || of_plan(&numbers(p), &words))
         })
-        .side(Side::Same, move |i, ask| {
-            let p = black_box(same(&sets[i], &mut other, &mut in_rust));
-            put(ask, p.err().unwrap_or(0), || of_plan(&p.unwrap(), &in_rust))
-        });
+        .side(Side::Same, in_rust(same, 64))
+        .side(
+            Side::Other("same, listing all columns"),
+            in_rust(listing, 131_072),
+        );
     (sets, row)
 }
 
-/// Planning sets of s slices; also by its two calls in a row.
+/// Planning sets of s slices; also by its two calls in a row, and by listing all columns, which reads the set once more.
 pub fn planning(s: usize, unknowns: usize, rank: usize, inputs: usize) -> Row {
     let size = (s, unknowns, rank, inputs);
-    let (sets, row) = making_words("planning", size, (ours::plan, planned), plan);
-    let (mut columns, mut words) = (vec![0; 131_072], [0; 64]);
+    let same = [plan, list_and_plan];
+    let (sets, row) = making_words("planning", size, (ours::plan, planned), same);
+    let (mut working, mut words) = ([0; 64], [0; 64]);
+    let (mut columns, mut others) = (vec![0; 131_072], [0; 64]);
     row.side(Side::Plain, move |i, ask| {
         let set = plain::read_set(&sets[i]).unwrap();
         let p = black_box(set.plan());
@@ -127,7 +145,7 @@ pub fn planning(s: usize, unknowns: usize, rank: usize, inputs: usize) -> Row {
         })
     })
     .side(Side::Parts("words, then expected bits"), move |i, ask| {
-        let w = black_box(ours::plan_words(&sets[i], &mut columns, &mut words));
+        let w = black_box(ours::plan_words(&sets[i], &mut working, &mut words));
         let words = &words[..w.q as usize];
         if w.refusal != 0 {
             return put(ask, w.refusal, Vec::new);
@@ -135,12 +153,26 @@ pub fn planning(s: usize, unknowns: usize, rank: usize, inputs: usize) -> Row {
         let e = black_box(ours::expect(&sets[i], words));
         put(ask, e.refusal, || of_plan(&[w.m, w.q, e.expected], words))
     })
+    .side(Side::Parts(LISTING), move |i, ask| {
+        let (q, refusal) = listed_words(&sets[i], &mut columns, &mut others);
+        if refusal != 0 {
+            return put(ask, refusal, Vec::new);
+        }
+        let words = &others[..q as usize];
+        let e = black_box(ours::expect(&sets[i], words));
+        put(ask, e.refusal, || of_plan(&[64, q, e.expected], words))
+    })
 }
 
-/// The words of sets of s slices.
+const LISTING: &str = "the way that lists all columns";
+
+/// The words of sets of s slices; also by listing all columns. Asked is at most 1.1 times that, and an eighth of it for 131,072 unknown
+/// cells of full rank.
 pub fn wording(s: usize, unknowns: usize, rank: usize, inputs: usize) -> Row {
     let (size, worded) = ((s, unknowns, rank, inputs), |w: CWorded| [w.m, w.q]);
-    let (sets, row) = making_words("words", size, (ours::plan_words, worded), plan_words);
+    let same = [plan_words, list_and_word];
+    let (sets, row) = making_words("words", size, (ours::plan_words, worded), same);
+    let (mut columns, mut others) = (vec![0; 131_072], [0; 64]);
     row.side(Side::Plain, move |i, ask| {
         let set = plain::read_set(&sets[i]).unwrap();
         let words = black_box(set.words());
@@ -148,6 +180,10 @@ pub fn wording(s: usize, unknowns: usize, rank: usize, inputs: usize) -> Row {
             let words = words.unwrap();
             of_plan(&[64, words.len() as u64], &words)
         })
+    })
+    .side(Side::Parts(LISTING), move |i, ask| {
+        let (q, refusal) = listed_words(&sets[i], &mut columns, &mut others);
+        put(ask, refusal, || of_plan(&[64, q], &others))
     })
 }
 
@@ -413,18 +449,32 @@ pub fn elimination(count: usize, rank: usize, inputs: usize) -> Row {
     row
 }
 
-pub const PLANNINGS: [(usize, usize); 8] = [
+/// The unknown cells and ranks of planning and of the words.
+const PLANNINGS: [(usize, usize); 22] = [
     (63, 63),
+    (500, 10),
     (500, 40),
     (500, 63),
+    (1_024, 10),
+    (1_024, 40),
+    (1_024, 63),
+    (4_096, 10),
     (4_096, 40),
     (4_096, 63),
+    (16_384, 10),
+    (16_384, 40),
+    (16_384, 63),
+    (65_536, 10),
+    (65_536, 40),
+    (65_536, 63),
+    // the longest way: one group of 64 marks to a portion, and one word left
+    (80_000, 63),
+    (131_072, 1),
+    (131_072, 10),
     (131_072, 40),
     (131_072, 63),
     (131_072, 64),
 ];
-
-pub const WORDINGS: [(usize, usize); 4] = [(63, 63), (500, 40), (4_096, 63), (131_072, 63)];
 
 pub const ELIMINATIONS: [(usize, usize); 7] = [
     (16, 16),
@@ -458,7 +508,7 @@ pub fn print_all() {
     for (unknowns, rank) in PLANNINGS {
         planning(512, unknowns, rank, inputs_for(unknowns)).print();
     }
-    for (unknowns, rank) in WORDINGS {
+    for (unknowns, rank) in PLANNINGS {
         wording(512, unknowns, rank, inputs_for(unknowns)).print();
     }
     for row in OTHERS {
@@ -480,14 +530,16 @@ mod tests {
 
     #[test]
     fn all_sides_agree_where_the_library_changes_its_way() {
-        for unknowns in [1, 63, 511, 512, 513, 700] {
+        for unknowns in [1, 63, 64, 65, 129, 511, 512, 513, 700, 2_300] {
             let rank = unknowns.min(40);
             agree(listing(9, unknowns, rank, 4), "an answer");
             agree(planning(9, unknowns, rank, 4), "an answer");
             agree(wording(9, unknowns, rank, 4), "an answer");
         }
-        agree(planning(9, 700, 64, 4), "refusal 17");
-        agree(wording(9, 700, 64, 4), "refusal 17");
+        for unknowns in [70, 700] {
+            agree(planning(9, unknowns, 64, 4), "refusal 17");
+            agree(wording(9, unknowns, 64, 4), "refusal 17");
+        }
         for (count, rank) in [(16, 16), (500, 40), (700, 40), (9_000, 62), (9_000, 63)] {
             agree(elimination(count, rank, 4), "an answer");
         }

@@ -1,6 +1,6 @@
-//! A second implementation of document 01, written from its sentences alone: it shares no code and no idea with the proved library.
-//! Cells, states and columns are vectors of bools, a column is found by clocking the response in which only its cell is 1 into the
-//! register without its inversions, and words by elimination over rows. It is slow on purpose.
+//! A second implementation of documents 01 and 02, written from their sentences alone: it shares no code and no idea with the proved
+//! library. Cells, states and columns are vectors of bools, a column is found by clocking the response in which only its cell is 1 into
+//! the register without its inversions, and words by elimination over rows. It is slow on purpose.
 
 pub mod elimination;
 pub mod layout;

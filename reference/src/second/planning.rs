@@ -5,15 +5,20 @@ use super::plan::{parities, take_words, Plan};
 use super::set::{read_set, Set};
 use super::*;
 
-/// What a call that makes words answers, and the columns if it got past 14.
+/// "Words are to come from a working list of 64 places" (document 02, No. 3).
+pub const WORKING: usize = 64;
+
+/// What a call that makes words answers, and what the front of its working list holds after it: "Past 14, those 64 hold zero when the
+/// call ends, accepted or not." Before that nothing is written.
 pub struct Planning<T> {
     pub reply: Reply<T>,
-    pub columns: Option<Vec<u64>>,
+    pub working: Vec<u64>,
 }
 
+/// "Refusal 14 in planning now means fewer than 64 places."
 fn past_14(bytes: &[u8], room: usize) -> Reply<Set> {
     let set = read_set(bytes)?;
-    refuse_if(room < set.unknowns().len(), 14)?;
+    refuse_if(room < WORKING, 14)?;
     Ok(set)
 }
 
@@ -25,23 +30,26 @@ fn words_of(m: usize, columns: &[u64], room: usize) -> Reply<Vec<u64>> {
     Ok(words)
 }
 
-/// The words of a set: m and the words.
-pub fn plan_words(bytes: &[u8], column_room: usize, word_room: usize) -> Planning<(u64, Vec<u64>)> {
-    let set = match past_14(bytes, column_room) {
+/// The words of a set: m and the words. They come from a list of all columns, which is this function's own.
+pub fn plan_words(
+    bytes: &[u8],
+    working_room: usize,
+    word_room: usize,
+) -> Planning<(u64, Vec<u64>)> {
+    let set = match past_14(bytes, working_room) {
         Ok(set) => set,
         Err(n) => {
             return Planning {
                 reply: Err(n),
-                columns: None,
+                working: vec![],
             }
         }
     };
-    let columns = set.columns();
     let m = set.circuit.m;
-    let reply = words_of(m, &columns, word_room).map(|words| (m as u64, words));
+    let reply = words_of(m, &set.columns(), word_room).map(|words| (m as u64, words));
     Planning {
         reply,
-        columns: Some(columns),
+        working: vec![0; WORKING],
     }
 }
 
@@ -53,16 +61,16 @@ pub fn expect(bytes: &[u8], words: &[u64]) -> Reply<u64> {
 }
 
 /// Planning: the words, and then the expected bits for them.
-pub fn plan(bytes: &[u8], column_room: usize, word_room: usize) -> Planning<Plan> {
-    let Planning { reply, columns } = plan_words(bytes, column_room, word_room);
+pub fn plan(bytes: &[u8], working_room: usize, word_room: usize) -> Planning<Plan> {
+    let Planning { reply, working } = plan_words(bytes, working_room, word_room);
     let reply = reply.and_then(|(m, words)| {
         let expected = expect(bytes, &words)?;
         Ok(Plan { m, words, expected })
     });
-    Planning { reply, columns }
+    Planning { reply, working }
 }
 
-/// The plan printer's output.
+/// The plan printer's output. "The printer still lends 4,096 and prints 14 no more."
 pub fn printed(bytes: &[u8]) -> String {
     match plan(bytes, 4096, 64).reply {
         Err(n) => format!("refused {n}\n"),

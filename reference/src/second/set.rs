@@ -286,7 +286,8 @@ pub fn sign(bytes: &[u8], record: &[u8]) -> Reply<u64> {
     Ok(word_of(&set.circuit.signature(&slices)))
 }
 
-/// The columns, for a lent list of `room` places.
+/// The columns, for a lent list of `room` places. "The call that lists columns keeps its own rule" (document 02, No. 3): 14 for a list
+/// "shorter than the number of unknown cells".
 pub fn list_columns(bytes: &[u8], room: usize) -> Reply<Vec<u64>> {
     let set = read_set(bytes)?;
     refuse_if(room < set.unknowns().len(), 14)?;

@@ -16,7 +16,7 @@ fn add_column(words: &mut [u64], column: u64) -> usize {
 }
 
 /// The parities of every byte of a column with the words.
-fn byte_table(words: &[u64]) -> [u64; 2048] {
+pub fn byte_table(words: &[u64]) -> [u64; 2048] {
     let mut bits = [0; 64];
     for (i, entry) in bits.iter_mut().enumerate() {
         *entry = parities(words, 1 << i);
@@ -38,10 +38,9 @@ fn looked_up(table: &[u64; 2048], column: u64) -> u64 {
     entries.fold(0, |all, (entry, byte)| all ^ entry[usize::from(byte)])
 }
 
-/// How many of the columns are even with all the words, up to the first that isn't.
-fn skip_even(words: &[u64], columns: &[u64]) -> usize {
-    let table = byte_table(words);
-    let first = columns.iter().position(|&c| looked_up(&table, c) != 0);
+/// How many of the columns are even with all the words whose table it is, up to the first that isn't.
+pub fn skip_by_table(table: &[u64; 2048], columns: &[u64]) -> usize {
+    let first = columns.iter().position(|&c| looked_up(table, c) != 0);
     first.unwrap_or(columns.len())
 }
 
@@ -54,11 +53,11 @@ fn next_place(words: &[u64], before: usize, columns: &[u64], from: usize) -> usi
     if (columns.len() - from) / 64 * count < 256 {
         return from;
     }
-    from + skip_even(words, &columns[from..])
+    from + skip_by_table(&byte_table(words), &columns[from..])
 }
 
 /// How many words are left, at the front of `held`.
-fn reduce(held: &mut [u64], columns: &[u64]) -> usize {
+pub fn reduce(held: &mut [u64], columns: &[u64]) -> usize {
     let mut left = held.len();
     let mut i = 0;
     while i < columns.len() {
@@ -72,6 +71,24 @@ fn reduce(held: &mut [u64], columns: &[u64]) -> usize {
     left
 }
 
+/// The words of the 64 single bits.
+pub fn unit_words() -> [u64; 64] {
+    std::array::from_fn(|i| 1 << i)
+}
+
+/// The words over the front of the list, and how many there are.
+pub fn put_words(held: &[u64], words: &mut [u64]) -> Result<usize, u64> {
+    let q = held.len();
+    if q == 0 {
+        return Err(17);
+    }
+    if words.len() < q {
+        return Err(18);
+    }
+    words[..q].copy_from_slice(held);
+    Ok(q)
+}
+
 /// The elimination: the words over the front of the list, and the rank and q.
 pub fn eliminate(m: u64, columns: &[u64], words: &mut [u64]) -> Result<(u64, usize), u64> {
     if !(1..=64).contains(&m) {
@@ -80,17 +97,8 @@ pub fn eliminate(m: u64, columns: &[u64], words: &mut [u64]) -> Result<(u64, usi
     if m < 64 && beyond(m, columns.iter().fold(0, |a, c| a | c)) {
         return Err(15);
     }
-    let mut held = [0u64; 64];
-    for (i, w) in held.iter_mut().enumerate() {
-        *w = 1 << i;
-    }
-    let q = reduce(&mut held[..m as usize], columns);
-    if q == 0 {
-        return Err(17);
-    }
-    if words.len() < q {
-        return Err(18);
-    }
-    words[..q].copy_from_slice(&held[..q]);
+    let mut held = unit_words();
+    let left = reduce(&mut held[..m as usize], columns);
+    let q = put_words(&held[..left], words)?;
     Ok((m - q as u64, q))
 }

@@ -6,6 +6,7 @@ pub mod elimination;
 pub mod plan;
 pub mod response;
 pub mod set;
+pub mod words;
 
 /// The count of two bytes at place `at`, which are there.
 fn count(bytes: &[u8], at: usize) -> usize {

@@ -1,8 +1,10 @@
-//! Responses: a record's signature, the signature for all unknowns 0, and the columns; and planning, its words and its expected bits.
+//! Responses: a record's signature, the signature for all unknowns 0, and the columns; and planning, its words and its expected bits,
+//! also the way it was before it had a working list, by listing all columns.
 
 use super::elimination::eliminate;
 use super::plan::{is_bad_word_count, is_reduced};
 use super::set::{head_length, next_state, read_set, Read};
+use super::words::fill_words;
 use super::*;
 
 /// The XORs of the spread words of each half byte of a row.
@@ -47,14 +49,14 @@ pub fn sign(set: &[u8], record: &[u8]) -> Result<u64, u64> {
     Ok(run_rows(read, &spread[..read.n], record, b, b))
 }
 
-fn mark_row(set: &[u8], n: usize, t: usize) -> &[u8] {
+pub fn mark_row(set: &[u8], n: usize, t: usize) -> &[u8] {
     let b = n.div_ceil(8);
     let at = head_length(n) + 2 * b * t + b;
     &set[at..at + b]
 }
 
 /// The unknown cells, by four words of 64 marks for each row.
-fn count_unknowns(set: &[u8], read: Read) -> usize {
+pub fn count_unknowns(set: &[u8], read: Read) -> usize {
     let mut found = 0;
     for t in 0..read.s {
         let row = mark_row(set, read.n, t);
@@ -65,25 +67,42 @@ fn count_unknowns(set: &[u8], read: Read) -> usize {
     found
 }
 
-/// The words of a row's marked chains over the end of the list, by words of 64 marks; how many places stand before them. (The
-/// library has a second way here, for lists that are too short: no call comes to it.)
+/// Marks 64 i to 64 i + 63 of a row, as far as there are chains.
+pub fn marks_at(row: &[u8], i: usize, chains: usize) -> u64 {
+    let left = chains - 64 * i;
+    let mask = if left < 64 { (1 << left) - 1 } else { u64::MAX };
+    word(row, 8 * i) & mask
+}
+
+/// The words of the marked chains over the end of the list; how many places stand before them. (The library has a second way here, for
+/// lists that are too short: no call comes to it.)
+pub fn list_word(columns: &mut [u64], words: &[u64], mut marks: u64) -> usize {
+    if marks == 0 {
+        return columns.len();
+    }
+    let place = columns.len() - marks.count_ones() as usize;
+    for column in &mut columns[place..] {
+        *column = words[marks.trailing_zeros() as usize];
+        marks &= marks - 1;
+    }
+    place
+}
+
+/// The words of a row's marked chains over the end of the list, by words of 64 marks; how many places stand before them.
 fn list_row(columns: &mut [u64], words: &[u64], row: &[u8]) -> usize {
     let mut place = columns.len();
     for i in (0..words.len().div_ceil(64)).rev() {
-        let left = words.len() - 64 * i;
-        let mask = if left < 64 { (1 << left) - 1 } else { u64::MAX };
-        let mut marks = word(row, 8 * i) & mask;
-        if marks == 0 {
-            continue;
-        }
-        let end = place;
-        place -= marks.count_ones() as usize;
-        for column in &mut columns[place..end] {
-            *column = words[64 * i + marks.trailing_zeros() as usize];
-            marks &= marks - 1;
-        }
+        let marks = marks_at(row, i, words.len());
+        place = list_word(&mut columns[..place], &words[64 * i..], marks);
     }
     place
+}
+
+/// Advances each word by one clock.
+pub fn advance_words(read: Read, words: &mut [u64]) {
+    for w in words {
+        *w = next_state(read.m, read.taps, *w);
+    }
 }
 
 /// From the last slice on, all chains' words advanced by one clock for each.
@@ -93,14 +112,12 @@ fn fill_swept(set: &[u8], read: Read, spread: &[u64; 256], columns: &mut [u64]) 
     let mut place = columns.len();
     for t in (0..read.s).rev() {
         place = list_row(&mut columns[..place], words, mark_row(set, read.n, t));
-        for w in &mut *words {
-            *w = next_state(read.m, read.taps, *w);
-        }
+        advance_words(read, words);
     }
 }
 
 /// The word 1 after 0 to 575 clocks.
-fn powers(read: Read) -> [u64; 576] {
+pub fn powers(read: Read) -> [u64; 576] {
     let mut table = [0u64; 576];
     let mut power = 1;
     for entry in &mut table {
@@ -108,6 +125,16 @@ fn powers(read: Read) -> [u64; 576] {
         power = next_state(read.m, read.taps, power);
     }
     table
+}
+
+/// Puts for each word the XOR of the powers whose bit in it is 1.
+pub fn power_words(powers: &[u64], words: &mut [u64]) {
+    for word in words {
+        let w = *word;
+        let bit = |k: usize| (w >> k & 1).wrapping_neg();
+        let chosen = powers.iter().enumerate().map(|(k, p)| p & bit(k));
+        *word = chosen.fold(0, |a, p| a ^ p);
+    }
 }
 
 /// Each column from the powers of the register: bit i of the spread word, j clocks later, is bit 0 after i + j clocks.
@@ -118,12 +145,7 @@ fn fill_sparse(set: &[u8], read: Read, spread: &[u64; 256], columns: &mut [u64])
         let row = mark_row(set, read.n, t);
         let start = list_row(&mut columns[..place], &spread[..read.n], row);
         let later = &table[read.s - 1 - t..][..read.m as usize];
-        for column in &mut columns[start..place] {
-            let w = *column;
-            let bit = |k: usize| (w >> k & 1).wrapping_neg();
-            let chosen = later.iter().enumerate().map(|(k, p)| p & bit(k));
-            *column = chosen.fold(0, |a, p| a ^ p);
-        }
+        power_words(later, &mut columns[start..place]);
         place = start;
     }
 }
@@ -153,8 +175,8 @@ pub fn list_columns(set: &[u8], columns: &mut [u64]) -> Result<usize, u64> {
     listed(set, read, &spread, columns)
 }
 
-/// The words of a set that was read: how many they are.
-fn fill_words(
+/// The words of a set that was read, from a list of all columns: how many they are.
+fn words_of_all_columns(
     set: &[u8],
     read: Read,
     spread: &[u64; 256],
@@ -166,6 +188,9 @@ fn fill_words(
     Ok(q)
 }
 
+/// Makes the words of a set that was read: of a working list, or of a column list.
+type FillWords = fn(&[u8], Read, &[u64; 256], &mut [u64], &mut [u64]) -> Result<usize, u64>;
+
 /// The expected bits of words for a set that was read.
 fn expected_bits(set: &[u8], read: Read, spread: &[u64; 256], words: &[u64]) -> u64 {
     let b = read.n.div_ceil(8);
@@ -174,11 +199,25 @@ fn expected_bits(set: &[u8], read: Read, spread: &[u64; 256], words: &[u64]) -> 
     parities(words, zero)
 }
 
-/// The words: m and q.
-pub fn plan_words(set: &[u8], columns: &mut [u64], words: &mut [u64]) -> Result<[u64; 2], u64> {
+fn worded(
+    set: &[u8],
+    list: &mut [u64],
+    words: &mut [u64],
+    fill: FillWords,
+) -> Result<[u64; 2], u64> {
     let (read, spread) = read_set(set)?;
-    let q = fill_words(set, read, &spread, columns, words)?;
+    let q = fill(set, read, &spread, list, words)?;
     Ok([read.m, q as u64])
+}
+
+/// The words: m and q.
+pub fn plan_words(set: &[u8], working: &mut [u64], words: &mut [u64]) -> Result<[u64; 2], u64> {
+    worded(set, working, words, fill_words)
+}
+
+/// .. by listing all columns.
+pub fn list_and_word(set: &[u8], columns: &mut [u64], words: &mut [u64]) -> Result<[u64; 2], u64> {
+    worded(set, columns, words, words_of_all_columns)
 }
 
 /// The expected bits of a list of words.
@@ -193,10 +232,24 @@ pub fn expect(set: &[u8], words: &[u64]) -> Result<u64, u64> {
     Ok(expected_bits(set, read, &spread, words))
 }
 
-/// Planning: m, q and the expected bits; the set is read once.
-pub fn plan(set: &[u8], columns: &mut [u64], words: &mut [u64]) -> Result<[u64; 3], u64> {
+fn planned(
+    set: &[u8],
+    list: &mut [u64],
+    words: &mut [u64],
+    fill: FillWords,
+) -> Result<[u64; 3], u64> {
     let (read, spread) = read_set(set)?;
-    let q = fill_words(set, read, &spread, columns, words)?;
+    let q = fill(set, read, &spread, list, words)?;
     let expected = expected_bits(set, read, &spread, &words[..q]);
     Ok([read.m, q as u64, expected])
+}
+
+/// Planning: m, q and the expected bits; the set is read once.
+pub fn plan(set: &[u8], working: &mut [u64], words: &mut [u64]) -> Result<[u64; 3], u64> {
+    planned(set, working, words, fill_words)
+}
+
+/// .. by listing all columns.
+pub fn list_and_plan(set: &[u8], columns: &mut [u64], words: &mut [u64]) -> Result<[u64; 3], u64> {
+    planned(set, columns, words, words_of_all_columns)
 }

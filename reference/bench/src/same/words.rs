@@ -1,0 +1,157 @@
+//! The words of a set from portions of its columns, as many as a working list of 64 places takes, from the last column on.
+
+use super::elimination::{byte_table, put_words, reduce, skip_by_table, unit_words};
+use super::response::*;
+use super::set::Read;
+use super::*;
+
+/// As much of a row as there is room for, over the end of the list: by words of 64 marks, up to the first that doesn't fit. How many
+/// places stand before it, and how many chains are left.
+fn list_fitting(columns: &mut [u64], words: &[u64], row: &[u8]) -> (usize, usize) {
+    let chains = words.len();
+    let mut place = columns.len();
+    for i in (0..chains.div_ceil(64)).rev() {
+        let marks = marks_at(row, i, chains);
+        if marks != 0 && place < marks.count_ones() as usize {
+            return (place, chains.min(64 * (i + 1)));
+        }
+        place = list_word(&mut columns[..place], &words[64 * i..], marks);
+    }
+    (place, 0)
+}
+
+/// Which columns are left: those of the first t slices, but that in the last of these only the first `chains` chains are left. In a
+/// list with a portion so many places stand before it.
+struct Portion {
+    t: usize,
+    chains: usize,
+    place: usize,
+}
+
+/// Where the marked cells come from, and the powers of the register, or none.
+#[derive(Clone, Copy)]
+struct Source<'a> {
+    set: &'a [u8],
+    read: Read,
+    powers: &'a [u64],
+}
+
+/// Fills a list from its end. `words` are those of the chains for the slice that comes next; with powers they stay the spread words.
+fn fill_portion(
+    source: Source,
+    words: &mut [u64],
+    columns: &mut [u64],
+    (mut t, mut chains): (usize, usize),
+) -> Portion {
+    let Source { set, read, powers } = source;
+    let mut place = columns.len();
+    while 0 < t {
+        let row = mark_row(set, read.n, t - 1);
+        let (start, left) = list_fitting(&mut columns[..place], &words[..chains], row);
+        if !powers.is_empty() {
+            let later = &powers[read.s - t..][..read.m as usize];
+            power_words(later, &mut columns[start..place]);
+        }
+        place = start;
+        chains = left;
+        if 0 < chains {
+            break;
+        }
+        if powers.is_empty() {
+            advance_words(read, words);
+        }
+        t -= 1;
+        chains = words.len();
+    }
+    Portion { t, chains, place }
+}
+
+/// How far the work has come: the columns that are left, as after a portion; how many words are left, and about how many columns;
+/// whether the last portion took at most one word away.
+#[derive(Clone, Copy)]
+struct Progress {
+    t: usize,
+    chains: usize,
+    left: usize,
+    more: usize,
+    calm: bool,
+}
+
+fn is_table_worth(at: Progress, words: usize) -> bool {
+    2 <= words && at.calm && 256 <= at.more / 64 * words
+}
+
+/// The next portion: its columns through the elimination. With a table of the words, first all portions that leave them as they are.
+fn add_next(
+    source: Source,
+    words: &mut [u64],
+    working: &mut [u64],
+    held: &mut [u64],
+    mut at: Progress,
+) -> Progress {
+    let worth = is_table_worth(at, held.len());
+    let table = worth.then(|| byte_table(held));
+    while 0 < at.t {
+        let portion = fill_portion(source, words, working, (at.t, at.chains));
+        let columns = &working[portion.place..];
+        (at.t, at.chains) = (portion.t, portion.chains);
+        at.more = at.more.saturating_sub(columns.len());
+        at.calm = true;
+        let even = table.as_ref().map_or(0, |t| skip_by_table(t, columns));
+        if even < columns.len() || table.is_none() {
+            at.left = reduce(held, &columns[even..]);
+            at.calm = held.len() - at.left < 2;
+            break;
+        }
+    }
+    at
+}
+
+/// How many words are left, at the front of `held`.
+fn reduce_all(
+    source: Source,
+    words: &mut [u64],
+    working: &mut [u64],
+    held: &mut [u64],
+    unknowns: usize,
+) -> usize {
+    let mut at = Progress {
+        t: source.read.s,
+        chains: words.len(),
+        left: held.len(),
+        more: unknowns,
+        calm: false,
+    };
+    while 0 < at.t {
+        if at.left == 0 {
+            return 0;
+        }
+        at = add_next(source, words, working, &mut held[..at.left], at);
+    }
+    at.left
+}
+
+/// The words of a set that was read: how many they are. Up to 512 columns are made one by one; for more, all the chains' words are
+/// advanced together.
+pub fn fill_words(
+    set: &[u8],
+    read: Read,
+    spread: &[u64; 256],
+    working: &mut [u64],
+    words: &mut [u64],
+) -> Result<usize, u64> {
+    let Some(working) = working.get_mut(..64) else {
+        return Err(14);
+    };
+    let mut held = unit_words();
+    let mut all = *spread;
+    let unknowns = count_unknowns(set, read);
+    let many = unknowns > 512 || bad_spread(read.m, &spread[..read.n]);
+    let table = (!many).then(|| powers(read));
+    let powers = table.as_ref().map_or(&[][..], |p| p);
+    let source = Source { set, read, powers };
+    let (words_of_chains, held_words) = (&mut all[..read.n], &mut held[..read.m as usize]);
+    let left = reduce_all(source, words_of_chains, working, held_words, unknowns);
+    working.fill(0);
+    put_words(&held[..left], words)
+}
