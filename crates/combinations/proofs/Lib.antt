@@ -7,3 +7,4 @@ pub mod Listed
 pub mod Reducing
 pub mod Passing
 pub mod Theorems
+pub mod Portions

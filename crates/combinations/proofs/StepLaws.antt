@@ -3,7 +3,7 @@
 use mathlib.Core.Path.{_≡_, refl, sym, ap, ap₂, _∙_}
 use mathlib.Core.Bool.{Bool, true, false, _&&_, _||_, and-comm, and-assoc, and-true, or-comm, or-false}
 use mathlib.Core.Logic.{_⊎_, ⊎-elim}
-use mathlib.Core.List.{List, [], _∷_}
+use mathlib.Core.List.{List, [], _∷_, _++_}
 use Prim.Native.Nat.{ℕ, suc, _+_, _%_, _<_}
 use native.Mathlib.Omega.{arith}
 use borrow.Author.Tests.{eqb-true, eq-eqb}
@@ -141,6 +141,11 @@ step-span c (w ∷ ws) y =
     ∙ and-comm (even c y) (isXorOf ws y || isXorOf ws (bitXor w y))
     ∙ ap (λ (a : Bool). a && even c y) (sym (xor-of-cons w ws y)))
     (parity-cases w c)
+
+pub steps-append : (cs ds ws : List ℕ) → steps (cs ++ ds) ws ≡ steps ds (steps cs ws)
+unfolding steps
+steps-append [] ds ws = refl
+steps-append (c ∷ cs) ds ws = steps-append cs ds (step c ws)
 
 pub steps-span : (cs ws : List ℕ) (y : ℕ) → isXorOf (steps cs ws) y ≡ (isXorOf ws y && xFree cs y)
 unfolding steps xFree

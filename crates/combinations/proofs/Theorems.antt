@@ -8,7 +8,8 @@
 --   words-and-rank         the words and the rank make m together
 --   only-empty-list        17 applies exactly when the list is empty
 --   only-empty-explains    .. exactly when every word below 2 ^ m is an XOR of the columns (and explains-only-empty)
---   step-reduced           one column more is one step more
+--   portion-after          a portion of columns more is one step more for each
+--   step-reduced           .. and one column more is one step
 --
 -- For any list of words:
 --
@@ -44,7 +45,7 @@ use Rattle.combinations.specs.Pass.{follows, withTop, onePass}
 use Rattle.combinations.specs.Step.{step, steps, units}
 use Rattle.combinations.proofs.XFree.{x-free-zero, x-free-head}
 use Rattle.word.proofs.SpanLaws.{xor-of-head}
-use Rattle.combinations.proofs.StepLaws.{steps-span, step-dual, step-same, step-less}
+use Rattle.combinations.proofs.StepLaws.{steps-append, steps-span, step-dual, step-same, step-less}
 use Rattle.combinations.proofs.Tops.{Tops, tops-cons, tops-steps, tops-unique, span-below, top-positive, top-digit}
 use Rattle.combinations.proofs.Units.{units-tops, units-span, units-dual, length-units}
 use Rattle.combinations.proofs.Listed.{listed-tops, listed-span}
@@ -66,13 +67,13 @@ kept-list m cs =
     let l : y < 2 ^ m = span-below m (tops-steps m cs (units-tops m)) y h in
     listed-span m cs y l ∙ and-right (isXorOf (units m) y) _ (sym (steps-span cs (units m) y) ∙ h)))
 
-steps-snoc : (cs : List ℕ) (c : ℕ) (ws : List ℕ) → steps (cs ++ c ∷ []) ws ≡ step c (steps cs ws)
-unfolding steps
-steps-snoc [] c ws = refl
-steps-snoc (d ∷ cs) c ws = steps-snoc cs c (step d ws)
+-- the columns of one portion, then those of another
+pub portion-after : (m : ℕ) (cs ds : List ℕ) → reducedList m (cs ++ ds) ≡ steps ds (reducedList m cs)
+portion-after m cs ds = kept-list m (cs ++ ds) ∙ steps-append cs ds (units m) ∙ ap (steps ds) (sym (kept-list m cs))
 
 pub step-reduced : (m : ℕ) (cs : List ℕ) (c : ℕ) → reducedList m (cs ++ c ∷ []) ≡ step c (reducedList m cs)
-step-reduced m cs c = kept-list m (cs ++ c ∷ []) ∙ steps-snoc cs c (units m) ∙ ap (step c) (sym (kept-list m cs))
+unfolding steps
+step-reduced m cs c = portion-after m cs (c ∷ [])
 
 -- ---- 1 and 2: the list, and the X-free combinations
 

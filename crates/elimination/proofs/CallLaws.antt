@@ -6,7 +6,7 @@ use Prim.Native.Nat.{ℕ, _+_, _-_, _<_, _≤_}
 use native.Mathlib.Omega.{arith}
 use borrow.Author.Tests.{le-ltb, lt-ltb, eq-eqb, ne-eqb}
 use lib.ListN.{length, take, drop, length-append}
-use lib.Seq.{take-append-le, length-take-le}
+use lib.Seq.{take-all, take-append-le, length-take-le}
 use Rattle.word.proofs.ReplyLaws.{Leaves, refusal-leaves, answer-leaves}
 use Rattle.word.specs.Word.{beyond, badWidth}
 use Rattle.word.specs.Some.{anyOf}
@@ -65,12 +65,12 @@ done-reply m cs l q g n h =
 
 -- `from` is what was written over the front
 pub ends-done : (m : ℕ) (cs l l′ from : List ℕ) (q : ℕ) → Kept m cs q → (q ≡ 0 → ⊥) → q ≤ length l → from ≡ reducedList m cs
-    → (length from ≤ length l → l′ ≡ front from l) → Ends m cs l (Done (m - q) q) l′
+    → l′ ≡ front (take (length l) from) l → Ends m cs l (Done (m - q) q) l′
 ends-done m cs l l′ from q g n h e w =
     let ranked : m - q ≡ rank cs = omega (arith, words-and-rank m cs (g .columns), g .count) in
     let fits : length from ≤ length l = omega (arith, ap length e, g .count) in
     answer-leaves _ _ _ (reducedList m cs) l l′ (done-reply m cs l q g n h)
-    (ap₂ (λ (x y : ℕ). answer (record { rank = x; q = y })) ranked (g .count)) (w fits ∙ ap (λ (x : List ℕ). front x l) e)
+    (ap₂ (λ (x y : ℕ). answer (record { rank = x; q = y })) ranked (g .count)) (w ∙ ap (λ (x : List ℕ). front x l) (take-all (length l) from fits ∙ e))
 
 -- ---- the words that the steps leave
 

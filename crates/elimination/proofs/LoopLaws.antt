@@ -1,7 +1,7 @@
 -- The start, turn and end of the loops over columns and over words. Assumes nothing.
-use mathlib.Core.Path.{_≡_, refl, sym, ap, _∙_, subst}
+use mathlib.Core.Path.{_≡_, refl, sym, ap, ap₂, _∙_, subst}
 use mathlib.Core.Bool.{Bool, true, false, _||_}
-use mathlib.Core.List.{List, [], _∷_, _++_}
+use mathlib.Core.List.{List, [], _∷_, _++_, append-nil}
 use Prim.Native.Nat.{ℕ, zero, suc, _+_, _-_, _*_, _%_, _^_, _<_, _≤_}
 use native.Mathlib.Nat.{le-refl, lt-of-lt-of-le, le-add-left, zero-add, suc-add, sub-add-cancel}
 use native.Mathlib.Numerals.{add-one}
@@ -15,11 +15,12 @@ use lib.Seq.{drop-cons, take-all, take-length, take-append-le, take-append-seam,
 use Rattle.word.specs.Word.{beyond}
 use Rattle.word.specs.Some.{anyOf, anyBelow}
 use Rattle.word.specs.Reply.{front}
-use Rattle.word.proofs.FrontLaws.{front-nothing, front-next, front-whole}
+use Rattle.word.specs.Zeros.{zeros, filled}
 use Rattle.word.proofs.SomeLaws.{any-of-below, any-of-none}
 use Rattle.word.proofs.WordLaws.{not-beyond}
 use Rattle.combinations.specs.Step.{step, steps, units}
 use Rattle.elimination.specs.Code.{orBelow}
+use Rattle.combinations.proofs.Portions.{steps-most}
 use Rattle.combinations.proofs.Units.{length-units, one-bit, next-taken}
 
 -- ---- the OR of the columns
@@ -90,20 +91,6 @@ units-prefix m (suc d) =
 pub units-front : (m : ℕ) → m ≤ 64 → take m (units 64) ≡ units m
 units-front m h = ap (λ (n : ℕ). take m (units n)) (omega (arith, sub-add-cancel h)) ∙ units-prefix m (64 - m)
 
--- ---- words written over the front of a list
-
-pub written-start : (l : List ℕ) → l ≡ front [] l
-written-start l = sym (front-nothing l)
-
-pub written-turn : (vs l ws : List ℕ) (i : ℕ) → ws ≡ front (take i vs) l → i < length vs → i < length l → set ws i (getD vs i 0) ≡ front (take (i + 1) vs) l
-written-turn vs l ws i e hv hl =
-    ap (λ (x : List ℕ). set x i (getD vs i 0)) e ∙ front-next i vs l hv hl ∙ ap (λ (n : ℕ). front (take n vs) l) (sym (add-one i))
-
-pub written-end : (vs l ws : List ℕ) (i : ℕ) → ws ≡ front (take i vs) l → i ≤ length vs → length vs ≤ i → ws ≡ front vs l
-written-end vs l ws i e a b =
-    let all : i ≡ length vs = omega arith in
-    e ∙ ap (λ (n : ℕ). front (take n vs) l) all ∙ front-whole vs l
-
 -- ---- the columns one after the other
 
 pub record Reduced (cs l ws : List ℕ) (left i : ℕ) : Type 0 where
@@ -164,3 +151,21 @@ unfolding steps
 reduced-end cs l ws left i r h =
     let all : take left ws ≡ steps cs l = ap (λ (x : List ℕ). steps x (take left ws)) (sym (drop-of-length-le cs h)) ∙ r .done in
     (sym (length-take-le left ws (r .left-long)) ∙ ap length all, all)
+
+-- ---- a portion: the places behind the words are cleared
+
+-- `left` words are left, at the front of `last`, and vs is what stands behind them then
+module _ (cs ws last : List ℕ) (left : ℕ) (count : left ≡ length (steps cs ws)) (long : length last ≡ length ws) where
+  pub left-inside : left ≤ length last
+  left-inside = omega (arith, steps-most cs ws)
+
+  pub portion-ends : (part vs : List ℕ) → take left last ≡ steps cs ws → part ≡ take (length last - left) (drop left last) → vs ≡ zeros (length part)
+      → take left last ++ (vs ++ drop (length last - left) (drop left last)) ≡ filled (steps cs ws) (length ws)
+  portion-ends part vs kept ep ev =
+      let rest : length (drop left last) ≡ length last - left = length-drop left last in
+      let many : length part ≡ length ws - length (steps cs ws) =
+      ap length ep ∙ length-take-le (length last - left) (drop left last) (omega arith) ∙ omega arith
+      in
+      ap₂ (λ (x y : List ℕ). x ++ y) kept
+      (ap₂ (λ (x y : List ℕ). x ++ y) (ev ∙ ap zeros many) (drop-of-length-le (drop left last) {i = length last - left} (omega arith))
+      ∙ append-nil (zeros (length ws - length (steps cs ws))))

@@ -5,6 +5,7 @@ ghost use lib.ListN.{length, take, drop};
 ghost use Rattle.word.specs.Word.{beyond};
 ghost use Rattle.word.specs.Some.{anyOf};
 ghost use Rattle.word.specs.Reply.{front, lent, numberOf};
+ghost use Rattle.word.specs.Zeros.{filled};
 ghost use Rattle.combinations.specs.Reduced.{reducedList};
 ghost use Rattle.combinations.specs.Step.{steps, units};
 ghost use Rattle.elimination.specs.Code.{orBelow};

@@ -4,14 +4,14 @@ use mathlib.Core.Path.{_≡_, refl, sym, ap, ap₂, subst, _∙_}
 use mathlib.Core.Logic.{dite}
 use mathlib.Core.List.{List, [], _∷_, _++_, append-assoc, append-nil}
 use Prim.Native.Nat.{ℕ, zero, suc, _+_, _-_, _*_, _/_, _%_, _^_, _≤_, _<_, min}
-use native.Mathlib.Nat.{mod-lt, one-mul, div-eq-of-lt-le, pow-suc, pos-of-ne-zero}
+use native.Mathlib.Nat.{mod-lt, one-mul, div-eq-of-lt-le, pow-suc, pos-of-ne-zero, lt-of-lt-of-le}
 use native.Mathlib.Numerals.{add-one}
 use native.Mathlib.Decide.{decLe}
 use native.Mathlib.Omega.{arith}
 use lib.Bits.{bitAnd, and-mask}
 use lib.Count.{ones, leadingZeros, leading-top}
 use lib.ListN.{length, take, drop, getD, set, length-set, length-append, length-drop, take-append-drop}
-use lib.Pow.{pow-pos, shl-exact, low}
+use lib.Pow.{pow-pos, pow-mono, shl-exact, low}
 use lib.Seq.{take-suc-set, append-snoc, take-all, take-length, drop-length, length-take-le, length-front, take-append-le, drop-append-le, getD-drop}
 use Rattle.word.specs.Word.{digit, lowMask, highestBit}
 use Rattle.numbers.specs.Bytes.{wordAt}
@@ -257,13 +257,19 @@ module _ (ws row : List ℕ) where
   pub wordsFrom : ℕ → List ℕ
   wordsFrom c = rest word c (length ws - c)
 
-  words-from-end : (c : ℕ) → length ws ≤ c → wordsFrom c ≡ []
+  pub words-from-end : (c : ℕ) → length ws ≤ c → wordsFrom c ≡ []
   unfolding wordsFrom
   words-from-end c h = let none : length ws - c ≡ 0 = omega arith in ap (rest word c) none ∙ rest-none word c
 
   words-from-start : wordsFrom 0 ≡ markedWords ws (cell row) (length ws)
   unfolding wordsFrom
   words-from-start = let all : length ws - 0 ≡ length ws = omega arith in ap (rest word 0) all ∙ rest-whole word (length ws)
+
+  -- the words before the chain c, and those from it on
+  pub words-split : (c : ℕ) → c ≤ length ws → markedWords ws (cell row) (length ws) ≡ markedWords ws (cell row) c ++ wordsFrom c
+  unfolding wordsFrom
+  words-split c h =
+      let whole : length ws ≡ c + (length ws - c) = omega arith in ap (joined word) whole ∙ sym (joined-rest word c (length ws - c))
 
   -- the words from c on, the first j of them apart
   words-from-parts : (c j : ℕ) → c + j ≤ length ws → wordsFrom c ≡ joined (λ d. word (c + d)) j ++ wordsFrom (c + j)
@@ -305,9 +311,36 @@ module _ (ws row : List ℕ) where
     unfolding many
     words-from-word = words-from-parts (64 * i) many (omega arith) ∙ ap₂ (λ (x y : List ℕ). x ++ y) (sym word-first) word-rest
 
+    pub marks-small : marks < 2 ^ 64
+    unfolding many
+    marks-small =
+        let below : marks < 2 ^ many = rw masked (mod-lt (wordAt row (8 * i)) (pow-pos many)) in
+        let most : many ≤ 64 = omega arith in
+        lt-of-lt-of-le below (pow-mono most)
+
+  -- the words from a word of 64 chains on, and that it has one for each of its marks; vs are the words that it is lent
+  module _ (bytes : (i : ℕ) → getD row i 0 < 256) (vs : List ℕ) (i mask marks : ℕ) (h : 0 < i) (m : 64 * (i - 1) < length ws)
+      (em : mask ≡ lowMask (length ws - 64 * (i - 1))) (ek : marks ≡ bitAnd (wordAt row (8 * (i - 1))) mask)
+      (ev : vs ≡ take (length ws - 64 * (i - 1)) (drop (64 * (i - 1)) ws)) where
+    pub one-word-more : wordsFrom (64 * (i - 1)) ≡ markedWords vs (bits marks) 64 ++ wordsFrom (64 * i)
+    one-word-more =
+        let next : 64 * (i - 1) + 64 ≡ 64 * i = omega arith in
+        let lent : drop (64 * (i - 1)) ws ≡ vs =
+        sym (ev ∙ take-all (length ws - 64 * (i - 1)) (drop (64 * (i - 1)) ws) (omega (arith, length-drop (64 * (i - 1)) ws)))
+        in
+        words-from-word bytes (i - 1) mask marks m em ek
+        ∙ ap₂ (λ (x : List ℕ) (y : ℕ). markedWords x (bits marks) 64 ++ wordsFrom y) lent next
+
+    pub word-length : length (markedWords vs (bits marks) 64) ≡ ones marks
+    word-length = ap length (sym (words-of vs marks)) ∙ words-of-length vs marks (marks-small bytes (i - 1) mask marks m em ek)
+
   -- what the loop knows: the words of the chains from c on stand at the list's end, and `place` places before them
   pub Listing : List ℕ → List ℕ → ℕ → ℕ → Type 0
   Listing l₀ l place c = (place ≡ length l₀ - length (wordsFrom c)) × (l ≡ back (wordsFrom c) l₀)
+
+  pub listing-known : (l₀ l : List ℕ) (place c : ℕ) → Listing l₀ l place c → (place ≡ length l₀ - length (wordsFrom c)) × (l ≡ back (wordsFrom c) l₀)
+  unfolding Listing
+  listing-known l₀ l place c k = k
 
   pub listing-room : (l₀ l : List ℕ) (place c : ℕ) → Listing l₀ l place c → (length l ≡ length l₀) × (place ≤ length l)
   unfolding Listing
@@ -327,22 +360,15 @@ module _ (ws row : List ℕ) where
   unfolding Listing
   listing-turns bytes l₀ l l′ vs place place′ i mask marks k h m em ek ev ep el = (
     ep ∙ ap (λ (x : List ℕ). length (take place x) - length mine) (k .1)
-        ∙ back-more-room mine (wordsFrom (64 * i)) l₀ place (k .0) ∙ ap (λ (x : List ℕ). length l₀ - length x) (sym words),
+        ∙ back-more-room mine (wordsFrom (64 * i)) l₀ place (k .0)
+        ∙ ap (λ (x : List ℕ). length l₀ - length x) (sym (one-word-more bytes vs i mask marks h m em ek ev)),
     el ∙ ap (λ (x : List ℕ). back mine (take place x) ++ drop place x) (k .1)
-        ∙ back-more mine (wordsFrom (64 * i)) l₀ place (k .0) ∙ ap (λ (x : List ℕ). back x l₀) (sym words),
+        ∙ back-more mine (wordsFrom (64 * i)) l₀ place (k .0)
+        ∙ ap (λ (x : List ℕ). back x l₀) (sym (one-word-more bytes vs i mask marks h m em ek ev)),
   )
     where
       mine : List ℕ
       mine = markedWords vs (bits marks) 64
-
-      lent : drop (64 * (i - 1)) ws ≡ vs
-      lent = sym (ev ∙ take-all (length ws - 64 * (i - 1)) (drop (64 * (i - 1)) ws) (omega (arith, length-drop (64 * (i - 1)) ws)))
-
-      words : wordsFrom (64 * (i - 1)) ≡ mine ++ wordsFrom (64 * i)
-      words =
-          let next : 64 * (i - 1) + 64 ≡ 64 * i = omega arith in
-          words-from-word bytes (i - 1) mask marks m em ek
-          ∙ ap₂ (λ (x : List ℕ) (y : ℕ). markedWords x (bits marks) 64 ++ wordsFrom y) lent next
 
   pub listing-ends : (l₀ l : List ℕ) (place c : ℕ) → Listing l₀ l place c → c ≡ 0
       → (place ≡ length l₀ - length (markedWords ws (cell row) (length ws))) × (l ≡ back (markedWords ws (cell row) (length ws)) l₀)

@@ -2,13 +2,15 @@
 // numbers and rows; it knows no register and no file. Every function is total.
 ghost use mathlib.Core.Path.{_≡_};
 ghost use mathlib.Core.List.{[], _∷_};
-ghost use Prim.Native.Nat.{_-_, _≤_};
+ghost use Prim.Native.Nat.{_-_, _≤_, min};
+ghost use lib.Dec.{ltb};
 ghost use lib.Count.{ones};
 ghost use lib.ListN.{length};
 ghost use Rattle.rows.specs.Row.{cell};
 ghost use Rattle.rows.specs.Lists.{cellsOf};
 ghost use Rattle.rows.specs.Marks.{total, markedWords, bits};
 ghost use Rattle.marked_words.specs.Back.{back};
+ghost use Rattle.marked_words.specs.Fitting.{FittedIn};
 use rows::Rows;
 
 // How far a row was listed: so many places stand before the words in the list, and so many chains are left.

@@ -1,73 +1,86 @@
 -- Columns that are even with every word: the loop that passes over them, and that the words stay as they are. Assumes nothing.
-use mathlib.Core.Path.{_≡_, refl, sym, ap, _∙_}
-use mathlib.Core.Bool.{Bool, true, false}
+use mathlib.Core.Path.{_≡_, refl, sym, ap, ap₂, _∙_, subst}
+use mathlib.Core.Bool.{Bool, true, false, cond}
 use mathlib.Core.List.{List, [], _∷_}
-use Prim.Native.Nat.{ℕ, suc, _+_, _≤_, _<_}
+use Prim.Native.Nat.{ℕ, suc, _+_, _^_, _≤_, _<_}
 use native.Mathlib.Numerals.{add-one}
 use native.Mathlib.Omega.{arith}
-use borrow.Author.Tests.{eq-eqb, ne-eqb}
+use lib.Dec.{eqb}
 use lib.ListN.{length, getD, take, drop, drop-of-length-le}
-use lib.Seq.{drop-cons, drop-drop, take-all}
-use Rattle.word.specs.Parities.{parities}
+use lib.Seq.{drop-cons, drop-drop, take-all, getD-drop}
 use Rattle.combinations.specs.Combination.{xFree}
 use Rattle.combinations.specs.Step.{steps}
-use Rattle.parity_table.specs.Table.{evenRun}
+use Rattle.parity_table.specs.Table.{ParityTable, runOf, evenRun, tableRun}
+use Rattle.parity_table.proofs.TableLaws.{looked-parities}
 use Rattle.combinations.proofs.Agreeing.{even-exactly}
 use Rattle.combinations.proofs.StepLaws.{step-same}
 
-run-even : (ws cs : List ℕ) (c : ℕ) → xFree ws c ≡ true → evenRun ws (c ∷ cs) ≡ suc (evenRun ws cs)
-unfolding evenRun
-run-even ws cs c h = rw h
+run-on : (f : ℕ → Bool) (cs : List ℕ) (c : ℕ) → f c ≡ true → runOf f (c ∷ cs) ≡ suc (runOf f cs)
+unfolding runOf
+run-on f cs c h = rw h
 
-run-odd : (ws cs : List ℕ) (c : ℕ) → xFree ws c ≡ false → evenRun ws (c ∷ cs) ≡ 0
-unfolding evenRun
-run-odd ws cs c h = rw h
+run-stops : (f : ℕ → Bool) (cs : List ℕ) (c : ℕ) → f c ≡ false → runOf f (c ∷ cs) ≡ 0
+unfolding runOf
+run-stops f cs c h = rw h
 
--- ---- the loop: the columns from `from` to i are even with every word
+-- ---- the loop: f holds of the columns from `from` to i
 
-pub Skipped : List ℕ → List ℕ → ℕ → ℕ → Type 0
-Skipped ws cs from i = from + evenRun ws (drop from cs) ≡ i + evenRun ws (drop i cs)
+pub Skipped : (ℕ → Bool) → List ℕ → ℕ → ℕ → Type 0
+Skipped f cs from i = from + runOf f (drop from cs) ≡ i + runOf f (drop i cs)
 
-module _ (ws cs : List ℕ) (from : ℕ) where
-  pub skipped-start : Skipped ws cs from from
+module _ (f : ℕ → Bool) (cs : List ℕ) (from : ℕ) where
+  pub skipped-start : Skipped f cs from from
   unfolding Skipped
   skipped-start = refl
 
-  pub skipped-even : (i p : ℕ) → Skipped ws cs from i → i < length cs → p ≡ parities ws (getD cs i 0) → p ≡ 0 → Skipped ws cs from (i + 1)
+  pub skipped-turn : (i : ℕ) → Skipped f cs from i → i < length cs → f (getD cs i 0) ≡ true → Skipped f cs from (i + 1)
   unfolding Skipped
-  skipped-even i p s h e z =
-      let even : xFree ws (getD cs i 0) ≡ true = even-exactly ws (getD cs i 0) ∙ eq-eqb (parities ws (getD cs i 0)) 0 (sym e ∙ z) in
-      let turn : evenRun ws (drop i cs) ≡ suc (evenRun ws (drop (suc i) cs)) =
-      ap (evenRun ws) (drop-cons cs i 0 h) ∙ run-even ws (drop (suc i) cs) (getD cs i 0) even
-      in
-      let same : evenRun ws (drop (i + 1) cs) ≡ evenRun ws (drop (suc i) cs) = ap (λ (n : ℕ). evenRun ws (drop n cs)) (add-one i) in
+  skipped-turn i s h e =
+      let turn : runOf f (drop i cs) ≡ suc (runOf f (drop (suc i) cs)) = ap (runOf f) (drop-cons cs i 0 h) ∙ run-on f (drop (suc i) cs) (getD cs i 0) e in
+      let same : runOf f (drop (i + 1) cs) ≡ runOf f (drop (suc i) cs) = ap (λ (n : ℕ). runOf f (drop n cs)) (add-one i) in
       omega arith
 
-  pub skipped-odd : (i p : ℕ) → Skipped ws cs from i → i < length cs → p ≡ parities ws (getD cs i 0) → (p ≡ 0 → ⊥) → i ≡ from + evenRun ws (drop from cs)
+  pub skipped-stop : (i : ℕ) → Skipped f cs from i → i < length cs → f (getD cs i 0) ≡ false → i ≡ from + runOf f (drop from cs)
   unfolding Skipped
-  skipped-odd i p s h e n =
-      let odd : xFree ws (getD cs i 0) ≡ false = even-exactly ws (getD cs i 0) ∙ ne-eqb (parities ws (getD cs i 0)) 0 (λ z. n (e ∙ z)) in
-      let stop : evenRun ws (drop i cs) ≡ 0 = ap (evenRun ws) (drop-cons cs i 0 h) ∙ run-odd ws (drop (suc i) cs) (getD cs i 0) odd in
+  skipped-stop i s h e =
+      let stop : runOf f (drop i cs) ≡ 0 = ap (runOf f) (drop-cons cs i 0 h) ∙ run-stops f (drop (suc i) cs) (getD cs i 0) e in
       omega arith
 
-  pub skipped-all : (i : ℕ) → Skipped ws cs from i → length cs ≤ i → i ≡ from + evenRun ws (drop from cs)
-  unfolding Skipped evenRun
+  pub skipped-all : (i : ℕ) → Skipped f cs from i → length cs ≤ i → i ≡ from + runOf f (drop from cs)
+  unfolding Skipped runOf
   skipped-all i s h =
-      let stop : evenRun ws (drop i cs) ≡ 0 = ap (evenRun ws) (drop-of-length-le cs h) in
+      let stop : runOf f (drop i cs) ≡ 0 = ap (runOf f) (drop-of-length-le cs h) in
       omega arith
+
+-- ---- what is looked up in the words' own table
+
+run-ext : (f g : ℕ → Bool) (cs : List ℕ) → ((i : ℕ) → i < length cs → f (getD cs i 0) ≡ g (getD cs i 0)) → runOf f cs ≡ runOf g cs
+unfolding runOf
+run-ext f g [] h = refl
+run-ext f g (c ∷ cs) h = ap₂ (λ (b : Bool) (n : ℕ). cond b (suc n) 0) (h 0 (omega arith)) (run-ext f g cs (λ i l. h (suc i) (omega arith)))
+
+pub table-run : (ws table cs : List ℕ) → ParityTable ws table → ((i : ℕ) → getD cs i 0 < 2 ^ 64) → tableRun table cs ≡ evenRun ws cs
+table-run ws table cs right small =
+    run-ext _ _ cs
+    (λ i l. ap (λ (x : ℕ). eqb x 0) (looked-parities ws table right (getD cs i 0) (small i)) ∙ sym (even-exactly ws (getD cs i 0)))
+
+pub table-run-from : (ws table cs : List ℕ) (from r : ℕ) → ParityTable ws table → ((i : ℕ) → getD cs i 0 < 2 ^ 64)
+    → r ≡ from + tableRun table (drop from cs) → r ≡ from + evenRun ws (drop from cs)
+table-run-from ws table cs from r right small e =
+    e ∙ ap (λ (n : ℕ). from + n) (table-run ws table (drop from cs) right (λ i. subst (λ (x : ℕ). x < 2 ^ 64) (sym (getD-drop from cs i 0)) (small (from + i))))
 
 -- ---- the columns passed over
 
 run-steps : (ws cs : List ℕ) → steps (drop (evenRun ws cs) cs) ws ≡ steps cs ws
-unfolding evenRun steps
+unfolding runOf steps
 run-steps ws [] = refl
 run-steps ws (c ∷ cs) = go (xFree ws c) refl (run-steps ws cs)
   where
     go : (b : Bool) → xFree ws c ≡ b → steps (drop (evenRun ws cs) cs) ws ≡ steps cs ws
         → steps (drop (evenRun ws (c ∷ cs)) (c ∷ cs)) ws ≡ steps (c ∷ cs) ws
     go true e ih =
-        ap (λ (n : ℕ). steps (drop n (c ∷ cs)) ws) (run-even ws cs c e) ∙ ih ∙ ap (steps cs) (sym (step-same c ws e))
-    go false e ih = ap (λ (n : ℕ). steps (drop n (c ∷ cs)) ws) (run-odd ws cs c e)
+        ap (λ (n : ℕ). steps (drop n (c ∷ cs)) ws) (run-on (xFree ws) cs c e) ∙ ih ∙ ap (steps cs) (sym (step-same c ws e))
+    go false e ih = ap (λ (n : ℕ). steps (drop n (c ∷ cs)) ws) (run-stops (xFree ws) cs c e)
 
 pub next-skipped : (ws cs : List ℕ) (from r : ℕ) → length ws ≤ 64 → r ≡ from + evenRun (take 64 ws) (drop from cs)
     → (from ≤ r) × (steps (drop r cs) ws ≡ steps (drop from cs) ws)

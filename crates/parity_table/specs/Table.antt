@@ -2,13 +2,17 @@
 -- has a law in proofs/ that ties it to the parities of a whole column.
 --
 --   byteParities ws e           the parities of the words ws with the column whose byte e ÷ 256 is e mod 256 and whose others are 0
+--   ParityTable ws table        the table's 2048 entries are these
 --   parityEntry table bits e    entry e of a table of byteParities, from the entry that lacks its byte's highest bit, where bits
 --                               lists the parities with each single bit
 --   lookedParities table c b    the XOR of the entries of the table for the first b bytes of c, lowest first
---   evenRun ws cs               how many columns stand before the first of cs that is odd with one of the words ws
-use mathlib.Core.Bool.{cond}
+--   runOf f cs                  how many columns stand before the first of cs of which f does not hold
+--   evenRun ws cs               .. that is odd with one of the words ws
+--   tableRun table cs           .. for which the XOR of the table's entries is not 0
+use mathlib.Core.Path.{_≡_}
+use mathlib.Core.Bool.{Bool, cond}
 use mathlib.Core.List.{List, [], _∷_}
-use Prim.Native.Nat.{ℕ, zero, suc, _+_, _-_, _*_, _/_, _%_, _^_}
+use Prim.Native.Nat.{ℕ, zero, suc, _+_, _-_, _*_, _/_, _%_, _^_, _<_}
 use lib.ListN.{getD}
 use lib.Bits.{bitXor}
 use lib.Dec.{eqb}
@@ -19,6 +23,9 @@ use Rattle.combinations.specs.Combination.{xFree}
 unfoldable pub byteParities : List ℕ → ℕ → ℕ
 byteParities ws e = parities ws (e % 256 * 2 ^ (8 * (e / 256)))
 
+abbrev pub ParityTable : List ℕ → List ℕ → Type 0
+ParityTable ws table = (e : ℕ) → e < 2048 → getD table e 0 ≡ byteParities ws e
+
 unfoldable pub parityEntry : List ℕ → List ℕ → ℕ → ℕ
 parityEntry table bits e =
     cond (eqb (e % 256) 0) 0
@@ -28,6 +35,12 @@ unfoldable pub lookedParities : List ℕ → ℕ → ℕ → ℕ
 lookedParities table c zero = 0
 lookedParities table c (suc b) = bitXor (lookedParities table c b) (getD table (256 * b + c / 2 ^ (8 * b) % 256) 0)
 
-unfoldable pub evenRun : List ℕ → List ℕ → ℕ
-evenRun ws [] = 0
-evenRun ws (c ∷ cs) = cond (xFree ws c) (suc (evenRun ws cs)) 0
+unfoldable pub runOf : (ℕ → Bool) → List ℕ → ℕ
+runOf f [] = 0
+runOf f (c ∷ cs) = cond (f c) (suc (runOf f cs)) 0
+
+abbrev pub evenRun : List ℕ → List ℕ → ℕ
+evenRun ws cs = runOf (xFree ws) cs
+
+abbrev pub tableRun : List ℕ → List ℕ → ℕ
+tableRun table cs = runOf (λ c. eqb (lookedParities table c 8) 0) cs

@@ -2,11 +2,11 @@
 // passed over. It sees words and combinations, and knows nothing of the elimination that uses it.
 ghost use mathlib.Core.Path.{_≡_};
 ghost use mathlib.Core.List.{map};
-ghost use Prim.Native.Nat.{ℕ, _+_, _<_};
-ghost use lib.ListN.{length, take, drop, getD};
+ghost use Prim.Native.Nat.{_+_, _<_};
+ghost use lib.ListN.{length, take, drop};
 ghost use Rattle.word.specs.Parities.{parities};
 ghost use Rattle.combinations.specs.Step.{units};
-ghost use Rattle.parity_table.specs.Table.{byteParities, parityEntry, lookedParities, evenRun};
+ghost use Rattle.parity_table.specs.Table.{ParityTable, parityEntry, lookedParities, evenRun, tableRun};
 
 fn no_words() -> [u64; 64]
     ensures { λ r. ⌜ length r ≡ 64 ⌝ }
@@ -14,9 +14,8 @@ fn no_words() -> [u64; 64]
     [0u64; 64]
 }
 
-// Room for a table: 2048 zeros.
-pub fn no_entries() -> [u64; 2048]
-    ensures { λ r. ⌜ r ≡ replicate 2048 0 ⌝ }
+fn no_entries() -> [u64; 2048]
+    ensures { λ r. ⌜ length r ≡ 2048 ⌝ }
 {
     [0u64; 2048]
 }
@@ -47,18 +46,20 @@ fn table_entry(table: &[u64; 2048], bits: &[u64; 64], e: usize) -> u64
     table[e - (1usize << top)] ^ bits[8 * (e / 256) + top]
 }
 
-// Fills the table of bytes: for each of the eight bytes of a column and each value of it, its parities with the first 64 words. It takes
-// as long as thousands of parities.
-pub fn fill_table(table: &mut [u64; 2048], words: &[u64])
-    ensures { λ _. ⌜ ParityTable (take 64 (now (words .entry))) (now (table .exit)) ⌝ }
+// The table of bytes: for each of the eight bytes of a column and each value of it, its parities with the first 64 words. It takes as
+// long to make as thousands of parities.
+pub fn byte_table(words: &[u64]) -> [u64; 2048]
+    ensures { λ r. ⌜ ParityTable (take 64 (now (words .entry))) r ⌝ }
 {
     let bits = bit_parities(words);
+    let mut table = no_entries();
     let mut e: usize = 0;
     while e < 2048 {
-        let entry = table_entry(table, &bits, e);
+        let entry = table_entry(&table, &bits, e);
         table[e] = entry;
         e += 1;
     }
+    table
 }
 
 // The XOR of the table's entries for the eight bytes of a column.
@@ -76,9 +77,10 @@ fn looked_up(table: &[u64; 2048], column: u64) -> u64
     all
 }
 
-// The place of the first column, from place `from` on, that is odd with one of the words whose table it is; the end where none is.
+// The place of the first column, from place `from` on, for which the table doesn't give 0; the end where none is. By the table of some
+// words that is the first column that is odd with one of them (proofs/SkipLaws.antt, table-run).
 pub fn skip_by_table(table: &[u64; 2048], columns: &[u64], from: usize) -> usize
-    ensures { λ r. ⌜ ((ws : List ℕ) → ParityTable ws (now (table .entry)) → r ≡ from + evenRun ws (drop from (now (columns .entry)))) ⌝ }
+    ensures { λ r. ⌜ r ≡ from + tableRun (now (table .entry)) (drop from (now (columns .entry))) ⌝ }
 {
     let mut i = from;
     while i < columns.len() {
@@ -94,7 +96,6 @@ pub fn skip_by_table(table: &[u64; 2048], columns: &[u64], from: usize) -> usize
 pub fn skip_even(words: &[u64], columns: &[u64], from: usize) -> usize
     ensures { λ r. ⌜ r ≡ from + evenRun (take 64 (now (words .entry))) (drop from (now (columns .entry))) ⌝ }
 {
-    let mut table = no_entries();
-    fill_table(&mut table, words);
+    let table = byte_table(words);
     skip_by_table(&table, columns, from)
 }

@@ -1,12 +1,14 @@
 -- A list written over the front of another, place by place. Assumes nothing.
 use mathlib.Core.Path.{_≡_, refl, sym, ap, _∙_}
-use mathlib.Core.List.{List, [], _++_}
-use Prim.Native.Nat.{ℕ, suc, _<_, _≤_}
+use mathlib.Core.List.{List, [], _++_, append-nil}
+use Prim.Native.Nat.{ℕ, suc, _+_, _<_, _≤_}
 use native.Mathlib.Nat.{le-of-lt}
+use native.Mathlib.Numerals.{add-one}
 use native.Mathlib.Omega.{arith}
-use lib.ListN.{length, getD, take, drop, set, length-append, length-drop}
-use lib.Seq.{drop-cons, take-suc, take-length, length-take-le, set-at, append-snoc}
+use lib.ListN.{length, getD, take, drop, set, length-append, length-drop, length-replicate, getD-replicate, drop-of-length-le}
+use lib.Seq.{drop-cons, take-suc, take-all, take-length, length-take-le, set-at, append-snoc}
 use Rattle.word.specs.Reply.{front}
+use Rattle.word.specs.Zeros.{zeros}
 
 pub front-nothing : (l : List ℕ) → front [] l ≡ l
 unfolding front
@@ -35,3 +37,46 @@ pub front-take-length : (i : ℕ) (vs l : List ℕ) → i ≤ length vs → i �
 front-take-length i vs l hv hl =
     ap length (front-take i vs l hv) ∙ length-append (take i vs) (drop i l)
     ∙ omega (arith, length-take-le i vs hv, length-drop i l)
+
+-- ---- the loop that writes vs over the front of l, as far as there is room; ws is the list after i places
+
+pub written-start : (l : List ℕ) → l ≡ front [] l
+written-start l = sym (front-nothing l)
+
+pub written-turn : (vs l ws : List ℕ) (i : ℕ) → ws ≡ front (take i vs) l → i < length vs → i < length l → set ws i (getD vs i 0) ≡ front (take (i + 1) vs) l
+written-turn vs l ws i e hv hl =
+    ap (λ (x : List ℕ). set x i (getD vs i 0)) e ∙ front-next i vs l hv hl ∙ ap (λ (n : ℕ). front (take n vs) l) (sym (add-one i))
+
+-- .. all of vs, where it fits
+pub written-end : (vs l ws : List ℕ) (i : ℕ) → ws ≡ front (take i vs) l → i ≤ length vs → i ≤ length l → length vs ≤ i → ws ≡ front (take (length l) vs) l
+written-end vs l ws i e a b h = e ∙ ap (λ (x : List ℕ). front x l) (take-all i vs h ∙ sym (take-all (length l) vs (omega arith)))
+
+-- .. as much of it as there is room for
+pub written-full : (vs l ws : List ℕ) (i : ℕ) → ws ≡ front (take i vs) l → i ≤ length l → length l ≤ i → ws ≡ front (take (length l) vs) l
+written-full vs l ws i e a b = let all : i ≡ length l = omega arith in e ∙ ap (λ (n : ℕ). front (take n vs) l) all
+
+-- what is as long as the list itself is left of it alone
+pub front-all : (vs l : List ℕ) → length vs ≡ length l → front vs l ≡ vs
+unfolding front
+front-all vs l e =
+    let past : length l ≤ length vs = omega arith in
+    ap (λ (x : List ℕ). vs ++ x) (drop-of-length-le l past) ∙ append-nil vs
+
+-- ---- zeros
+
+pub length-zeros : (n : ℕ) → length (zeros n) ≡ n
+length-zeros n = length-replicate n (the-zero)
+  where
+    the-zero : ℕ
+    the-zero = 0
+
+pub cleared-turn : (l ws : List ℕ) (i : ℕ) → ws ≡ front (take i (zeros (length l))) l → i < length l → set ws i 0 ≡ front (take (i + 1) (zeros (length l))) l
+cleared-turn l ws i e h =
+    ap (set ws i) (sym (getD-replicate (length l) i 0 0 h))
+    ∙ written-turn (zeros (length l)) l ws i e (omega (arith, length-zeros (length l))) h
+
+pub cleared-end : (l ws : List ℕ) (i : ℕ) → ws ≡ front (take i (zeros (length l))) l → i ≤ length l → length l ≤ i → ws ≡ zeros (length l)
+cleared-end l ws i e a b =
+    written-full (zeros (length l)) l ws i e a b
+    ∙ ap (λ (x : List ℕ). front x l) (take-all (length l) (zeros (length l)) (omega (arith, length-zeros (length l))))
+    ∙ front-all (zeros (length l)) l (length-zeros (length l))

@@ -4,3 +4,4 @@ pub mod Some
 pub mod Worked
 pub mod Span
 pub mod Parities
+pub mod Zeros

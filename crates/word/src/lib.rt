@@ -1,9 +1,10 @@
 // Words of 64 bits: masks, parities, the highest bit, widths; lists of them. Every function is total.
 ghost use mathlib.Core.Path.{_≡_};
 ghost use Prim.Native.Nat.{min};
-ghost use lib.ListN.{length, take, getD, replicate};
+ghost use lib.ListN.{length, take, getD};
 ghost use Rattle.word.specs.Word.{lowMask, beyond, parity, highestBit, badWidth};
 ghost use Rattle.word.specs.Parities.{parities};
+ghost use Rattle.word.specs.Zeros.{zeros};
 
 // The word with bits 0 to m - 1 set; all 64 bits from m = 64 on.
 pub fn low_mask(m: u64) -> u64
@@ -76,7 +77,7 @@ pub fn word_at(words: &[u64], c: usize) -> u64
 
 // Puts 0 into every place.
 pub fn clear_words(words: &mut [u64])
-    ensures { λ _. ⌜ now (words .exit) ≡ replicate (length (now (words .entry))) 0 ⌝ }
+    ensures { λ _. ⌜ now (words .exit) ≡ zeros (length (now (words .entry))) ⌝ }
 {
     let mut i: usize = 0;
     while i < words.len() {

@@ -106,9 +106,10 @@ returns-6 c =
     let same-long = c .before .before .before .before .before .before .before .before .before .reduce .kept .0 in
     let reduced = c .before .before .before .before .before .before .before .before .before .reduce .ensures .1 in
     let so-far = kept (c .before .before .before .before .before .before .before .before) in
-    ends-done _ _ _ _ _ _ so-far some-word (search needs)
+    let written = c .before .before .write-front .ensures in
+    ends-done _ _ (c .before .before .before .before .before .before .before .before .before .before .before .before .before .before .before .before .before .before .args .words .now) _ _ _ so-far some-word (search needs)
     (kept-words _ _ _ _ _ so-far units same-long reduced)
-    (c .before .before .write-front .ensures)
+    written
 
 pub eliminate-spec : {M : Type 1} → statement M
 eliminate-spec =
