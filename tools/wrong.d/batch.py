@@ -753,7 +753,6 @@ class Batch:
                 self.call("elimination::write_front", v=self.junk_words(room), u=words)
             self.call("word::clear_words", v=self.junk_words(self.pick([0, 1, 2, 63, 64, 65, 200])))
         self.call("elimination::unit_words", v=self.junk_words(64))
-        self.call("parity_table::no_entries", u=self.junk_words(2048))
         for m in (1, 5, 64):
             self.call("reduced_list::is_next", [m, 0, 0, 0])
             self.call("reduced_list::is_next", [m, 1, 0, 1])
@@ -974,7 +973,7 @@ class Batch:
             self.call("parity_table::skip_even", [start], v=words, u=columns)
             self.call("parity_table::skip_by_table", [start], u=self.pick([parity_table(words), self.junk_words(2048), [0] * 2048]), v=columns)
             if self.random.random() < 0.3:
-                self.call("parity_table::fill_table", v=words, u=self.junk_words(2048))
+                self.call("parity_table::byte_table", v=words, u=self.junk_words(2048))
             self.call("elimination::add_columns", v=words, u=columns)
 
     def texts(self, count):
