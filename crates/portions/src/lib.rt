@@ -1,26 +1,45 @@
-// The columns of marked cells in portions: as many of the last ones as a list has room for, then as many of those before them. It sees the
-// register's powers and the marked words of a row; it knows no file. Every function is total.
+// The columns of marked cells in portions: as many of the last ones as a list has room for, then as many of those before them, and so on. It
+// sees the register's powers and the marked words of a row; it knows no file. Every function is total.
 ghost use mathlib.Core.Path.{_≡_};
+ghost use mathlib.Core.List.{List, map};
+ghost use Prim.Native.Nat.{ℕ, _+_, _-_, _*_, _≤_, _<_, min};
+ghost use lib.ListN.{length, take, drop};
+ghost use Rattle.rows.specs.Lists.{cellsOf};
+ghost use Rattle.register.specs.Circuit.{advanced};
+ghost use Rattle.powers.specs.Powers.{fromPowers};
+ghost use Rattle.portions.specs.Portions.{wiring, slicesIn, Ready, PortionOf};
 use register::Register;
 use rows::Rows;
 
-// Where the marked cells come from: the register that their chains drive, the rows of marks and how many slices there are.
+// Where marked cells come from: the register that their chains drive, the rows of marks and how many slices there are.
 pub struct Source {
     pub register: Register,
     pub marks: Rows,
     pub s: u16,
 }
 
-// Which columns are left: those of the first t slices, but that in the last of these only the first `chains` chains are left. In a list
-// with a portion so many places stand before it.
+// Which columns are left: those of the first t slices, but that in the last of these only the first `chains` chains are left. In the list
+// of a portion it stands from `place` on.
 pub struct Portion {
     pub t: u16,
     pub chains: usize,
     pub place: usize,
 }
 
-// Advances the words by one clock where there are no powers.
+// How many of the slices come after the first t.
+fn later_slices(slices: u16, t: u16) -> usize
+    ensures { λ r. ⌜ r ≡ slices - t ⌝ }
+{
+    if slices < t {
+        return 0;
+    }
+    (slices - t) as usize
+}
+
+// Where there are no powers, advances each word by one clock with all cells 0 and no inversion.
 fn advance_swept(register: Register, powers: &[u64], words: &mut [u64])
+    ensures { λ _. ⌜ (length (now (powers .entry)) ≡ 0 → now (words .exit) ≡ map (advanced (min (register .m) 64) (register .taps)) (now (words .entry))) ⌝ }
+    ensures { λ _. ⌜ (0 < length (now (powers .entry)) → now (words .exit) ≡ now (words .entry)) ⌝ }
 {
     if 0 < powers.len() {
         return;
@@ -28,19 +47,40 @@ fn advance_swept(register: Register, powers: &[u64], words: &mut [u64])
     powers::advance_words(register, words);
 }
 
-// Puts for each word what it is `clocks` clocks later, by the powers of a register of this width; where there are no powers, the words
-// stay as they are.
+// Where there are powers, puts for each word what it is so many clocks later.
 fn put_later(powers: &[u64], clocks: usize, width: usize, words: &mut [u64])
+    ensures { λ _. ⌜ (length (now (powers .entry)) ≡ 0 → now (words .exit) ≡ now (words .entry)) ⌝ }
+    ensures { λ _. ⌜ (0 < length (now (powers .entry)) → clocks + width ≤ length (now (powers .entry)) → now (words .exit) ≡ map (fromPowers (take width (drop clocks (now (powers .entry))))) (now (words .entry))) ⌝ }
 {
-    let end = clocks + width;
-    if powers.len() < end {
+    let count = powers.len();
+    if count == 0 {
         return;
     }
+    if count < clocks {
+        return;
+    }
+    if count - clocks < width {
+        return;
+    }
+    let end = clocks + width;
     powers::power_words(&powers[clocks..end], words);
 }
 
-// Fills a list from its end.
-pub fn fill_portion(source: Source, list: &[u8], powers: &[u64], words: &mut [u64], columns: &mut [u64], from: Portion) -> Portion
+// Writes the last of the columns that are left over the end of the list, as many as there is room for, and answers with which are left
+// then. The words are those of the chains: with the register's powers the spread words, which stay as they are; without powers the spread
+// words advanced once for each slice after the first t. With 64 places, and at most 256 chains, fewer cells are left then. It meets no
+// number: a width counts as at most 64, the slices as at most 512, and a row past the end has no mark.
+pub fn fill_portion(
+    source: Source,
+    list: &[u8],
+    powers: &[u64],
+    words: &mut [u64],
+    columns: &mut [u64],
+    from: Portion,
+) -> Portion
+    ensures place { λ r. ⌜ r .place ≤ length (now (columns .entry)) ⌝ }
+    ensures less { λ r. ⌜ (64 ≤ length (now (columns .entry)) → length (now (words .entry)) ≤ 256 → 0 < from .t → 257 * r .t + r .chains < 257 * from .t + from .chains) ⌝ }
+    ensures portion { λ r. ⌜ ((spread : List ℕ) → from .chains ≤ length spread → Ready (wiring source spread) (slicesIn source) (from .t) (now (powers .entry)) (now (words .entry)) → PortionOf (wiring source spread) (slicesIn source) (cellsOf (now (list .entry)) (source .marks)) (now (powers .entry)) from (now (words .exit)) (now (columns .entry)) (now (columns .exit)) r) ⌝ }
 {
     let register = source.register;
     let marks = source.marks;
@@ -49,12 +89,12 @@ pub fn fill_portion(source: Source, list: &[u8], powers: &[u64], words: &mut [u6
     let all = words.len();
     let mut place = columns.len();
     let mut t = from.t;
-    let mut chains = from.chains;
+    let mut chains = numbers::moved(from.chains, 0, all);
     while 0 < t {
         let row = rows::row_of(list, marks, t - 1);
         let fitted = marked_words::list_fitting(&mut columns[..place], &words[..chains], row);
         let start = fitted.place;
-        let clocks = (slices - t) as usize;
+        let clocks = later_slices(slices, t);
         put_later(powers, clocks, width, &mut columns[start..place]);
         place = start;
         chains = fitted.chains;

@@ -30,7 +30,8 @@ pub fn advance_words(register: Register, words: &mut [u64])
     }
 }
 
-fn no_powers() -> [u64; 576]
+// 576 zeros.
+pub fn no_powers() -> [u64; 576]
     ensures { λ r. ⌜ r ≡ replicate 576 0 ⌝ }
 {
     [0u64; 576]

@@ -14,8 +14,9 @@
 use mathlib.Core.List.{List, [], _∷_}
 use Prim.Native.Nat.{ℕ, min}
 use lib.Dec.{ltb}
-use lib.ListN.{length, replicate}
+use lib.ListN.{length}
 use Rattle.word.specs.Reply.{Test, _when_, Reply, answer, refusal, reply, lent}
+use Rattle.word.specs.Zeros.{zeros}
 use Rattle.combinations.specs.Combination.{onlyEmpty}
 use Rattle.combinations.specs.Reduced.{reducedList}
 use Rattle.rows.specs.Lists.{cellsOf}
@@ -33,7 +34,7 @@ abbrev pub workingTest : ℕ → Test
 workingTest k = 14 when ltb k workingPlaces
 
 abbrev pub workingAfter : List Test → List ℕ → List ℕ
-workingAfter ts l = lent (reply ts workingPlaces) (replicate workingPlaces 0) l
+workingAfter ts l = lent (reply ts workingPlaces) (zeros workingPlaces) l
 
 abbrev pub takenColumns : Taken → List ℕ → Rows → List ℕ
 takenColumns k l r = columnsBelow (takenCircuit k) (min (k .s) 512) (cellsOf l r) (min (k .s) 512)

@@ -1,5 +1,15 @@
-// The words of a taken set's unknown cells, from portions of its columns. It sees the portions, the elimination and a taken set.
+// The words of a taken set's unknown cells, from portions of their columns. It sees the portions, the elimination and a taken set.
 ghost use mathlib.Core.Path.{_≡_};
+ghost use mathlib.Core.Bool.{true};
+ghost use mathlib.Core.List.{List, [], _∷_};
+ghost use Prim.Native.Nat.{ℕ, _+_, _-_, _*_, _≤_, _<_};
+ghost use lib.ListN.{length, take};
+ghost use Rattle.word.specs.Reply.{lent, numberOf};
+ghost use Rattle.combinations.specs.Step.{units};
+ghost use Rattle.rows.specs.Lists.{cellsOf};
+ghost use Rattle.portions.specs.Portions.{wiring, slicesIn};
+ghost use Rattle.set_words.specs.Working.{workingTest, workingAfter, takenWidth, takenWords, keptReply, said};
+ghost use Rattle.set_words.specs.Reducing.{Reduced, Done};
 use portions::Portion;
 use portions::Source;
 use rows::Rows;
@@ -11,81 +21,208 @@ const WORKING_PLACES: usize = 64;
 // Up to so many columns are made one by one; from there on it is faster to advance all the chains' words together.
 const FEW_COLUMNS: u64 = 512;
 
+// What making the words answers: q, or the first number that applies.
 pub enum Kept {
     Words { q: u64 },
     Refused { number: u64 },
 }
 
-// How many columns at the portion's front leave the words as they are, where the table is theirs.
-fn even_front(table: &[u64; 2048], tabled: bool, columns: &[u64]) -> usize
-{
-    if tabled {
-        return parity_table::skip_by_table(table, columns, 0);
-    }
-    0
+// How far the work has come: the columns that are left, as after a portion; how many words are left, and about how many columns; whether
+// the last portion took at most one word away.
+struct Progress {
+    t: u16,
+    chains: usize,
+    left: usize,
+    more: usize,
+    calm: bool,
 }
 
-fn add_portion(held: &mut [u64], table: &[u64; 2048], tabled: bool, columns: &[u64]) -> usize
-{
-    let from = even_front(table, tabled, columns);
-    if columns.len() <= from {
-        return held.len();
-    }
-    elimination::add_columns(held, &columns[from..])
-}
-
-fn renew_table(table: &mut [u64; 2048], tabled: bool, words: &[u64], before: usize, more: usize) -> bool
-{
-    let count = words.len();
-    if tabled & (count == before) {
-        return true;
-    }
-    if count < 2 {
-        return false;
-    }
-    if 64 < count {
-        return false;
-    }
-    if count + 1 < before {
-        return false;
-    }
-    if more / 64 * count < 256 {
-        return false;
-    }
-    parity_table::fill_table(table, words);
-    true
-}
-
+// a less b; 0 where that is more.
 fn fewer(a: usize, b: usize) -> usize
+    ensures { λ r. ⌜ r ≡ a - b ⌝ }
 {
-    if a < b { 0 } else { a - b }
+    if a < b {
+        return 0;
+    }
+    a - b
 }
 
-fn reduce_portions(source: Source, list: &[u8], unknowns: usize, powers: &[u64], words: &mut [u64], working: &mut [u64], held: &mut [u64]) -> usize
+// Whether it is worth making a table of the words' parities, which takes as long as thousands of them: there are at most 64 words, the
+// last portion left nearly all of them, and so many columns are left.
+fn is_table_worth(at: Progress, words: usize) -> bool
+    ensures { λ r. ⌜ (r ≡ true → words ≤ 64) ⌝ }
 {
-    let mut table = parity_table::no_entries();
-    let mut tabled = false;
-    let mut more = unknowns;
+    if 64 < words {
+        return false;
+    }
+    if words < 2 {
+        return false;
+    }
+    at.calm & (256 <= at.more / 64 * words)
+}
+
+// The next portion: its columns through the elimination.
+fn add_portion(
+    source: Source,
+    list: &[u8],
+    powers: &[u64],
+    words: &mut [u64],
+    working: &mut [u64],
+    held: &mut [u64],
+    at: Progress,
+) -> Progress
+    requires { ⌜ (64 ≤ length (now working)) × (length (now words) ≤ 256) ⌝ }
+    ensures left { λ r. ⌜ r .left ≤ length (now (held .entry)) ⌝ }
+    ensures less { λ r. ⌜ (0 < at .t → 257 * r .t + r .chains < 257 * at .t + at .chains) ⌝ }
+    ensures words { λ r. ⌜ ((spread : List ℕ) (m : ℕ) → Reduced (wiring source spread) (slicesIn source) (cellsOf (now (list .entry)) (source .marks)) m (now (powers .entry)) (at .t) (at .chains) (now (words .entry)) (now (held .entry)) → Reduced (wiring source spread) (slicesIn source) (cellsOf (now (list .entry)) (source .marks)) m (now (powers .entry)) (r .t) (r .chains) (now (words .exit)) (take (r .left) (now (held .exit)))) ⌝ }
+{
+    let before = held.len();
+    let from = Portion {
+        t: at.t,
+        chains: at.chains,
+        place: 0,
+    };
+    let portion = portions::fill_portion(source, list, powers, words, working, from);
+    let place = portion.place;
+    let count = working.len() - place;
+    let left = elimination::add_columns(held, &working[place..]);
+    Progress {
+        t: portion.t,
+        chains: portion.chains,
+        left,
+        more: fewer(at.more, count),
+        calm: fewer(before, left) < 2,
+    }
+}
+
+// The next portions, up to the first with a column that is odd with one of the words: that one's columns through the elimination. Until
+// then the words stay as they are, and with them a table of their parities.
+fn add_by_table(
+    source: Source,
+    list: &[u8],
+    powers: &[u64],
+    words: &mut [u64],
+    working: &mut [u64],
+    held: &mut [u64],
+    at: Progress,
+) -> Progress
+    requires { ⌜ (64 ≤ length (now working)) × (length (now words) ≤ 256) × (length (now held) ≤ 64) ⌝ }
+    ensures left { λ r. ⌜ r .left ≤ length (now (held .entry)) ⌝ }
+    ensures less { λ r. ⌜ (0 < at .t → 257 * r .t + r .chains < 257 * at .t + at .chains) ⌝ }
+    ensures words { λ r. ⌜ ((spread : List ℕ) (m : ℕ) → Reduced (wiring source spread) (slicesIn source) (cellsOf (now (list .entry)) (source .marks)) m (now (powers .entry)) (at .t) (at .chains) (now (words .entry)) (now (held .entry)) → Reduced (wiring source spread) (slicesIn source) (cellsOf (now (list .entry)) (source .marks)) m (now (powers .entry)) (r .t) (r .chains) (now (words .exit)) (take (r .left) (now (held .exit)))) ⌝ }
+{
+    let before = held.len();
+    let table = parity_table::byte_table(held);
+    let mut t = at.t;
+    let mut chains = at.chains;
+    let mut more = at.more;
+    while 0 < t {
+        let from = Portion {
+            t,
+            chains,
+            place: 0,
+        };
+        let portion = portions::fill_portion(source, list, powers, words, working, from);
+        let place = portion.place;
+        t = portion.t;
+        chains = portion.chains;
+        more = fewer(more, working.len() - place);
+        let odd = parity_table::skip_by_table(&table, working, place);
+        if odd < working.len() {
+            let left = elimination::add_columns(held, &working[odd..]);
+            let calm = fewer(before, left) < 2;
+            return Progress {
+                t,
+                chains,
+                left,
+                more,
+                calm,
+            };
+        }
+    }
+    Progress {
+        t,
+        chains,
+        left: before,
+        more,
+        calm: true,
+    }
+}
+
+// The next portion or portions, by a table where it is worth it.
+fn add_next(
+    source: Source,
+    list: &[u8],
+    powers: &[u64],
+    words: &mut [u64],
+    working: &mut [u64],
+    held: &mut [u64],
+    at: Progress,
+) -> Progress
+    requires { ⌜ (64 ≤ length (now working)) × (length (now words) ≤ 256) ⌝ }
+    ensures left { λ r. ⌜ r .left ≤ length (now (held .entry)) ⌝ }
+    ensures less { λ r. ⌜ (0 < at .t → 257 * r .t + r .chains < 257 * at .t + at .chains) ⌝ }
+    ensures words { λ r. ⌜ ((spread : List ℕ) (m : ℕ) → Reduced (wiring source spread) (slicesIn source) (cellsOf (now (list .entry)) (source .marks)) m (now (powers .entry)) (at .t) (at .chains) (now (words .entry)) (now (held .entry)) → Reduced (wiring source spread) (slicesIn source) (cellsOf (now (list .entry)) (source .marks)) m (now (powers .entry)) (r .t) (r .chains) (now (words .exit)) (take (r .left) (now (held .exit)))) ⌝ }
+{
+    if is_table_worth(at, held.len()) {
+        return add_by_table(source, list, powers, words, working, held, at);
+    }
+    add_portion(source, list, powers, words, working, held, at)
+}
+
+// All portions, from the words of single bits on. Answers with how many words are left, which stand at the front of `held`. It stops
+// where none is left.
+fn reduce_all(
+    source: Source,
+    list: &[u8],
+    unknowns: usize,
+    powers: &[u64],
+    words: &mut [u64],
+    working: &mut [u64],
+    held: &mut [u64],
+) -> usize
+    requires { ⌜ (64 ≤ length (now working)) × (length (now words) ≤ 256) ⌝ }
+    ensures left { λ r. ⌜ r ≤ length (now (held .entry)) ⌝ }
+    ensures words { λ r. ⌜ ((spread : List ℕ) (m : ℕ) → Reduced (wiring source spread) (slicesIn source) (cellsOf (now (list .entry)) (source .marks)) m (now (powers .entry)) (slicesIn source) (length (now (words .entry))) (now (words .entry)) (now (held .entry)) → Done (wiring source spread) (slicesIn source) (cellsOf (now (list .entry)) (source .marks)) m r (now (held .exit))) ⌝ }
+{
     let mut left = held.len();
     let mut t = register::slice_limit(source.s);
     let mut chains = words.len();
+    let mut more = unknowns;
+    let mut calm = false;
     while 0 < t {
         if left == 0 {
             return 0;
         }
-        let part = portions::fill_portion(source, list, powers, words, working, Portion { t, chains, place: 0 });
-        let place = part.place;
-        let before = left;
-        left = add_portion(&mut held[..left], &table, tabled, &working[place..]);
-        more = fewer(more, working.len() - place);
-        tabled = renew_table(&mut table, tabled, &held[..left], before, more);
-        t = part.t;
-        chains = part.chains;
+        let at = Progress {
+            t,
+            chains,
+            left,
+            more,
+            calm,
+        };
+        let next = add_next(source, list, powers, words, working, &mut held[..left], at);
+        t = next.t;
+        chains = next.chains;
+        left = next.left;
+        more = next.more;
+        calm = next.calm;
     }
     left
 }
 
-fn reduce_marked(taken: Taken, list: &[u8], marks: Rows, working: &mut [u64], held: &mut [u64]) -> usize
+// The words of the marked cells' columns, from the words of single bits on. A few columns are made one by one, by the powers of the
+// register, where the spread words are a taken set's; for many, all the chains' words are advanced together.
+fn reduce_marked(
+    taken: Taken,
+    list: &[u8],
+    marks: Rows,
+    working: &mut [u64],
+    held: &mut [u64],
+) -> usize
+    requires { ⌜ 64 ≤ length (now working) ⌝ }
+    ensures left { λ r. ⌜ r ≤ length (now (held .entry)) ⌝ }
+    ensures words { λ r. ⌜ (now (held .entry) ≡ units (takenWidth taken) → (r ≡ length (takenWords taken (now (list .entry)) marks)) × (take r (now (held .exit)) ≡ takenWords taken (now (list .entry)) marks)) ⌝ }
 {
     let register = taken.register;
     let s = taken.s;
@@ -94,21 +231,57 @@ fn reduce_marked(taken: Taken, list: &[u8], marks: Rows, working: &mut [u64], he
     let mut words = chains::all_words(spread);
     let unknowns = marked_words::count_marks(list, marks, s);
     let source = Source { register, marks, s };
-    if FEW_COLUMNS < unknowns {
-        return reduce_portions(source, list, unknowns as usize, &spread[..0], &mut words[..chains], working, held);
+    let count = unknowns as usize;
+    if (FEW_COLUMNS < unknowns) | sparse_columns::has_bad_word(taken) {
+        let powers = powers::no_powers();
+        return reduce_all(
+            source,
+            list,
+            count,
+            &powers[..0],
+            &mut words[..chains],
+            working,
+            held,
+        );
     }
     let powers = powers::powers(register);
-    reduce_portions(source, list, unknowns as usize, &powers, &mut words[..chains], working, held)
+    reduce_all(
+        source,
+        list,
+        count,
+        &powers,
+        &mut words[..chains],
+        working,
+        held,
+    )
 }
 
-pub fn fill_words(taken: Taken, list: &[u8], marks: Rows, working: &mut [u64], words: &mut [u64]) -> Kept
+// The words of the cells that the rows of a list mark, for the register and the chains of a taken set. Answers with q, and writes the q
+// words over the front of `words`. Meets 14, 17 and 18, in that order; past 14 the first 64 places of `working` hold 0, and a refusal
+// writes nothing else.
+pub fn fill_words(
+    taken: Taken,
+    list: &[u8],
+    marks: Rows,
+    working: &mut [u64],
+    words: &mut [u64],
+) -> Kept
+    ensures answer { λ r. ⌜ said r ≡ keptReply taken (now (list .entry)) marks (length (now (working .entry))) (length (now (words .entry))) ⌝ }
+    ensures working { λ _. ⌜ now (working .exit) ≡ workingAfter (workingTest (length (now (working .entry))) ∷ []) (now (working .entry)) ⌝ }
+    ensures words { λ _. ⌜ now (words .exit) ≡ lent (keptReply taken (now (list .entry)) marks (length (now (working .entry))) (length (now (words .entry)))) (takenWords taken (now (list .entry)) marks) (now (words .entry)) ⌝ }
 {
     if working.len() < WORKING_PLACES {
         return Kept::Refused { number: 14 };
     }
     let width = register::width_limit(taken.register.m) as usize;
     let mut held = elimination::unit_words();
-    let q = reduce_marked(taken, list, marks, &mut working[..WORKING_PLACES], &mut held[..width]);
+    let q = reduce_marked(
+        taken,
+        list,
+        marks,
+        &mut working[..WORKING_PLACES],
+        &mut held[..width],
+    );
     word::clear_words(&mut working[..WORKING_PLACES]);
     if q == 0 {
         return Kept::Refused { number: 17 };
@@ -122,6 +295,7 @@ pub fn fill_words(taken: Taken, list: &[u8], marks: Rows, working: &mut [u64], w
 
 // The refusal's number; 0 of an answer.
 pub fn number_of(kept: Kept) -> u64
+    ensures { λ r. ⌜ r ≡ numberOf (said kept) ⌝ }
 {
     match kept {
         Kept::Words { q: _ } => 0,

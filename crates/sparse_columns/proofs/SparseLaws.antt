@@ -35,13 +35,13 @@ map-listed : (f : ℕ → ℕ) (d w : ℕ) → map f (listed d w) ≡ listed d (
 map-listed f zero w = refl
 map-listed f (suc d) w = refl
 
-map-chosen : (f : ℕ → ℕ) (ws vs : List ℕ) (x : ℕ → ℕ) → ((c : ℕ) → f (getD ws c 0) ≡ getD vs c 0) → (n : ℕ)
+pub map-chosen : (f : ℕ → ℕ) (ws vs : List ℕ) (x : ℕ → ℕ) (n : ℕ) → ((c : ℕ) → c < n → f (getD ws c 0) ≡ getD vs c 0)
     → map f (markedWords ws x n) ≡ markedWords vs x n
 unfolding joined
-map-chosen f ws vs x h zero = refl
-map-chosen f ws vs x h (suc n) =
+map-chosen f ws vs x zero h = refl
+map-chosen f ws vs x (suc n) h =
     map-append f (markedWords ws x n) (listed (x n) (getD ws n 0))
-    ∙ ap₂ (λ (a b : List ℕ). a ++ b) (map-chosen f ws vs x h n) (map-listed f (x n) (getD ws n 0) ∙ ap (listed (x n)) (h n))
+    ∙ ap₂ (λ (a b : List ℕ). a ++ b) (map-chosen f ws vs x n (λ c l. h c (omega arith))) (map-listed f (x n) (getD ws n 0) ∙ ap (listed (x n)) (h n (omega arith)))
 
 -- the list us is written over the end of l, and then what stands there is changed by f
 module _ (f : ℕ → ℕ) (us l : List ℕ) (start : ℕ) (e : start ≡ length l - length us) where
@@ -121,11 +121,10 @@ module _ (k : Circuit) (s : ℕ) (u : Response) where
     words : map (fromPowers ps) us ≡ markedWords (laterWords k j (k .spread)) (cell row) (length (laterWords k j (k .spread)))
     unfolding us
     words =
-        map-chosen (fromPowers ps) (k .spread) (laterWords k j (k .spread)) (cell row)
-        (λ c.
+        map-chosen (fromPowers ps) (k .spread) (laterWords k j (k .spread)) (cell row) (length (k .spread))
+        (λ c l.
         from-powers k ps j (getD (k .spread) c 0) right wide (good-spread (k .width) (k .spread) good c)
         ∙ sym (later-words-get k j (k .spread) c))
-        (length (k .spread))
         ∙ ap (markedWords (laterWords k j (k .spread)) (cell row)) (sym (later-words-length k j (k .spread)))
 
     pub sparse-turns : (l₀ l l₁ vs l₂ : List ℕ) (place start t : ℕ) → 0 < t → j ≡ s - t → Sparse l₀ l place t → cell row ≡ u (t - 1)

@@ -38,8 +38,8 @@ fn fill_sparse(taken: Taken, list: &[u8], marks: Rows, columns: &mut [u64])
     }
 }
 
-// Whether one of the first n of 256 spread words is zero or has a bit at or above m, which counts as at most 64.
-fn has_bad_word(taken: Taken) -> bool
+// Whether one of the first n of 256 spread words is zero or has a bit at or above m, which counts as at most 64. A taken set has none.
+pub fn has_bad_word(taken: Taken) -> bool
     ensures { λ r. ⌜ r ≡ badSpread (min (taken .register .m) 64) (take (taken .n) (taken .spread)) ⌝ }
 {
     let chains = register::chain_limit(taken.n);

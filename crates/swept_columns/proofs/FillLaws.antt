@@ -24,6 +24,10 @@ use Rattle.marked_words.proofs.BackLaws.{rest, rest-none, rest-suc, rest-whole,
 pub laterWords : Circuit → ℕ → List ℕ → List ℕ
 laterWords k j ws = map (later k j) ws
 
+pub later-words : (k : Circuit) (j : ℕ) (ws : List ℕ) → laterWords k j ws ≡ map (later k j) ws
+unfolding laterWords
+later-words k j ws = refl
+
 pub later-words-none : (k : Circuit) (ws : List ℕ) → laterWords k 0 ws ≡ ws
 unfolding laterWords later
 later-words-none k [] = refl
@@ -55,15 +59,21 @@ module _ (k : Circuit) (s : ℕ) (u : Response) where
   slice-joined t zero = refl
   slice-joined t (suc c) = ap (λ (l : List ℕ). l ++ listed (u t c) (column k s t c)) (slice-joined t c)
 
-  -- the columns of slice t are the spread words of its unknown cells, advanced once for each later slice
-  slice-words : (t : ℕ) → t < s → slice t ≡ markedWords (laterWords k (s - suc t) (k .spread)) (u t) (length (laterWords k (s - suc t) (k .spread)))
-  slice-words t h =
-      slice-joined t (chains k)
-      ∙ joined-ext (λ d. listed (u t d) (column k s t d)) (λ d. listed (u t d) (getD (laterWords k (s - suc t) (k .spread)) d 0)) (chains k)
+  -- the columns of slice t are the spread words of its unknown cells, advanced once for each later slice; of its first n chains
+  pub first-words : (t n : ℕ) → t < s → n ≤ chains k → sliceColumns k s u t n ≡ markedWords (laterWords k (s - suc t) (k .spread)) (u t) n
+  first-words t n h few =
+      slice-joined t n
+      ∙ joined-ext (λ d. listed (u t d) (column k s t d)) (λ d. listed (u t d) (getD (laterWords k (s - suc t) (k .spread)) d 0)) n
       (λ c l.
       ap (listed (u t c))
-      (column-closed k s t c h l ∙ (let same : s - 1 - t ≡ s - suc t = omega arith in ap (λ (j : ℕ). later k j (getD (k .spread) c 0)) same)
+      (column-closed k s t c h (omega arith)
+      ∙ (let same : s - 1 - t ≡ s - suc t = omega arith in ap (λ (j : ℕ). later k j (getD (k .spread) c 0)) same)
       ∙ sym (later-words-get k (s - suc t) (k .spread) c)))
+
+  -- .. and of all of them
+  slice-words : (t : ℕ) → t < s → slice t ≡ markedWords (laterWords k (s - suc t) (k .spread)) (u t) (length (laterWords k (s - suc t) (k .spread)))
+  slice-words t h =
+      first-words t (chains k) h (omega arith)
       ∙ ap (joined (λ d. listed (u t d) (getD (laterWords k (s - suc t) (k .spread)) d 0))) (sym (later-words-length k (s - suc t) (k .spread)))
 
   -- the columns of the slices from t on

@@ -1,0 +1,52 @@
+-- The columns of marked cells in portions, from the last column to the first. Where the chains' words come from changes nothing of a
+-- portion: they are advanced by one clock for each slice, or made from the spread words by the powers of the register.
+--
+--   wiring s ws            the register of a source s, which counts as at most 64 bits wide, with chains of the spread words ws
+--   slicesIn s             its slices, which count as at most 512
+--   columnsLeft k s u t c  the columns of the first t slices' unknown cells, but that in the last of these only the chains below c count
+--   Way k j ps ws          the words ws are the circuit's spread words j clocks later, or there are the powers ps that make them so
+--   Ready k s t ps ws      .. for the columns of the slice before the t-th of s, where slices, chains and width are within their limits
+--   PortionOf ..           a portion stands at the end of the list l′, which was l, and r tells which columns are left
+use mathlib.Core.Path.{_≡_}
+use mathlib.Core.Bool.{false}
+use mathlib.Core.List.{List, [], _++_, map}
+use Prim.Native.Nat.{ℕ, zero, suc, _-_, _≤_, _<_, min}
+use lib.ListN.{length, take, drop, getD}
+use Rattle.chains.specs.Driven.{badSpread}
+use Rattle.register.specs.Circuit.{Circuit, circuit, chains}
+use Rattle.signatures.specs.Signature.{Response}
+use Rattle.signatures.specs.Later.{later}
+use Rattle.signatures.specs.Columns.{sliceColumns, columnsBelow}
+use Rattle.portions.specs.declared.Source.{Source}
+use Rattle.portions.specs.declared.Portion.{Portion}
+
+abbrev pub wiring : Source → List ℕ → Circuit
+wiring s ws = circuit (min (s .register .m) 64) (s .register .taps) (s .register .inversion) ws
+
+abbrev pub slicesIn : Source → ℕ
+slicesIn s = min (s .s) 512
+
+abbrev pub columnsLeft : Circuit → ℕ → Response → ℕ → ℕ → List ℕ
+columnsLeft k s u zero c = []
+columnsLeft k s u (suc t) c = columnsBelow k s u t ++ sliceColumns k s u t c
+
+pub data Way (k : Circuit) (j : ℕ) (ps ws : List ℕ) : Type 0 where
+  swept : length ps ≡ 0 → ws ≡ map (later k j) (k .spread) → Way k j ps ws
+  sparse : length ps ≡ 576 → ((i : ℕ) → i < 576 → getD ps i 0 ≡ later k i 1) → badSpread (k .width) (k .spread) ≡ false → ws ≡ k .spread → Way k j ps ws
+
+pub record Ready (k : Circuit) (s t : ℕ) (ps ws : List ℕ) : Type 0 where
+  pub inside : t ≤ s
+  pub slices : s ≤ 512
+  pub few : chains k ≤ 256
+  pub narrow : k .width ≤ 64
+  pub way : Way k (s - t) ps ws
+
+-- the columns from those that r leaves on, up to those that `from` had left, stand from r .place on, and nothing else of the list has
+-- changed; the words are ready for what is left
+pub record PortionOf (k : Circuit) (s : ℕ) (u : Response) (ps : List ℕ) (from : Portion) (ws′ l l′ : List ℕ) (r : Portion) : Type 0 where
+  pub chains : r .chains ≤ chains k
+  pub place : r .place ≤ length l
+  pub long : length l′ ≡ length l
+  pub listed : columnsLeft k s u (from .t) (from .chains) ≡ columnsLeft k s u (r .t) (r .chains) ++ drop (r .place) l′
+  pub kept : take (r .place) l′ ≡ take (r .place) l
+  pub ready : Ready k s (r .t) ps ws′

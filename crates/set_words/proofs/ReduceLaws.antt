@@ -1,0 +1,82 @@
+-- The work on portions: where it starts, what a portion does, and its ends. Assumes nothing.
+use mathlib.Core.Path.{_≡_, sym, ap, _∙_, subst}
+use mathlib.Core.List.{List, [], _++_, append-assoc}
+use Prim.Native.Nat.{ℕ, _+_, _-_, _^_, _≤_, _<_}
+use native.Mathlib.Omega.{arith}
+use lib.ListN.{length, take, drop, getD, length-drop, drop-of-length-le}
+use lib.Seq.{take-at, take-all, length-take-le}
+use Rattle.word.specs.Zeros.{zeros, filled}
+use Rattle.combinations.specs.Reduced.{reducedList}
+use Rattle.combinations.specs.Step.{steps}
+use Rattle.combinations.proofs.Portions.{portion-before, steps-most}
+use Rattle.parity_table.specs.Table.{ParityTable, tableRun}
+use Rattle.parity_table.proofs.SkipLaws.{table-run-from, next-skipped}
+use Rattle.elimination.proofs.LoopLaws.{steps-none}
+use Rattle.register.specs.Circuit.{Circuit, chains}
+use Rattle.signatures.specs.Signature.{Response}
+use Rattle.signatures.specs.Columns.{columnsBelow}
+use Rattle.portions.specs.Portions.{columnsLeft, Ready, PortionOf}
+use Rattle.portions.specs.declared.Portion.{Portion}
+use Rattle.set_words.specs.Reducing.{Reduced, Done}
+
+-- the columns from place i of the list l on went through the elimination: the words that are left stand at the front of the list that
+-- they were in
+pub front-words : (l h h′ : List ℕ) (i left : ℕ) → left ≡ length (steps (take (length l - i) (drop i l)) h)
+    → h′ ≡ filled (steps (take (length l - i) (drop i l)) h) (length h) → take left h′ ≡ steps (drop i l) h
+front-words l h h′ i left e eh =
+    let all : take (length l - i) (drop i l) ≡ drop i l = take-all (length l - i) (drop i l) (omega (arith, length-drop i l)) in
+    ap (take left) eh
+    ∙ take-at (steps (take (length l - i) (drop i l)) h) (zeros (length h - length (steps (take (length l - i) (drop i l)) h))) left (sym e)
+    ∙ ap (λ (x : List ℕ). steps x h) all
+
+-- the columns before place `odd` were looked up in the words' own table, and are even with them
+module _ (h table l : List ℕ) (place odd : ℕ) (few : length h ≤ 64) (right : ParityTable (take 64 h) table) (small : (i : ℕ) → getD l i 0 < 2 ^ 64)
+    (e : odd ≡ place + tableRun table (drop place l)) where
+  pub passed-over : steps (drop odd l) h ≡ steps (drop place l) h
+  passed-over = next-skipped h l place odd few (table-run-from (take 64 h) table l place odd right small e) .1
+
+  pub all-passed : length l ≤ odd → h ≡ steps (drop place l) h
+  unfolding steps
+  all-passed past = ap (λ (x : List ℕ). steps x h) (sym (drop-of-length-le l past)) ∙ passed-over
+
+pub fewer-words : (cs h : List ℕ) (left : ℕ) → left ≡ length (steps cs h) → left ≤ length h
+fewer-words cs h left e = omega (arith, steps-most cs h)
+
+module _ (k : Circuit) (s : ℕ) (u : Response) (m : ℕ) (ps : List ℕ) where
+  -- a portion, whose columns made the words h into h′
+  pub reduced-portion : (from r : Portion) (ws ws′ h h′ l l′ : List ℕ) → Reduced k s u m ps (from .t) (from .chains) ws h
+      → PortionOf k s u ps from ws′ l l′ r → h′ ≡ steps (drop (r .place) l′) h → Reduced k s u m ps (r .t) (r .chains) ws′ h′
+  reduced-portion from r ws ws′ h h′ l l′ so-far p e = record {
+    ready = p .ready;
+    few = p .chains;
+    columns = drop (r .place) l′ ++ so-far .columns;
+    split =
+        so-far .split ∙ ap (λ (x : List ℕ). x ++ so-far .columns) (p .listed)
+            ∙ append-assoc (columnsLeft k s u (r .t) (r .chains)) (drop (r .place) l′) (so-far .columns);
+    words = e ∙ ap (steps (drop (r .place) l′)) (so-far .words) ∙ sym (portion-before m (drop (r .place) l′) (so-far .columns));
+  }
+
+  -- the same words and slices, by other names
+  pub reduced-alike : (t t′ c : ℕ) (ws h h′ : List ℕ) → t′ ≡ t → h′ ≡ h → Reduced k s u m ps t c ws h → Reduced k s u m ps t′ c ws h′
+  reduced-alike t t′ c ws h h′ et e so-far =
+      subst (λ (x : ℕ). Reduced k s u m ps x c ws h′) (sym et) (subst (Reduced k s u m ps t c ws) (sym e) so-far)
+
+  whole : (t c : ℕ) (ws h : List ℕ) → Reduced k s u m ps t c ws h → reducedList m (columnsBelow k s u s) ≡ steps (columnsLeft k s u t c) h
+  whole t c ws h so-far =
+      ap (reducedList m) (so-far .split) ∙ portion-before m (columnsLeft k s u t c) (so-far .columns)
+      ∙ ap (steps (columnsLeft k s u t c)) (sym (so-far .words))
+
+  -- no word is left, so none will be
+  pub done-early : (t c : ℕ) (ws l : List ℕ) (left : ℕ) → left ≡ 0 → Reduced k s u m ps t c ws (take left l) → Done k s u m 0 l
+  done-early t c ws l left z so-far =
+      let none : reducedList m (columnsBelow k s u s) ≡ [] =
+      whole t c ws (take left l) so-far ∙ ap (λ (i : ℕ). steps (columnsLeft k s u t c) (take i l)) z ∙ steps-none (columnsLeft k s u t c)
+      in (ap length (sym none), sym none)
+
+  -- no column is left
+  pub done-all : (t c : ℕ) (ws l : List ℕ) (left : ℕ) → t ≡ 0 → left ≤ length l → Reduced k s u m ps t c ws (take left l) → Done k s u m left l
+  unfolding steps
+  done-all t c ws l left z h so-far =
+      let all : take left l ≡ reducedList m (columnsBelow k s u s) =
+      sym (whole t c ws (take left l) so-far ∙ ap (λ (i : ℕ). steps (columnsLeft k s u i c) (take left l)) z)
+      in (sym (length-take-le left l h) ∙ ap length all, all)
