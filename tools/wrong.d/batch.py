@@ -375,12 +375,13 @@ class Batch:
         for room in (WORKING, self.pick([0, 1, 5, 63, 65, 70, 128, 200])):
             for powers in ([], powers_of(one.m, one.taps)):
                 self.portions(register, s, data, marks, one.spread, powers, room)
-        # no powers of this register, too few of them, chains that end before the last, slices that end before the last
-        register[0] = self.pick([one.m, one.m, 0, 65, self.pick(NUMBERS)])
-        powers = self.pick([self.junk_words(576), powers_of(one.m, one.taps)[:self.random.randrange(577)], []])
-        chains, t = self.random.randint(0, n), self.random.randint(0, s)
-        self.call("portions::fill_portion", register + [s] + marks + [t, chains, self.pick(NUMBERS)], a=data, b=packed(powers),
-                  v=self.pick([one.spread, self.junk_words(n)]), u=self.junk_words(self.pick([0, 3, WORKING, 100])))
+        # from any slice and any chain on
+        chains, t, words = self.random.randint(0, n), self.random.randint(0, s), one.spread
+        for _ in range(s - t):
+            words = [clocked(one.m, one.taps, w) for w in words]
+        for powers, held in (([], words), (powers_of(one.m, one.taps), one.spread)):
+            self.call("portions::fill_portion", register + [s] + marks + [t, chains, self.pick(NUMBERS)], a=data, b=packed(powers),
+                      v=held, u=self.junk_words(self.pick([0, 3, WORKING, 100])))
 
     def parts_of(self, one, data):
         """The calls below the boundary that go by a set's numbers."""
@@ -408,6 +409,9 @@ class Batch:
         self.fill(taken, bad, data, marks, room, [self.pick(FILLERS)])
         self.fill([m, taps, inversion] + taken[3:], self.pick([bad, spread]), data, marks, room, [self.pick(FILLERS)])
         self.keep([m, taps, inversion] + taken[3:], self.pick([bad, spread]), data, marks, 64)
+        self.keep(taken, bad, data, marks, 64, WORKING)
+        for words in (spread, bad, spread[:n - 1] + [0] + spread[n:], (spread[:n] + self.junk_words(256))[:256]):
+            self.call("sparse_columns::has_bad_word", [self.pick([one.m, one.m, m])] + taken[1:], v=words)
         self.call("signing::zero_signature", [m, taps, inversion] + taken[3:], a=data, v=bad)
 
     def lists_of_rows(self, count):
@@ -753,6 +757,7 @@ class Batch:
                 self.call("elimination::write_front", v=self.junk_words(room), u=words)
             self.call("word::clear_words", v=self.junk_words(self.pick([0, 1, 2, 63, 64, 65, 200])))
         self.call("elimination::unit_words", v=self.junk_words(64))
+        self.call("powers::no_powers", v=self.junk_words(576))
         for m in (1, 5, 64):
             self.call("reduced_list::is_next", [m, 0, 0, 0])
             self.call("reduced_list::is_next", [m, 1, 0, 1])
