@@ -51,6 +51,16 @@ module _ (set : List ℕ) (r : Rows) (n : ℕ) (e : (r .at ≡ markAt n 0) × (r
       place : markAt n 0 + 2 * rowBytes n * t ≡ markAt n t
       place = omega (arith, mul-zero (2 * rowBytes n))
 
+-- the columns of a taken set's marked cells are the set's
+pub columns-are : (set : List ℕ) (k : Taken) → TakenFrom set k → (r : Rows) → (r .at ≡ markAt (k .n) 0) × (r .stride ≡ 2 * rowBytes (k .n)) × (r .bytes ≡ rowBytes (k .n))
+    → columnsBelow (takenCircuit k) (min (k .s) 512) (cellsOf set r) (min (k .s) 512) ≡ columnsOf set
+unfolding columnsOf
+columns-are set k taken r e =
+    let limited : min (k .s) 512 ≡ slicesOf set = omega (arith, taken .slices, accepted set (taken .none) .slices) in
+    ap₂ (λ (x : Circuit) (y : ℕ). columnsBelow x y (cellsOf set r) y) (taken .circuit) limited
+    ∙ columns-ext (circuitOf set) (slicesOf set) (cellsOf set r) (marks set) (slicesOf set)
+    (λ t c l h. ap (λ (row : List ℕ). cell row c) (mark-rows-row set r (k .n) e (taken .chains) t))
+
 -- past the set's numbers only 14 is left, for a list of `room` places
 pub list-past-set : (set : List ℕ) (room : ℕ) → firstOf (setTests set) ≡ 0 → firstOf (listTests set room) ≡ firstOf (14 when ltb room (placesOf set) ∷ [])
 unfolding listTests
@@ -62,9 +72,6 @@ module _ (set l : List ℕ) (k : Taken) (taken : TakenFrom set k) where
 
   whole : Accepted set
   whole = accepted set (taken .none)
-
-  slices-limited : min (k .s) 512 ≡ slicesOf set
-  slices-limited = omega (arith, taken .slices, whole .slices)
 
   module _ (r : Rows) (e : (r .at ≡ markAt (k .n) 0) × (r .stride ≡ 2 * rowBytes (k .n)) × (r .bytes ≡ rowBytes (k .n)))
       (unknowns : ℕ) (eu : unknowns ≡ total (k .s) (λ t. total 256 (cellsOf set r t))) where
@@ -81,13 +88,6 @@ module _ (set l : List ℕ) (k : Taken) (taken : TakenFrom set k) where
         refused-leaves _ 14 (unknownsOf set) (columnsOf set) l
         (sym (list-later ∙ (rw (lt-ltb (length l) (placesOf set) (omega (arith, unknowns-are)))))) (λ (z : 14 ≡ 0). omega arith)
 
-    pub columns-are : columnsBelow (takenCircuit k) (min (k .s) 512) (cellsOf set r) (min (k .s) 512) ≡ columnsOf set
-    unfolding columnsOf
-    columns-are =
-        ap₂ (λ (x : Circuit) (y : ℕ). columnsBelow x y (cellsOf set r) y) (taken .circuit) slices-limited
-        ∙ columns-ext (circuitOf set) (slicesOf set) (cellsOf set r) (marks set) (slicesOf set)
-        (λ t c l h. ap (λ (row : List ℕ). cell row c) (mark-rows-row set r (k .n) e (taken .chains) t))
-
     pub list-answers : (part : List ℕ) → unknowns ≤ length l
         → part ≡ back (columnsBelow (takenCircuit k) (min (k .s) 512) (cellsOf set r) (min (k .s) 512)) (take unknowns l)
         → Lists set l (answer unknowns) (part ++ drop unknowns l)
@@ -102,5 +102,5 @@ module _ (set l : List ℕ) (k : Taken) (taken : TakenFrom set k) where
 
         written : part ≡ columnsOf set
         written =
-            ep ∙ ap (λ (x : List ℕ). back x (take unknowns l)) columns-are
+            ep ∙ ap (λ (x : List ℕ). back x (take unknowns l)) (columns-are set k taken r e)
             ∙ back-whole (columnsOf set) (take unknowns l) (sym many ∙ sym (length-take-le unknowns l h))

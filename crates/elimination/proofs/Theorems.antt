@@ -4,6 +4,7 @@
 --   reply-2, reply-15, reply-17, reply-18   when each number is given (16 never is)
 --   reply-done                              the answer: the rank and q
 --   later-numbers                           past 15 the numbers are 16, 17 and 18
+--   rank-most                               16 never applies
 -- Assumes nothing.
 use mathlib.Core.Path.{_≡_}
 use mathlib.Core.Bool.{true, false}
@@ -22,7 +23,7 @@ use Rattle.combinations.proofs.Theorems.{words-and-rank}
 use Rattle.elimination.specs.Elimination.{eliminationTests, eliminationReply}
 
 -- 16 never applies
-rank-most : (m : ℕ) (cs : List ℕ) → anyOf (beyond m) cs ≡ false → ltb m (rank cs) ≡ false
+pub rank-most : (m : ℕ) (cs : List ℕ) → anyOf (beyond m) cs ≡ false → ltb m (rank cs) ≡ false
 rank-most m cs b = le-ltb m (rank cs) (omega (arith, words-and-rank m cs b))
 
 module _ (m : ℕ) (cs : List ℕ) (k : ℕ) where

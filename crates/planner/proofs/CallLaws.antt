@@ -1,131 +1,148 @@
 -- Each way out of the call that gives the words, and of planning, and what they answer and leave in the two lent lists; what a caller
 -- knows of planning's answer: its parts are the set's (planned-parts), and the words stand at the front of the word list (words-front).
 -- Assumes nothing.
-use mathlib.Core.Path.{_≡_, refl, sym, ap, ap₂, _∙_, subst}
-use mathlib.Core.List.{List}
-use Prim.Native.Nat.{ℕ, zero, suc, _≤_}
+use mathlib.Core.Path.{_≡_, refl, sym, ap, ap₂, _∙_}
+use mathlib.Core.Bool.{Bool, true, false, cond}
+use mathlib.Core.List.{List, [], _∷_}
+use Prim.Native.Nat.{ℕ, zero, suc, _*_, _≤_}
 use native.Mathlib.Omega.{arith}
+use lib.Dec.{ltb}
 use lib.ListN.{length, take}
-use Rattle.word.specs.Reply.{Reply, answer, refusal, reply, replied, firstOf, numberOf, front, lent}
-use Rattle.word.proofs.ReplyLaws.{refused-reply, refusal-leaves, front-part, answered-part}
-use Rattle.word.proofs.TestLaws.{replied-answer, replied-number, replied-not-zero, replied-alike}
-use Rattle.combinations.specs.Combination.{rank}
+use Rattle.word.specs.Reply.{Test, _when_, Reply, answer, refusal, replied, firstOf, numberOf, lent}
+use Rattle.word.specs.Zeros.{zeros}
+use Rattle.word.proofs.ReplyLaws.{refused-reply, refusal-leaves, refused-leaves, answered-part}
+use Rattle.word.proofs.TestLaws.{replied-answer, replied-alike}
+use Rattle.combinations.specs.Combination.{rank, onlyEmpty}
 use Rattle.combinations.specs.Reduced.{reducedList}
-use Rattle.elimination.specs.Elimination.{Counts, eliminationReply, said as eliminated}
-use Rattle.elimination.specs.declared.Eliminated.{Eliminated}
-use Rattle.elimination.proofs.Theorems.{later-numbers}
-use Rattle.set_layout.specs.Layout.{widthOf}
-use Rattle.set_file.specs.Reading.{setTests}
-use Rattle.set_file.proofs.Laws.{Accepted, accepted}
-use Rattle.signatures.specs.Sets.{columnsOf, unknownsOf}
-use Rattle.signatures.proofs.SetLaws.{length-columns, columns-of-within}
-use Rattle.columns.proofs.CallLaws.{Lists}
-use Rattle.columns.specs.Listing.{listTests, listReply, columnsAfter}
+use Rattle.elimination.proofs.Theorems.{rank-most}
+use Rattle.rows.specs.Row.{rowBytes}
+use Rattle.rows.specs.declared.Rows.{Rows}
+use Rattle.set_layout.specs.Layout.{widthOf, markAt}
+use Rattle.set_file.specs.Reading.{setTests, TakenFrom}
+use Rattle.set_file.specs.declared.Taken.{Taken}
+use Rattle.set_file.proofs.Laws.{Accepted, accepted, accepted-width}
+use Rattle.signatures.specs.Sets.{columnsOf}
+use Rattle.signatures.proofs.SetLaws.{columns-of-within}
+use Rattle.columns.proofs.CallLaws.{columns-are}
+use Rattle.set_words.specs.Working.{workingPlaces, workingTest, takenWidth, takenColumns, takenWords, keptTests, keptReply, said as keptSaid}
+use Rattle.set_words.specs.declared.Kept.{Kept}
+use Rattle.set_words.proofs.KeptLaws.{KeptEnd}
 use Rattle.expectation.specs.Expecting.{expectedFor}
-use Rattle.planner.specs.Planning.{wordsOf, expectedOf, planTests, WordParts, wordPartsOf, wordsReply, saidWorded, PlanParts, partsOf, planReply, said}
+use Rattle.planner.specs.Planning.{wordsOf, workTests, workingLeft, expectedOf, planTests, WordParts, wordPartsOf, wordsReply, saidWorded, PlanParts, partsOf, planReply, said}
 use Rattle.planner.specs.declared.Worded.{Worded}
 use Rattle.planner.specs.declared.Planned.{Planned}
 use Rattle.planner.specs.declared.Planned.the-variants.{Plan, Refused}
-use Rattle.planner.proofs.NumberLaws.{later, plan-sooner, plan-later, words-few, planned-none}
+use Rattle.planner.proofs.NumberLaws.{later, plan-sooner, plan-later, work-past-set, words-few, planned-none}
 
--- what the call that gives the words answers, w, and leaves in the column list cs, cs′, and in the word list ws, ws′
+-- what the call that gives the words answers, w, and leaves in the working list cs, cs′, and in the word list ws, ws′
 abbrev pub WordsEnd : List ℕ → List ℕ → List ℕ → Worded → List ℕ → List ℕ → Type 0
 WordsEnd set cs ws w cs′ ws′ =
     (saidWorded w ≡ wordsReply set (length cs) (length ws))
-    × ((cs′ ≡ columnsAfter set cs) × (ws′ ≡ lent (wordsReply set (length cs) (length ws)) (wordsOf set) ws))
+    × ((cs′ ≡ workingLeft set cs) × (ws′ ≡ lent (wordsReply set (length cs) (length ws)) (wordsOf set) ws))
 
 -- .. and planning, p
 abbrev pub Ends : List ℕ → List ℕ → List ℕ → Planned → List ℕ → List ℕ → Type 0
 Ends set cs ws p cs′ ws′ =
     (said p ≡ planReply set (length cs) (length ws))
-    × ((cs′ ≡ columnsAfter set cs) × (ws′ ≡ lent (planReply set (length cs) (length ws)) (wordsOf set) ws))
+    × ((cs′ ≡ workingLeft set cs) × (ws′ ≡ lent (planReply set (length cs) (length ws)) (wordsOf set) ws))
 
-words-refused : (set cs ws cs′ : List ℕ) (k : ℕ) → wordsReply set (length cs) (length ws) ≡ refusal k → cs′ ≡ columnsAfter set cs
+words-refused : (set cs ws cs′ : List ℕ) (k : ℕ) → wordsReply set (length cs) (length ws) ≡ refusal k → cs′ ≡ workingLeft set cs
     → WordsEnd set cs ws (Worded.Refused k) cs′ ws
 words-refused set cs ws cs′ k h e = let left = refusal-leaves _ _ k (wordsOf set) ws h refl in (left .0, (e, left .1))
 
--- what the elimination says
-pub answered : (e : Eliminated) (r q : ℕ) → e ≡ Eliminated.Done r q → answer (record { rank = r; q = q }) ≡ eliminated e
-answered e r q h = sym (ap eliminated h)
-
-pub told : (e : Eliminated) (n k : ℕ) → e ≡ Eliminated.Refused n → k ≡ numberOf (eliminated e) → refusal k ≡ eliminated e
-told e n k r h = ap refusal (h ∙ ap (λ (x : Eliminated). numberOf (eliminated x)) r) ∙ sym (ap eliminated r)
-
 -- ---- the words: the set is refused, or 14
 
-pub words-unlisted : (set cs ws : List ℕ) (k : ℕ) → Lists set cs (refusal k) cs → WordsEnd set cs ws (Worded.Refused k) cs ws
-unfolding wordsReply listReply
-words-unlisted set cs ws k l =
-    let number : firstOf (listTests set (length cs)) ≡ k = replied-number (firstOf (listTests set (length cs))) (unknownsOf set) k (sym (l .0)) in
-    let some : k ≡ 0 → ⊥ = replied-not-zero (firstOf (listTests set (length cs))) (unknownsOf set) k (sym (l .0)) in
-    words-refused set cs ws cs k
-    (sym (refused-reply _ k (wordPartsOf set) (sym (plan-sooner set (length cs) (length ws) (λ z. some (sym number ∙ z)) ∙ number)) some))
-    (l .1)
+pub words-early : (set cs ws : List ℕ) (k : ℕ) → k ≡ firstOf (workTests set (length cs)) → (k ≡ 0 → ⊥) → WordsEnd set cs ws (Worded.Refused k) cs ws
+unfolding wordsReply
+words-early set cs ws k e some =
+    let number : k ≡ firstOf (planTests set (length cs) (length ws)) = e ∙ sym (plan-sooner set (length cs) (length ws) (λ z. some (e ∙ z))) in
+    words-refused set cs ws cs k (sym (refused-reply _ k (wordPartsOf set) number some))
+    (refused-leaves (firstOf (workTests set (length cs))) k workingPlaces (zeros workingPlaces) cs e some .1)
 
--- ---- the words: past 14
-
-counted : List ℕ → Counts
-counted set = record { rank = rank (columnsOf set); q = length (reducedList (widthOf set) (columnsOf set)) }
-
-module _ (set cs cs′ ws : List ℕ) (a : Accepted set) (u : ℕ) (l : Lists set cs (answer u) cs′) where
-  past-list : firstOf (planTests set (length cs) (length ws)) ≡ firstOf (later set (length ws))
-  unfolding listReply
-  past-list =
-      plan-later set (length cs) (length ws) (replied-answer (firstOf (listTests set (length cs))) (unknownsOf set) u (sym (l .0)) .0)
-
-  elimination-later : eliminationReply (widthOf set) (columnsOf set) (length ws) ≡ reply (later set (length ws)) (counted set)
-  unfolding wordsOf columnsOf counted
-  elimination-later = later-numbers (widthOf set) (columnsOf set) (length ws) (a .width) (columns-of-within set a)
-
-  unknown-count : u ≡ unknownsOf set
-  unfolding listReply
-  unknown-count = replied-answer (firstOf (listTests set (length cs))) (unknownsOf set) u (sym (l .0)) .1
-
-  written : cs′ ≡ front (columnsOf set) cs
-  written = l .1 ∙ sym (ap (λ (x : Reply ℕ). lent x (columnsOf set) cs) (l .0))
-
-  -- the columns stand at the front
-  pub listed-columns : take u cs′ ≡ columnsOf set
-  listed-columns = front-part (columnsOf set) cs cs′ u written (unknown-count ∙ sym (length-columns set)) .1
-
-  module _ (m : ℕ) (em : m ≡ widthOf set) where
-    reply-of : eliminationReply m (take u cs′) (length ws) ≡ reply (later set (length ws)) (counted set)
-    reply-of = ap₂ (λ (x : ℕ) (y : List ℕ). eliminationReply x y (length ws)) em listed-columns ∙ elimination-later
-
-    words-of : reducedList m (take u cs′) ≡ wordsOf set
-    unfolding wordsOf columnsOf
-    words-of = ap₂ reducedList em listed-columns
-
-    pub words-uneliminated : (k : ℕ) (ws′ : List ℕ) → refusal k ≡ eliminationReply m (take u cs′) (length ws)
-        → ws′ ≡ lent (eliminationReply m (take u cs′) (length ws)) (reducedList m (take u cs′)) ws → WordsEnd set cs ws (Worded.Refused k) cs′ ws′
-    unfolding wordsReply
-    words-uneliminated k ws′ h w =
-        let there : replied (firstOf (later set (length ws))) (counted set) ≡ refusal k = sym (h ∙ reply-of) in
-        let refused : wordsReply set (length cs) (length ws) ≡ refusal k =
-        replied-alike (firstOf (planTests set (length cs) (length ws))) (counted set) (wordPartsOf set) k (ap (λ (x : ℕ). replied x (counted set)) past-list ∙ there)
-        in
-        let untouched : ws′ ≡ ws = w ∙ sym (ap (λ (x : Reply Counts). lent x (reducedList m (take u cs′)) ws) h) in
-        subst (WordsEnd set cs ws (Worded.Refused k) cs′) (sym untouched) (words-refused set cs ws cs′ k refused (l .1))
-
-    -- the elimination answered with r and q, and left ws′
-    pub words-answered : (r q : ℕ) (ws′ : List ℕ) → answer (record { rank = r; q = q }) ≡ eliminationReply m (take u cs′) (length ws)
-        → ws′ ≡ lent (eliminationReply m (take u cs′) (length ws)) (reducedList m (take u cs′)) ws → WordsEnd set cs ws (Worded.Words m q) cs′ ws′
-    unfolding wordsReply wordsOf columnsOf counted
-    words-answered r q ws′ h w =
-        let both = replied-answer (firstOf (later set (length ws))) (counted set) (record { rank = r; q = q }) (sym (h ∙ reply-of)) in
-        let done : wordsReply set (length cs) (length ws) ≡ answer (wordPartsOf set) = ap (λ (x : ℕ). replied x (wordPartsOf set)) (past-list ∙ both .0) in
-        let put : ws′ ≡ front (wordsOf set) ws =
-        w ∙ sym (ap (λ (x : Reply Counts). lent x (reducedList m (take u cs′)) ws) h) ∙ ap (λ (x : List ℕ). front x ws) words-of
-        in (
-          ap₂ (λ (x y : ℕ). answer (record { m = x; q = y })) em (ap (λ (x : Counts). x .q) (both .1)) ∙ sym done,
-          (l .1, put ∙ sym (ap (λ (x : Reply WordParts). lent x (wordsOf set) ws) done)),
-        )
-
--- ---- planning, by what the call that gives the words answers and leaves
+-- ---- the words: past the set's numbers, of the taken set k and the rows r of its marks
 
 lent-alike : {A : Type 0} {B : Type 0} (n : ℕ) (a : A) (b : B) (vs l : List ℕ) → lent (replied n a) vs l ≡ lent (replied n b) vs l
 lent-alike zero a b vs l = refl
 lent-alike (suc n) a b vs l = refl
+
+-- the numbers past 16
+abbrev rest : List ℕ → ℕ → List Test
+rest set l = 17 when onlyEmpty (widthOf set) (columnsOf set) ∷ 18 when ltb l (length (wordsOf set)) ∷ []
+
+module _ (set : List ℕ) (k : Taken) (taken : TakenFrom set k) (r : Rows)
+    (e : (r .at ≡ markAt (k .n) 0) × (r .stride ≡ 2 * rowBytes (k .n)) × (r .bytes ≡ rowBytes (k .n))) where
+  whole : Accepted set
+  whole = accepted set (taken .none)
+
+  own-width : takenWidth k ≡ widthOf set
+  own-width = omega (arith, taken .width, accepted-width set whole .1)
+
+  own-columns : takenColumns k set r ≡ columnsOf set
+  own-columns = columns-are set k taken r e
+
+  own-words : takenWords k set r ≡ wordsOf set
+  unfolding takenWords wordsOf columnsOf
+  own-words = ap₂ reducedList own-width own-columns
+
+  -- the call on the taken set meets the numbers that are left but 16, which never applies
+  same-first : (p l : ℕ) → firstOf (planTests set p l) ≡ firstOf (keptTests k set r p l)
+  unfolding keptTests
+  same-first p l = go (ltb p workingPlaces) refl
+    where
+      past : firstOf (workTests set p) ≡ firstOf (workingTest p ∷ [])
+      past = work-past-set set p (taken .none)
+
+      go : (b : Bool) → ltb p workingPlaces ≡ b → firstOf (planTests set p l) ≡ firstOf (keptTests k set r p l)
+      go true h =
+          let one : firstOf (workingTest p ∷ []) ≡ 14 = rw h in
+          let short : firstOf (workTests set p) ≡ 14 = past ∙ one in
+          let there : firstOf (keptTests k set r p l) ≡ 14 = rw h in
+          plan-sooner set p l (λ z. omega (arith, short, z)) ∙ short ∙ sym there
+      go false h =
+          let no-test : firstOf (workingTest p ∷ []) ≡ 0 = rw h in
+          let none : firstOf (workTests set p) ≡ 0 = past ∙ no-test in
+          let never : ltb (widthOf set) (rank (columnsOf set)) ≡ false = rank-most (widthOf set) (columnsOf set) (columns-of-within set whole) in
+          let here : firstOf (later set l) ≡ firstOf (rest set l) = rw never in
+          let there : firstOf (keptTests k set r p l) ≡ cond (onlyEmpty (takenWidth k) (takenColumns k set r)) 17 (cond (ltb l (length (takenWords k set r))) 18 0) = rw h in
+          plan-later set p l none ∙ here
+          ∙ sym
+          (there
+          ∙ ap₂ (λ (x y : Bool). cond x 17 (cond y 18 0)) (ap₂ onlyEmpty own-width own-columns) (ap (λ (vs : List ℕ). ltb l (length vs)) own-words))
+
+  module _ (cs ws cs′ ws′ : List ℕ) (kept : Kept) (end : KeptEnd k set r cs ws kept cs′ ws′) where
+    number : ℕ
+    number = firstOf (planTests set (length cs) (length ws))
+
+    reply-there : keptReply k set r (length cs) (length ws) ≡ replied number (length (wordsOf set))
+    unfolding keptReply number
+    reply-there =
+        ap₂ (λ (n : ℕ) (vs : List ℕ). replied n (length vs)) (sym (same-first (length cs) (length ws))) own-words
+
+    working-left : cs′ ≡ workingLeft set cs
+    working-left =
+        end .1 .0 ∙ ap (λ (n : ℕ). lent (replied n workingPlaces) (zeros workingPlaces) cs) (sym (work-past-set set (length cs) (taken .none)))
+
+    words-left : ws′ ≡ lent (wordsReply set (length cs) (length ws)) (wordsOf set) ws
+    unfolding wordsReply number
+    words-left =
+        end .1 .1 ∙ ap₂ (λ (a : Reply ℕ) (vs : List ℕ). lent a vs ws) reply-there own-words
+        ∙ lent-alike number (length (wordsOf set)) (wordPartsOf set) (wordsOf set) ws
+
+    -- j is the number that `number_of` gives
+    pub words-unkept : (n j : ℕ) → kept ≡ Kept.Refused n → j ≡ numberOf (keptSaid kept) → WordsEnd set cs ws (Worded.Refused j) cs′ ws′
+    unfolding wordsReply number
+    words-unkept n j ek h =
+        let refused : replied number (length (wordsOf set)) ≡ refusal n = sym reply-there ∙ sym (end .0) ∙ ap keptSaid ek in
+        let same : j ≡ n = h ∙ ap (λ (x : Kept). numberOf (keptSaid x)) ek in
+        (ap refusal same ∙ sym (replied-alike number (length (wordsOf set)) (wordPartsOf set) n refused), (working-left, words-left))
+
+    pub words-kept : (m q : ℕ) → m ≡ k .register .m → kept ≡ Kept.Words q → WordsEnd set cs ws (Worded.Words m q) cs′ ws′
+    unfolding wordsReply number
+    words-kept m q em ek =
+        let both = replied-answer number (length (wordsOf set)) q (sym reply-there ∙ sym (end .0) ∙ ap keptSaid ek) in
+        (ap₂ (λ (x y : ℕ). answer (record { m = x; q = y })) (em ∙ taken .width) (both .1) ∙ sym (ap (λ (x : ℕ). replied x (wordPartsOf set)) (both .0)), (working-left, words-left))
+
+-- ---- planning, by what the call that gives the words answers and leaves
 
 parts : {m w q k y e : ℕ} → m ≡ w → q ≡ k → y ≡ e → _≡_ {A = Reply PlanParts} (answer (record { m = m; q = q; expected = y })) (answer (record { m = w; q = k; expected = e }))
 parts {w = w} {q = q} {k = k} {y = y} a b c =
@@ -180,8 +197,8 @@ module _ (set cs ws cs′ ws′ : List ℕ) (w : Worded) (end : WordsEnd set cs 
     )
 
 -- the set is refused, or 14
-pub ends-unlisted : (set cs ws : List ℕ) (k : ℕ) → Lists set cs (refusal k) cs → Ends set cs ws (Refused k) cs ws
-ends-unlisted set cs ws k l = ends-refused set cs ws cs ws (Worded.Refused k) (words-unlisted set cs ws k l) k k refl refl
+pub ends-early : (set cs ws : List ℕ) (k : ℕ) → k ≡ firstOf (workTests set (length cs)) → (k ≡ 0 → ⊥) → Ends set cs ws (Refused k) cs ws
+ends-early set cs ws k e some = ends-refused set cs ws cs ws (Worded.Refused k) (words-early set cs ws k e some) k k refl refl
 
 -- ---- what a caller knows of an answer
 

@@ -5,36 +5,35 @@
 --   same-width          the registers' widths
 --   same-number         the first number that planning meets, where both sets meet none of the set's numbers
 --   same-words-reply    .. so the whole reply of the call that gives the words
---   same-columns-after  .. the column list that it leaves
+--   same-working-after  .. the working list that it leaves
 --   same-words-after    .. and the word list
 -- Assumes nothing.
 use mathlib.Core.Path.{_≡_, refl, sym, ap, ap₂, _∙_}
-use mathlib.Core.List.{List, [], _∷_}
+use mathlib.Core.List.{List}
 use Prim.Native.Nat.{ℕ, zero, suc}
 use native.Mathlib.Omega.{arith}
-use lib.Dec.{ltb}
 use lib.ListN.{length}
-use Rattle.word.specs.Reply.{Test, _when_, Reply, replied, firstOf, lent}
+use Rattle.word.specs.Reply.{Reply, replied, firstOf, lent}
+use Rattle.word.specs.Zeros.{zeros}
 use Rattle.combinations.specs.Reduced.{reducedList}
 use Rattle.register.specs.Circuit.{Circuit}
 use Rattle.set_layout.specs.Layout.{widthOf}
 use Rattle.set_file.specs.Reading.{setTests}
-use Rattle.signatures.specs.Sets.{columnsOf, unknownsOf, Revised}
-use Rattle.signatures.proofs.SetLaws.{revised-columns, revised-unknowns}
-use Rattle.columns.specs.Listing.{listTests, listReply, columnsAfter}
-use Rattle.columns.proofs.CallLaws.{list-past-set}
-use Rattle.planner.specs.Planning.{wordsOf, planTests, WordParts, wordPartsOf, wordsReply}
-use Rattle.planner.proofs.NumberLaws.{later, plan-sooner, plan-later}
+use Rattle.signatures.specs.Sets.{columnsOf, Revised}
+use Rattle.signatures.proofs.SetLaws.{revised-columns}
+use Rattle.set_words.specs.Working.{workingPlaces}
+use Rattle.planner.specs.Planning.{wordsOf, workTests, workingLeft, planTests, WordParts, wordPartsOf, wordsReply}
+use Rattle.planner.proofs.NumberLaws.{later, plan-sooner, plan-later, work-past-set}
 
 -- the first number of two lists of tests, by that of each
 abbrev firstNumber : ℕ → ℕ → ℕ
 firstNumber zero n = n
 firstNumber (suc k) n = suc k
 
-plan-number : (set : List ℕ) (k l : ℕ) → firstOf (planTests set k l) ≡ firstNumber (firstOf (listTests set k)) (firstOf (later set l))
-plan-number set k l = go (firstOf (listTests set k)) refl
+plan-number : (set : List ℕ) (k l : ℕ) → firstOf (planTests set k l) ≡ firstNumber (firstOf (workTests set k)) (firstOf (later set l))
+plan-number set k l = go (firstOf (workTests set k)) refl
   where
-    go : (n : ℕ) → firstOf (listTests set k) ≡ n → firstOf (planTests set k l) ≡ firstNumber n (firstOf (later set l))
+    go : (n : ℕ) → firstOf (workTests set k) ≡ n → firstOf (planTests set k l) ≡ firstNumber n (firstOf (later set l))
     go zero h = plan-later set k l h
     go (suc n) h = plan-sooner set k l (λ z. omega (arith, h, z)) ∙ h
 
@@ -47,16 +46,15 @@ module _ (old new : List ℕ) (r : Revised old new) where
   same-words = ap₂ reducedList same-width (revised-columns old new r)
 
   module _ (ho : firstOf (setTests old) ≡ 0) (hn : firstOf (setTests new) ≡ 0) where
-    same-list : (k : ℕ) → firstOf (listTests old k) ≡ firstOf (listTests new k)
-    same-list k =
-        list-past-set old k ho ∙ ap (λ (u : ℕ). firstOf (14 when ltb k u ∷ [])) (revised-unknowns old new r) ∙ sym (list-past-set new k hn)
+    same-work : (k : ℕ) → firstOf (workTests old k) ≡ firstOf (workTests new k)
+    same-work k = work-past-set old k ho ∙ sym (work-past-set new k hn)
 
     same-later : (l : ℕ) → firstOf (later old l) ≡ firstOf (later new l)
     same-later l =
         rw (same-width, revised-columns old new r, same-words) refl
 
     pub same-number : (k l : ℕ) → firstOf (planTests old k l) ≡ firstOf (planTests new k l)
-    same-number k l = plan-number old k l ∙ ap₂ firstNumber (same-list k) (same-later l) ∙ sym (plan-number new k l)
+    same-number k l = plan-number old k l ∙ ap₂ firstNumber (same-work k) (same-later l) ∙ sym (plan-number new k l)
 
     pub same-words-reply : (k l : ℕ) → wordsReply old k l ≡ wordsReply new k l
     unfolding wordsReply
@@ -66,11 +64,8 @@ module _ (old new : List ℕ) (r : Revised old new) where
         parts : wordPartsOf old ≡ wordPartsOf new
         parts = ap₂ (λ (m q : ℕ). record { m = m; q = q }) same-width (ap length same-words)
 
-    pub same-columns-after : (cs : List ℕ) → columnsAfter old cs ≡ columnsAfter new cs
-    unfolding listReply
-    same-columns-after cs =
-        ap₂ (λ (n : ℕ) (vs : List ℕ). lent (replied n (unknownsOf old)) vs cs) (same-list (length cs)) (revised-columns old new r)
-        ∙ ap (λ (u : ℕ). lent (replied (firstOf (listTests new (length cs))) u) (columnsOf new) cs) (revised-unknowns old new r)
+    pub same-working-after : (l : List ℕ) → workingLeft old l ≡ workingLeft new l
+    same-working-after l = ap (λ (n : ℕ). lent (replied n workingPlaces) (zeros workingPlaces) l) (same-work (length l))
 
     pub same-words-after : (k : ℕ) (ws : List ℕ)
         → lent (wordsReply old k (length ws)) (wordsOf old) ws ≡ lent (wordsReply new k (length ws)) (wordsOf new) ws

@@ -1,1 +1,2 @@
 pub mod ReduceLaws
+pub mod KeptLaws

@@ -1,22 +1,29 @@
 -- The work on portions: where it starts, what a portion does, and its ends. Assumes nothing.
 use mathlib.Core.Path.{_≡_, sym, ap, _∙_, subst}
-use mathlib.Core.List.{List, [], _++_, append-assoc}
-use Prim.Native.Nat.{ℕ, _+_, _-_, _^_, _≤_, _<_}
+use mathlib.Core.Bool.{false}
+use mathlib.Core.List.{List, [], _++_, append-assoc, append-nil}
+use Prim.Native.Nat.{ℕ, _+_, _-_, _^_, _≤_, _<_, min}
 use native.Mathlib.Omega.{arith}
-use lib.ListN.{length, take, drop, getD, length-drop, drop-of-length-le}
+use lib.ListN.{length, take, drop, getD, length-drop, length-take, drop-of-length-le}
 use lib.Seq.{take-at, take-all, length-take-le}
 use Rattle.word.specs.Zeros.{zeros, filled}
 use Rattle.combinations.specs.Reduced.{reducedList}
-use Rattle.combinations.specs.Step.{steps}
+use Rattle.combinations.specs.Step.{steps, units}
+use Rattle.combinations.proofs.Theorems.{kept-list}
 use Rattle.combinations.proofs.Portions.{portion-before, steps-most}
 use Rattle.parity_table.specs.Table.{ParityTable, tableRun}
 use Rattle.parity_table.proofs.SkipLaws.{table-run-from, next-skipped}
 use Rattle.elimination.proofs.LoopLaws.{steps-none}
+use Rattle.numbers.proofs.PartLaws.{take-limit}
+use Rattle.chains.specs.Driven.{badSpread}
 use Rattle.register.specs.Circuit.{Circuit, chains}
 use Rattle.signatures.specs.Signature.{Response}
+use Rattle.signatures.specs.Later.{later}
 use Rattle.signatures.specs.Columns.{columnsBelow}
-use Rattle.portions.specs.Portions.{columnsLeft, Ready, PortionOf}
+use Rattle.swept_columns.proofs.FillLaws.{laterWords, later-words, later-words-none}
+use Rattle.portions.specs.Portions.{columnsLeft, Way, swept, sparse, Ready, PortionOf}
 use Rattle.portions.specs.declared.Portion.{Portion}
+use Rattle.portions.proofs.PortionLaws.{left-all}
 use Rattle.set_words.specs.Reducing.{Reduced, Done}
 
 -- the columns from place i of the list l on went through the elimination: the words that are left stand at the front of the list that
@@ -80,3 +87,40 @@ module _ (k : Circuit) (s : ℕ) (u : Response) (m : ℕ) (ps : List ℕ) where
       let all : take left l ≡ reducedList m (columnsBelow k s u s) =
       sym (whole t c ws (take left l) so-far ∙ ap (λ (i : ℕ). steps (columnsLeft k s u i c) (take left l)) z)
       in (sym (length-take-le left l h) ∙ ap length all, all)
+
+-- ---- the start
+
+-- without a column the words are those of single bits
+without-columns : (m : ℕ) → units m ≡ reducedList m []
+unfolding steps
+without-columns m = sym (kept-list m [])
+
+module _ (k : Circuit) (s : ℕ) (u : Response) (m : ℕ) (ps ws h : List ℕ) (slices : s ≤ 512) (few : chains k ≤ 256) (narrow : k .width ≤ 64)
+    (words : ws ≡ k .spread) (units-there : h ≡ units m) where
+  starts : Way k (s - s) ps ws → Reduced k s u m ps s (length ws) ws h
+  starts way = record {
+    ready = record { inside = omega arith; slices = slices; few = few; narrow = narrow; way = way };
+    few = omega (arith, ap length words);
+    columns = [];
+    split =
+        sym (left-all k s u s) ∙ ap (columnsLeft k s u s) (sym (ap length words)) ∙ sym (append-nil (columnsLeft k s u s (length ws)));
+    words = units-there ∙ without-columns m;
+  }
+
+  -- all the chains' words are advanced together
+  pub starts-swept : length ps ≡ 0 → Reduced k s u m ps s (length ws) ws h
+  starts-swept none =
+      let now : s - s ≡ 0 = omega arith in
+      starts (swept none (words ∙ sym (later-words-none k (k .spread)) ∙ ap (λ (j : ℕ). laterWords k j (k .spread)) (sym now) ∙ later-words k (s - s) (k .spread)))
+
+  -- each column is made by the powers of the register
+  pub starts-sparse : length ps ≡ 576 → ((i : ℕ) → i < 576 → getD ps i 0 ≡ later k i 1) → badSpread (k .width) (k .spread) ≡ false
+      → Reduced k s u m ps s (length ws) ws h
+  starts-sparse many right good = starts (sparse many right good words)
+
+-- the first chains' words of a taken set, with the limit on chains
+pub limited-words : (n chains : ℕ) (spread words : List ℕ) → chains ≡ min n 256 → (words ≡ spread) × (length words ≡ 256) → take chains words ≡ take n spread
+limited-words n chains spread words ec e = take-limit words n chains (ec ∙ ap (min n) (sym (e .1))) ∙ ap (take n) (e .0)
+
+pub limited-few : (n : ℕ) (spread words : List ℕ) → (words ≡ spread) × (length words ≡ 256) → length (take n spread) ≤ 256
+limited-few n spread words e = omega (arith, length-take n spread, ap length (e .0), e .1)

@@ -2,8 +2,8 @@
 use mathlib.Core.Path.{_∙_}
 use borrow.Author.Needs.{needs}
 use Rattle.set_file.proofs.ReadLaws.{refused-set, taken-set}
-use Rattle.columns.proofs.CallLaws.{list-set-refused}
-use Rattle.planner.proofs.CallLaws.{words-unlisted}
+use Rattle.planner.proofs.NumberLaws.{set-first}
+use Rattle.planner.proofs.CallLaws.{words-early}
 use Rattle.planner.proofs.make_words.Statement.{statement}
 use Rattle.planner.proofs.make_words.Tie as tie
 
@@ -12,7 +12,7 @@ returns c =
     let args = c .before .before .before .before .before .before .before .before .before .args in
     let refused = refused-set _ _ _ _ _ (c .before .before .before .before .before .read-set .ensures) (c .before .before .enum-told .given .1) (c .before .number-of .ensures) in (
       (λ z. absurd (refused .1 (refused .0 ∙ z))),
-      words-unlisted _ _ (args .words .now) _ (list-set-refused _ (args .columns .now) _ (refused .0) (refused .1)),
+      words-early _ (args .working .now) (args .words .now) _ (set-first _ _ _ (refused .0) (refused .1)) (refused .1),
     )
 
 returns-2 : tie.Need-returns-2

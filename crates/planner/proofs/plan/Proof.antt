@@ -10,12 +10,12 @@ use Rattle.planner.proofs.plan.Tie as tie
 returns : tie.Need-returns
 returns c =
     let args = c .before .before .before .before .before .before .before .before .before .before .before .before .before .before .args in
-    ends-refused _ (args .columns .now) (args .words .now) _ _ _ (c .before .before .before .before .before .before .before .before .make-words .ensures .1) _ _ (c .before .enum-told .given .1) (c .words-number .ensures)
+    ends-refused _ (args .working .now) (args .words .now) _ _ _ (c .before .before .before .before .before .before .before .before .make-words .ensures .1) _ _ (c .before .enum-told .given .1) (c .words-number .ensures)
 
 slice-reshare-prefix-expected-bits : tie.Need-slice-reshare-prefix-expected-bits
 slice-reshare-prefix-expected-bits c =
     let args = c .before .before .before .before .before .before .before .before .before .before .before .before .before .before .args in
-    worded-words _ (args .columns .now) (args .words .now) _ _ _ (c .before .before .before .before .before .before .before .before .make-words .ensures .1) _ _ (c .before .worded .given .1) .0
+    worded-words _ (args .working .now) (args .words .now) _ _ _ (c .before .before .before .before .before .before .before .before .make-words .ensures .1) _ _ (c .before .worded .given .1) .0
 
 slice-aggregate-expected-bits : tie.Need-slice-aggregate-expected-bits
 slice-aggregate-expected-bits c = sym (length-take-le _ _ (slice-reshare-prefix-expected-bits (c .before)))
@@ -25,9 +25,9 @@ returns-2 c =
     let args = c .before .before .before .before .before .before .before .before .before .before .before .before .before .before .before .before .args in
     let made = c .before .before .before .before .before .before .before .before .before .before .make-words .ensures in
     let some = c .before .before .before .worded .given .1 in
-    ends-planned _ (args .columns .now) (args .words .now) _ _ _ (made .1) _ _ some _
-    (expected-taken _ _ _ _ (made .0 (worded-set _ (args .columns .now) (args .words .now) _ _ _ (made .1) _ _ some))
-    (worded-few _ (args .columns .now) (args .words .now) _ _ _ (made .1) _ _ some) (c .expected-bits .ensures))
+    ends-planned _ (args .working .now) (args .words .now) _ _ _ (made .1) _ _ some _
+    (expected-taken _ _ _ _ (made .0 (worded-set _ (args .working .now) (args .words .now) _ _ _ (made .1) _ _ some))
+    (worded-few _ (args .working .now) (args .words .now) _ _ _ (made .1) _ _ some) (c .expected-bits .ensures))
 
 pub plan-spec : {M : Type 1} → statement M
 plan-spec =

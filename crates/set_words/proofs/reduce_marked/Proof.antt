@@ -1,0 +1,78 @@
+-- `reduce_marked` meets its contract, by the powers of the register or without them.
+use mathlib.Core.Path.{_≡_, refl, sym, ap, _∙_}
+use native.Mathlib.Omega.{arith}
+use Prim.Native.Nat.{min}
+use lib.Dec.{ltb}
+use lib.ListN.{length, take, length-take}
+use lib.Seq.{length-take-le}
+use Rattle.word.proofs.BoolLaws.{or-false-right}
+use Rattle.powers.proofs.PowerLaws.{later-same}
+use Rattle.set_words.specs.Working.{takenWords}
+use Rattle.set_words.proofs.ReduceLaws.{starts-swept, starts-sparse, limited-words, limited-few}
+use borrow.Author.Needs.{needs}
+use Rattle.set_words.proofs.reduce_marked.Statement.{statement}
+use Rattle.set_words.proofs.reduce_marked.Tie as tie
+
+slice-aggregate-reduce-all : tie.Need-slice-aggregate-reduce-all
+slice-aggregate-reduce-all c = refl
+
+slice-aggregate-reduce-all-2 : tie.Need-slice-aggregate-reduce-all-2
+slice-aggregate-reduce-all-2 c = sym (length-take-le _ _ (search needs))
+
+reduce-all-requires : tie.Need-reduce-all-requires
+reduce-all-requires c κs = (c .before .before .before .before .before .before .before .before .before .before .before .before .before .before .before .pre, omega (arith, length-take (c .before .before .before .before .before .before .before .before .before .before .chain-limit .result) (c .before .before .before .before .before .before .before .before .all-words .result), c .before .before .before .before .before .before .before .before .before .before .chain-limit .ensures))
+
+returns : tie.Need-returns
+unfolding takenWords
+returns c =
+    let taken = c .before .before .before .before .before .before .before .before .before .before .before .before .before .before .before .before .before .before .before .before .before .args .taken in
+    let all = c .before .before .before .before .before .before .before .before .before .before .before .before .before .before .all-words .ensures in
+    let few = c .before .before .before .before .before .before .before .before .before .before .before .before .before .before .before .before .chain-limit .ensures in
+    let reduced = c .before .before .before .before .before .reduce-all in
+    (reduced .ensures .0, (λ start. reduced .ensures .1 (take (taken .n) (taken .spread)) (min (taken .register .m) 64) (starts-swept _ _ _ _ _ _ _ (omega arith) (limited-few (taken .n) _ _ all) (omega arith) (limited-words _ _ _ _ few all) start refl)))
+
+slice-aggregate-reduce-all-3 : tie.Need-slice-aggregate-reduce-all-3
+slice-aggregate-reduce-all-3 c = search needs
+
+slice-aggregate-reduce-all-4 : tie.Need-slice-aggregate-reduce-all-4
+slice-aggregate-reduce-all-4 c = sym (length-take-le _ _ (search needs))
+
+reduce-all-requires-2 : tie.Need-reduce-all-requires-2
+reduce-all-requires-2 c κs = (c .before .before .before .before .before .before .before .before .before .before .before .before .before .before .before .pre, omega (arith, length-take (c .before .before .before .before .before .before .before .before .before .before .chain-limit .result) (c .before .before .before .before .before .before .before .before .all-words .result), c .before .before .before .before .before .before .before .before .before .before .chain-limit .ensures))
+
+returns-2 : tie.Need-returns-2
+unfolding takenWords
+returns-2 c =
+    let taken = c .before .before .before .before .before .before .before .before .before .before .before .before .before .before .before .before .before .before .before .before .before .args .taken in
+    let all = c .before .before .before .before .before .before .before .before .before .before .before .before .before .before .all-words .ensures in
+    let few = c .before .before .before .before .before .before .before .before .before .before .before .before .before .before .before .before .chain-limit .ensures in
+    let reduced = c .before .before .before .before .before .reduce-all2 in
+    (reduced .ensures .0, (λ start. reduced .ensures .1 (take (taken .n) (taken .spread)) (min (taken .register .m) 64) (starts-sparse _ _ _ _ _ _ _ (omega arith) (limited-few (taken .n) _ _ all) (omega arith) (limited-words _ _ _ _ few all) start (search needs)
+    (λ i l. c .before .before .before .before .before .before .before .before .before .before .powers2 .ensures i l ∙ later-same _ _ (taken .register .inversion) (take (taken .n) (taken .spread)) i 1)
+    (sym (c .before .before .before .before .before .before .before .before .before .before .before .before .has-bad-word .ensures) ∙ or-false-right (ltb 512 (c .before .before .before .before .before .before .before .before .before .before .before .before .before .count-marks .result)) (c .before .before .before .before .before .before .before .before .before .before .before .before .has-bad-word .result) (c .before .before .before .before .before .before .before .before .before .before .before .if1 .left)))))
+
+pub reduce-marked-spec : {M : Type 1} → statement M
+reduce-marked-spec =
+    tie.close
+    (tie.spec
+    (λ c κs. search needs)
+    (λ c κs. search needs)
+    (λ c κs. search needs)
+    (λ c κs. search needs)
+    (λ c κs. search needs)
+    (λ c. search needs)
+    slice-aggregate-reduce-all
+    (λ c. search needs)
+    slice-aggregate-reduce-all-2
+    reduce-all-requires
+    (λ c. search needs)
+    (λ c. search needs)
+    returns
+    (λ c κs. search needs)
+    slice-aggregate-reduce-all-3
+    (λ c. search needs)
+    slice-aggregate-reduce-all-4
+    reduce-all-requires-2
+    (λ c. search needs)
+    (λ c. search needs)
+    returns-2)
