@@ -5,15 +5,15 @@
  * Every answer is one struct by value whose first field is the refusal number, 0 for an answer; in a refusal every other field
  * is 0, but for the clock's state, which comes back as it was handed in.
  * Lent memory: success writes the front of each lent list or output and not the rest; a refusal writes nothing, but that
- * canceller_plan and canceller_plan_words, once past 14, have filled the front of their column list, whether or not 16, 17 or 18
- * follows.
+ * canceller_plan and canceller_plan_words, once past 14, leave 0 in the first CANCELLER_WORKING places of their working list, accepted
+ * or not.
  * In what follows m is the register's bits, n the chains, s the slices, B the bytes of a row (n / 8 rounded up) and q the words, m
  * less the rank of the columns. The set's numbers are 1, 2, 3, 25 and 4 to 10, in this order. README.md has the files byte by byte.
  * No call has a precondition beyond C's own. No call keeps anything between calls; calls on different memory may run at once.
  *
  * The numbers, in the order in which they are looked for, but that 25 is looked for after 3:
  *    1 the set has fewer than 18 bytes                      13 the record has a spare bit set
- *    2 m isn't 1 to 64                                      14 the column list is shorter than the unknown cells are many
+ *    2 m isn't 1 to 64                                      14 fewer places than unknown cells; in planning: fewer than 64 places
  *    3 the tap word has bit 0 clear or a bit at or above m  15 a column has a bit at or above m
  *    4 the chain count is absent or isn't 1 to 256          16 more than m independent columns
  *    5 the set ends before the last spread word             17 no X-free combination but the empty one exists

@@ -15,7 +15,7 @@ const ALL: [(&str, &str); 25] = [
     ("the slice number isn't below s", "slices count from 0"),
     ("the record's length isn't s × B", "a record is s rows of n ÷ 8 bytes, rounded up"),
     ("the record has a spare bit set", "bits past the last chain are 0"),
-    ("the column list is shorter than the unknown cells are many", "lend more places: 131,072 always do"),
+    ("the column list is shorter than the unknown cells are many, or planning's working list has fewer than 64 places", "lend more places: 131,072 for columns and 64 for planning always do"),
     ("a column has a bit at or above m", "mend the column or the width"),
     ("more than m independent columns", "does not happen with columns below 2^m"),
     ("no X-free combination but the empty one exists", "too many unknown cells reach the register independently: every signature is good. Fewer unknowns, or a wider register"),

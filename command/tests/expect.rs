@@ -2,10 +2,9 @@
 
 mod common;
 
-use common::{sample, with_planned_sample, Folder};
+use common::{sample, second_plan, with_planned_sample, Folder};
 use reference::random::{file_of, record, reduced_words, small_content, Random};
 use reference::second::plan::{read_plan, write_plan, Plan};
-use reference::second::planning::plan;
 use reference::second::set::Content;
 
 /// The sample's text with these changes, each at the one place where it can be made.
@@ -26,11 +25,6 @@ fn put_set(folder: &Folder, name: &str, text: &str) -> Vec<u8> {
     folder.put("a.txt", text);
     folder.done(&["pack", "a.txt", "-o", name]);
     folder.get(name)
-}
-
-/// The plan of a set by the second implementation.
-fn second(set: &[u8]) -> Result<Plan, u64> {
-    plan(set, 131_072, 64).reply
 }
 
 /// Runs `expect` for a plan and a set that can't go together: it says why in these lines, prints nothing and writes nothing.
@@ -75,7 +69,7 @@ fn revised_values_change_expected_bits_and_no_word() {
     folder.done(&["plan", "revised.set", "-o", "planned.plan"]);
     let new = folder.get("new.plan");
     assert_eq!(new, folder.get("planned.plan"));
-    assert_eq!(new, write_plan(&second(&set).unwrap(), 526).unwrap());
+    assert_eq!(new, write_plan(&second_plan(&set).unwrap(), 526).unwrap());
     // the good signatures of the revised set, and those of the set before
     for (file, passing, failing) in [
         ("new.plan", ["7", "4"], ["3", "0"]),
@@ -113,7 +107,7 @@ fn the_new_plan_takes_the_place_of_the_old_one() {
 fn standard_input_and_output() {
     let folder = with_planned_sample("expect_standard");
     let set = put_set(&folder, "revised.set", &text_with(&[REVISED]));
-    let planned = write_plan(&second(&set).unwrap(), 526).unwrap();
+    let planned = write_plan(&second_plan(&set).unwrap(), 526).unwrap();
     let old = folder.get("sample.plan");
     for (words, input) in [
         (["-", "revised.set"], &old),
@@ -159,7 +153,7 @@ fn words_that_are_not_the_sets_own() {
         ),
     ] {
         let set = put_set(&folder, "new.set", &text_with(changes));
-        assert_ne!(second(&set).unwrap().words, of_plan.words, "{what}");
+        assert_ne!(second_plan(&set).unwrap().words, of_plan.words, "{what}");
         refused(
             &folder,
             ["sample.plan", "new.set"],
@@ -184,7 +178,7 @@ fn another_mark_that_leaves_the_words_as_they_are() {
         folder.done(&["expect", "a.plan", "b.set", "-o", "b.plan"]),
         "word 0 3 expected 1 was 0\nword 1 4 expected 1 was 0\nchanged 2 of 2\n"
     );
-    let planned = write_plan(&second(&set).unwrap(), 526).unwrap();
+    let planned = write_plan(&second_plan(&set).unwrap(), 526).unwrap();
     assert_eq!(folder.get("b.plan"), planned);
 }
 
@@ -194,7 +188,11 @@ fn a_register_of_another_width() {
     let of_plan = read_plan(&folder.get("sample.plan")).unwrap();
     let wider = "width 4\ntaps 1\nchains 2\nspread 0 3\nspread 1 8\nslices 1\nXX\n";
     let set = put_set(&folder, "wider.set", wider);
-    assert_eq!(second(&set).unwrap().words, of_plan.words, "the same words");
+    assert_eq!(
+        second_plan(&set).unwrap().words,
+        of_plan.words,
+        "the same words"
+    );
     let narrower = "width 2\ntaps 1\nchains 1\nspread 0 1\nslices 1\n1\n";
     put_set(&folder, "narrower.set", narrower);
     folder.put("none.set", sample("no-words.set"));
@@ -254,7 +252,7 @@ fn random_revisions_by_the_second_implementation() {
         };
         let set = file_of(&after);
         folder.put("after.set", &set);
-        let (old, new) = (second(&file_of(&before)), second(&set));
+        let (old, new) = (second_plan(&file_of(&before)), second_plan(&set));
         // a plan of some other words for the same register
         let other = Plan {
             m: after.m,

@@ -4,11 +4,10 @@ mod common;
 #[path = "common/xml.rs"]
 mod xml;
 
-use common::{inversion_of, sample, with_inversion, Folder};
+use common::{inversion_of, sample, second_plan, with_inversion, Folder};
 use reference::random::{content, file_of, small_content, Random};
 use reference::second::elimination::rank;
-use reference::second::plan::{judge, Plan};
-use reference::second::planning::plan;
+use reference::second::plan::judge;
 use reference::second::set::read_set;
 use reference::second::word_of;
 use std::collections::BTreeMap;
@@ -110,8 +109,7 @@ fn holds(folder: &Folder, file: &[u8], name: &str) -> String {
         plural(columns.len()),
         m as u64 - rank
     );
-    let planned: Option<Plan> = plan(file, 131_072, 64).reply.ok();
-    let Some(planned) = planned else {
+    let Ok(planned) = second_plan(file) else {
         assert!(
             texts.contains(&format!(
                 "{head}; no words: every signature is explained (17)"

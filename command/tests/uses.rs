@@ -2,10 +2,12 @@
 
 mod common;
 
-use common::{sample, stored, with_inversion, Folder};
+use common::{sample, second_plan, stored, with_inversion, Folder};
+use reference::random::{content_of_rank, file_of, Random};
 use reference::repository::{repository, text};
 use reference::second::plan::{judge, write_plan};
-use reference::second::planning::{plan, printed};
+use reference::second::planning::printed;
+use std::process::Command;
 
 /// A folder with the sample: its text, its set, its plan and its records.
 fn with_sample(name: &str) -> Folder {
@@ -24,7 +26,7 @@ fn with_sample(name: &str) -> Folder {
 fn every_use_on_the_sample() {
     let folder = with_sample("every_use");
     assert_eq!(folder.get("sample.set"), sample("sample.set"));
-    let second = plan(&sample("sample.set"), 1, 64).reply.unwrap();
+    let second = second_plan(&sample("sample.set")).unwrap();
     assert_eq!(folder.get("sample.plan"), write_plan(&second, 526).unwrap());
     let prints: [(&[&str], &str); 16] = [
         (&["show", "sample.set"], "show.txt"),
@@ -78,7 +80,6 @@ fn standard_input_and_output() {
     assert_eq!(signed.text(), "0\n");
 }
 
-/// The command has room for every column, where the plan printer has 4,096 places.
 #[test]
 fn the_plans_of_all_samples() {
     let folder = Folder::new("all_plans");
@@ -91,12 +92,8 @@ fn the_plans_of_all_samples() {
         let set = sample(&format!("{name}.set"));
         folder.put("a.set", &set);
         let ran = folder.run(&["plan", "a.set", "-o", "a.plan"]);
-        let expected = match name {
-            "unknowns-4097" => "set 3 256 17 4097\nword 0 3 0\nword 1 5 0\nend 2\n".to_string(),
-            _ => text(&format!("samples/{file}")),
-        };
-        assert_eq!(ran.text(), expected, "{name}");
-        match plan(&set, 131_072, 64).reply {
+        assert_eq!(ran.text(), text(&format!("samples/{file}")), "{name}");
+        match second_plan(&set) {
             Ok(second) => {
                 assert_eq!((ran.status, ran.err.as_str()), (0, ""), "{name}");
                 assert_eq!(folder.get("a.plan"), write_plan(&second, 526).unwrap());
@@ -111,7 +108,62 @@ fn the_plans_of_all_samples() {
         }
         count += 1;
     }
-    assert_eq!(count, 28, "stored samples");
+    assert_eq!(count, 29, "stored samples");
+}
+
+/// The command lends planning 64 working places and the plan printer lends 4,096: that changes nothing, however many cells are unknown.
+#[test]
+fn the_command_and_the_plan_printer_print_the_same() {
+    let folder = Folder::new("printer");
+    let printer = repository().join("target/bin/plan_printer");
+    let of_printer = |set: &str| {
+        let input = std::fs::File::open(folder.0.join(set)).unwrap();
+        let ran = Command::new(&printer).stdin(input).output();
+        let ran = ran.unwrap_or_else(|e| panic!("{}: {e}", printer.display()));
+        String::from_utf8(ran.stdout).unwrap()
+    };
+    for (name, end) in [
+        ("sample", "end 2\n"),
+        ("unknowns-4096", "end 2\n"),
+        ("unknowns-4097", "end 2\n"),
+        ("unknowns-131072", "end 2\n"),
+        ("largest", "end 24\n"),
+        ("no-words", "refused 17\n"),
+        ("valued-unknown", "refused 10\n"),
+    ] {
+        folder.put("a.set", sample(&format!("{name}.set")));
+        let ran = folder.run(&["plan", "a.set"]);
+        assert_eq!(ran.text(), of_printer("a.set"), "{name}");
+        assert!(ran.text().ends_with(end), "{name}: {}", ran.text());
+    }
+}
+
+/// All of the 131,072 cells are unknown: where their columns have rank 63 there is one word, and where they have rank 64 none.
+#[test]
+fn as_many_unknown_cells_as_there_can_be() {
+    let folder = Folder::new("most_unknowns");
+    let mut r = Random::new(131_072);
+    let all_unknown =
+        |r: &mut Random, rank: usize| file_of(&content_of_rank(r, (64, 256, 512), rank, 131_072));
+    folder.put("a.set", all_unknown(&mut r, 63));
+    let lines = folder.done(&["plan", "a.set", "-o", "a.plan"]);
+    let second = second_plan(&folder.get("a.set")).unwrap();
+    let (word, expected) = (second.words[0], second.expected);
+    assert_eq!(
+        lines,
+        format!("set 64 256 512 131072\nword 0 {word} {expected}\nend 1\n")
+    );
+    assert_eq!(folder.get("a.plan"), write_plan(&second, 526).unwrap());
+    assert_eq!(
+        folder.done(&["expect", "a.plan", "a.set"]),
+        "changed 0 of 1\n"
+    );
+    folder.put("none.set", all_unknown(&mut r, 64));
+    let ran = folder.run(&["plan", "none.set"]);
+    assert_eq!((ran.status, ran.text()), (2, "refused 17\n"));
+    let ran = folder.run(&["expect", "a.plan", "none.set"]);
+    assert_eq!((ran.status, ran.text()), (2, ""));
+    assert!(ran.err.contains("none.set: refused 17: "), "{}", ran.err);
 }
 
 /// The sample with these bytes from this place on.
@@ -300,10 +352,10 @@ fn plans_and_signatures_of_random_sets_with_an_inversion_word_by_the_second_impl
     let folder = Folder::new("random_inversions");
     let (mut plans, mut other_bits) = (0, 0);
     for seed in 0..60 {
-        let mut r = reference::random::Random::new(seed);
+        let mut r = Random::new(seed);
         let content = reference::random::small_content(&mut r, 64, 12, 6);
         let (n, s) = (content.spread.len(), content.s as usize);
-        let without = with_inversion(&reference::random::file_of(&content), 0);
+        let without = with_inversion(&file_of(&content), 0);
         let set = with_inversion(&without, r.some_within(content.m as usize));
         folder.put("without.set", &without);
         folder.put("a.set", &set);
@@ -378,7 +430,7 @@ fn explain_says_what_the_readme_and_the_header_list() {
 #[test]
 fn the_version_is_the_headers_and_the_kits() {
     let folder = Folder::new("version");
-    let kit = std::process::Command::new("rt").arg("version").output();
+    let kit = Command::new("rt").arg("version").output();
     let kit = String::from_utf8(kit.expect("rt is on the path").stdout).unwrap();
     let header = text("include/canceller.h");
     let (_, rest) = header.split_once("#define CANCELLER_VERSION \"").unwrap();
@@ -476,8 +528,8 @@ fn wrong_usage() {
 fn columns_by_the_second_implementation() {
     let folder = Folder::new("columns");
     for seed in 0..40 {
-        let mut r = reference::random::Random::new(seed);
-        let set = reference::random::file_of(&reference::random::small_content(&mut r, 64, 30, 20));
+        let mut r = Random::new(seed);
+        let set = file_of(&reference::random::small_content(&mut r, 64, 30, 20));
         let read = reference::second::set::read_set(&set).unwrap();
         folder.put("a.set", &set);
         let mut expected = String::new();
@@ -496,8 +548,8 @@ fn words_and_verdicts_by_the_second_implementation() {
     let folder = Folder::new("verdicts");
     let mut plans = 0;
     for seed in 0..60 {
-        let mut r = reference::random::Random::new(seed);
-        let set = reference::random::file_of(&reference::random::small_content(&mut r, 64, 12, 6));
+        let mut r = Random::new(seed);
+        let set = file_of(&reference::random::small_content(&mut r, 64, 12, 6));
         folder.put("a.set", &set);
         if folder.run(&["plan", "a.set", "-o", "a.plan"]).status != 0 {
             continue;

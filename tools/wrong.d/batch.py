@@ -22,6 +22,10 @@ MANY_SLICES = [13, 16, 33, 64, 100]
 NUMBERS = [0, 1, 2, 3, 7, 8, 9, 15, 16, 62, 63, 64, 65, 66, 127, 128, 129, 255, 256, 257, 511, 512, 513, 65535, 65536,
            (1 << 32) - 1, 1 << 32, (1 << 63) - 1, 1 << 63, ALL - 1, ALL]
 
+# The places of planning's working list that are worked in, and the lengths of the list that is lent: the printer lends 4,096.
+WORKING = 64
+WORKING_LISTS = [0, 1, WORKING - 2, WORKING - 1, WORKING, WORKING + 1, 200, 4096]
+
 # For each call of the boundary, those below it that take the same: some of its inputs go to each of them as well.
 BELOW = {
     "canceller_read_set": ["set_file::read_set", "set_file::set_refusal", "set_layout::parts", "set_layout::spread_words"],
@@ -101,12 +105,12 @@ class Set:
 
     def columns(self):
         """The columns of the unknown cells, from the last slice to the first."""
-        top, words = 1 << (self.m - 1), list(self.spread)
+        words = list(self.spread)
         for _, marks in reversed(self.slices):
             for c in range(self.n):
                 if marks >> c & 1:
                     yield words[c]
-            words = [(w << 1 & low(self.m)) ^ (self.taps if w & top else 0) for w in words]
+            words = [clocked(self.m, self.taps, w) for w in words]
 
     def left(self):
         """How many words a plan of this set has: m less the rank of its columns."""
@@ -158,6 +162,10 @@ class Batch:
 
     def junk_words(self, count):
         return [self.bits(64) for _ in range(max(count, 0))]
+
+    def working(self):
+        """A working list for planning: most are long enough, and few are as long as the printer's. What it holds changes nothing."""
+        return self.junk_words(self.pick([WORKING] * 12, WORKING_LISTS[:-1] * 2, WORKING_LISTS[-1:]))
 
     def near(self, count):
         """Lengths around one that just suffices."""
@@ -318,30 +326,62 @@ class Batch:
         unknowns, left = one.unknowns(), one.left()
         for room in {unknowns, max(0, unknowns - 1), self.near(unknowns)}:
             self.call("canceller_list_columns", a=data, u=self.junk_words(room))
-        for room, places in ((unknowns, left), (unknowns, max(0, left - 1)), (max(0, unknowns - 1), left), (unknowns + 3, 64),
-                             (self.near(unknowns), self.near(left))):
+        for room, places in ((WORKING, left), (WORKING, max(0, left - 1)), (WORKING - 1, left), (WORKING + 3, 64)):
             self.call("canceller_plan", a=data, u=self.junk_words(room), v=self.junk_words(places))
-        for room, places in ((unknowns + 1, left + 1), (self.near(unknowns), self.near(left))):
-            self.call("plan_text::print_plan", a=data, u=self.junk_words(room), v=self.junk_words(places), d=self.junk(4096))
+        self.call("canceller_plan", a=data, u=self.working(), v=self.junk_words(self.near(left)))
+        for places in (left + 1, self.near(left)):
+            self.call("plan_text::print_plan", a=data, u=self.working(), v=self.junk_words(places), d=self.junk(4096))
         if not judged:
             return
         size = 6 + 8 * left + row_bytes(left)
         kinds = ["any", "filled", "filled", "short", "long", "spare"]
         for file in (size, size - 1, size + 9, self.near(size)):
             first, second = self.record_of(one, self.pick(kinds)), self.record_of(one, self.pick(kinds))
-            room = {"u": self.junk_words(unknowns), "v": self.junk_words(left), "d": self.junk(file)}
+            room = {"u": self.junk_words(WORKING), "v": self.junk_words(left), "d": self.junk(file)}
             self.call("guarantee::judge_record", a=data, b=first, **room)
             self.call("guarantee::judge_records", a=data, b=first, c=second, **room)
-        self.call("guarantee::judge_record", a=data, b=self.record_of(one, "filled"), u=self.junk_words(max(0, unknowns - 1)),
-                  v=self.junk_words(left), d=self.junk(size))
+        for room, places in ((WORKING - 1, left), (WORKING, max(0, left - 1))):
+            self.call("guarantee::judge_record", a=data, b=self.record_of(one, "filled"), u=self.junk_words(room),
+                      v=self.junk_words(places), d=self.junk(size))
         self.call("guarantee::judge_records", a=data, b=self.record_of(one, "any"), c=self.record_of(one, "filled"),
-                  u=self.junk_words(self.near(unknowns)), v=self.junk_words(self.near(left)), d=self.junk(600))
+                  u=self.working(), v=self.junk_words(self.near(left)), d=self.junk(600))
 
     # A taken set is m, the tap word, the inversion word, n, s and a state; rows are their place, their stride and their bytes.
 
     def fill(self, taken, spread, data, rows, room, names=None):
         for name in names or FILLERS:
             self.call(name, taken + rows, v=spread, a=data, u=self.junk_words(room))
+
+    def keep(self, taken, spread, data, rows, places, working=None):
+        """The words of marked cells, from a working list."""
+        working = self.working() if working is None else self.junk_words(working)
+        self.call("set_words::fill_words", taken + rows, b=packed(spread), a=data, u=working, v=self.junk_words(places))
+
+    def portions(self, register, s, data, rows, words, powers, room):
+        """The columns of marked cells portion by portion, each from where the one before it ends: `room` places for each."""
+        t, chains = min(s, 512), len(words)
+        for _ in range(12):
+            made = Call("portions::fill_portion", register + [s] + rows + [t, chains, self.pick([0, room, self.bits(64)])], a=data,
+                        b=packed(powers), v=words, u=self.junk_words(room))
+            self.calls.append(made)
+            words, t, chains = after_portion(register, data, rows, words, powers, room, t, chains)
+            if t == 0 or self.random.random() < 0.1:
+                return
+
+    def portions_of(self, one, data):
+        """The portions of a set's columns, by the register's powers and by its clock."""
+        n, s, b = one.n, one.s, one.b
+        register, marks = [one.m, one.taps, one.inversion, self.pick([0, self.bits(64)])], [rows_at(n) + b, 2 * b, b]
+        for room in (WORKING, self.pick([0, 1, 5, 63, 65, 70, 128, 200])):
+            for powers in ([], powers_of(one.m, one.taps)):
+                self.portions(register, s, data, marks, one.spread, powers, room)
+        # from any slice and any chain on
+        chains, t, words = self.random.randint(0, n), self.random.randint(0, s), one.spread
+        for _ in range(s - t):
+            words = [clocked(one.m, one.taps, w) for w in words]
+        for powers, held in (([], words), (powers_of(one.m, one.taps), one.spread)):
+            self.call("portions::fill_portion", register + [s] + marks + [t, chains, self.pick(NUMBERS)], a=data, b=packed(powers),
+                      v=held, u=self.junk_words(self.pick([0, 3, WORKING, 100])))
 
     def parts_of(self, one, data):
         """The calls below the boundary that go by a set's numbers."""
@@ -355,6 +395,11 @@ class Batch:
         self.call("signing::sign_rows", taken + self.pick([values, marks]), a=data, v=spread)
         self.call("signing::zero_signature", taken, a=data, v=spread)
         self.call("marked_words::count_marks", marks + [s], a=data)
+        left = one.left()
+        for places in {left, max(0, left - 1), self.near(left)}:
+            self.keep(taken, spread, data, marks, places)
+        self.keep(taken, spread, data, marks, left, WORKING)
+        self.portions_of(one, data)
         bad = list(spread)
         for c in (n - 1, self.random.randrange(n)):
             bad[c] = self.pick([0, self.bits(64), bad[c] | 1 << min(one.m, 63), ALL])
@@ -363,6 +408,10 @@ class Batch:
         room = self.pick([unknowns, unknowns, max(0, unknowns - 1), unknowns + 5])
         self.fill(taken, bad, data, marks, room, [self.pick(FILLERS)])
         self.fill([m, taps, inversion] + taken[3:], self.pick([bad, spread]), data, marks, room, [self.pick(FILLERS)])
+        self.keep([m, taps, inversion] + taken[3:], self.pick([bad, spread]), data, marks, 64)
+        self.keep(taken, bad, data, marks, 64, WORKING)
+        for words in (spread, bad, spread[:n - 1] + [0] + spread[n:], (spread[:n] + self.junk_words(256))[:256]):
+            self.call("sparse_columns::has_bad_word", [self.pick([one.m, one.m, m])] + taken[1:], v=words)
         self.call("signing::zero_signature", [m, taps, inversion] + taken[3:], a=data, v=bad)
 
     def lists_of_rows(self, count):
@@ -377,6 +426,7 @@ class Batch:
             taken = [m, self.pick([self.taps(min(max(m, 1), 64)), self.bits(64)]),
                      self.pick([self.inversion(min(max(m, 1), 64)), self.bits(64)]), n, s, self.pick([0, self.bits(64)])]
             self.fill(taken, spread, data, rows, self.pick([0, 1, 5, 64, 300]), None if s < 100 else [self.pick(FILLERS)])
+            self.keep(taken, spread, data, rows, self.pick([0, 1, 5, 64, 70]))
             self.call("signing::sign_rows", taken + rows, a=data, v=spread)
             self.call("marked_words::count_marks", rows + [s], a=data)
             self.call("rows::row_of", rows + [self.pick([0, 1, 2, self.pick(NUMBERS)])], a=data, d=self.junk(40))
@@ -480,7 +530,7 @@ class Batch:
         self.call("canceller_read_set", a=data, v=self.junk_words(256))
         unknowns, left = one.unknowns(), one.left()
         for kind in which or self.random.sample(range(8), 2):
-            room = {"u": self.junk_words(unknowns), "v": self.junk_words(left)}
+            room = {"u": self.working(), "v": self.junk_words(left)}
             if kind == 0:
                 self.call("canceller_value_row", [self.random.randrange(one.s + 1)], a=data)
             elif kind == 1:
@@ -488,7 +538,7 @@ class Batch:
             elif kind == 2:
                 self.call("canceller_sign", a=data, b=self.record_of(one, self.pick(["any", "short", "spare"])))
             elif kind == 3:
-                self.call("canceller_list_columns", a=data, u=room["u"])
+                self.call("canceller_list_columns", a=data, u=self.junk_words(unknowns))
             elif kind == 4:
                 self.call("canceller_plan", a=data, **room)
             elif kind == 5:
@@ -687,6 +737,8 @@ class Batch:
                 columns[at] = odd ^ self.pick([0, 0, even(1), even(2), even(4), even()])
             q = m - rank_of(columns)
             self.call("canceller_eliminate", [m], u=columns, v=self.junk_words(self.pick([64, q, q, max(0, q - 1)])))
+            if self.random.random() < 0.2:
+                self.call("elimination::add_columns", v=[1 << b for b in range(m)], u=columns)
 
     def steps(self, count):
         for _ in range(count):
@@ -699,6 +751,13 @@ class Batch:
                 self.call("reduced_list::is_next", [m, last, seen, to])
                 self.call("reduced_list::with_highest", [seen, to])
             self.call("reduced_list::is_next", [self.pick(NUMBERS), 0, 0, self.bits(64)])
+            words, few = self.word_list(m), [self.bits(m) for _ in range(self.pick([0, 1, 2, 5, m]))]
+            self.call("elimination::add_columns", v=self.pick([words, [1 << b for b in range(m)]]), u=few)
+            for room in (0, 1, len(words), len(words) + 1, 64):
+                self.call("elimination::write_front", v=self.junk_words(room), u=words)
+            self.call("word::clear_words", v=self.junk_words(self.pick([0, 1, 2, 63, 64, 65, 200])))
+        self.call("elimination::unit_words", v=self.junk_words(64))
+        self.call("powers::no_powers", v=self.junk_words(576))
         for m in (1, 5, 64):
             self.call("reduced_list::is_next", [m, 0, 0, 0])
             self.call("reduced_list::is_next", [m, 1, 0, 1])
@@ -808,8 +867,8 @@ class Batch:
             self.expected(one)
             self.expected(one.revised(every))
             self.expected(one.revised([self.bits(one.n) for _ in every]))
-        for _ in range(3):
-            one = self.any_set(s=self.pick([0, 1, 2, 3]), n=self.pick([1, 3, 8, 9, 17]))
+        for n, s in ((self.pick([3, 9]), 2), (8, 1), (self.pick([1, 3, 8, 9, 17]), self.pick([0, 1, 2, 3]))):
+            one = self.any_set(n=n, s=s)
             for data in self.damaged(one):
                 self.call("canceller_expect", a=data, v=self.pick(self.word_lists(one)))
 
@@ -825,10 +884,10 @@ class Batch:
 
     def expected(self, one):
         """The words of a set and the expected bits of lists of words for it, by the calls of the boundary and below it."""
-        data, unknowns, left, cells = one.data(), one.unknowns(), one.left(), one.n * one.s
-        for room, places in ((unknowns, left), (cells, 64), (cells, max(0, left - 1)), (max(0, unknowns - 1), 64),
-                             (self.near(unknowns), self.near(left))):
+        data, left = one.data(), one.left()
+        for room, places in ((WORKING, left), (WORKING + 1, 64), (WORKING, max(0, left - 1)), (WORKING - 1, 64)):
             self.call("canceller_plan_words", a=data, u=self.junk_words(room), v=self.junk_words(places))
+        self.call("canceller_plan_words", a=data, u=self.working(), v=self.junk_words(self.near(left)))
         taken = [one.m, one.taps, one.inversion, one.n, one.s, self.pick([0, self.bits(64)])]
         spread, lists = (one.spread + [0] * 256)[:256], self.word_lists(one)
         for words in lists:
@@ -895,6 +954,10 @@ class Batch:
             marked = bin(int.from_bytes(row, "little") & low_row(n)).count("1")
             for room in {marked, max(0, marked - 1), marked + 3, marked // 2, 0}:
                 self.call("marked_words::list_row", v=words, a=row, u=self.junk_words(room))
+            # as many as the marked cells behind a multiple of 64 chains take, and one less: there the row is cut
+            behind = [bin(int.from_bytes(row, "little") >> 64 * k & low_row(max(0, n - 64 * k))).count("1") for k in range(1, 4)]
+            for room in {marked, max(0, marked - 1), 0, WORKING - 1, WORKING, WORKING + 1, *behind, *(max(0, k - 1) for k in behind)}:
+                self.call("marked_words::list_fitting", v=words, a=row, u=self.junk_words(room))
             self.call("chains::half_bytes", v=words, u=self.junk_words(1024))
             self.call("chains::looked_up", u=self.junk_words(1024), a=self.pick([row, self.junk(32), self.junk(40)]))
             self.call("chains::all_words", v=self.junk_words(256))
@@ -911,7 +974,13 @@ class Batch:
             columns = [self.pick(even) ^ self.pick(even) for _ in range(self.pick([0, 1, 5, 20]))] if even else []
             if columns and self.random.random() < 0.7:
                 columns[self.random.randrange(len(columns))] ^= 1 << self.random.randrange(64)
-            self.call("parity_table::skip_even", [self.pick([0, 0, 1, len(columns), self.pick(NUMBERS)])], v=words, u=columns)
+            start = self.pick([0, 0, 1, len(columns), self.pick(NUMBERS)])
+            self.call("parity_table::skip_even", [start], v=words, u=columns)
+            table = self.pick([parity_table(words), self.junk_words(2048), [0] * 2048])
+            self.call("parity_table::skip_by_table", [start], u=table, v=columns)
+            if self.random.random() < 0.3:
+                self.call("parity_table::byte_table", v=words, u=self.junk_words(2048))
+            self.call("elimination::add_columns", v=words, u=columns)
 
     def texts(self, count):
         for _ in range(count):
@@ -968,7 +1037,7 @@ class Batch:
         names = ["crossing::" + x for x in ("set_of", "stretch_of", "set_written_of", "plan_written_of", "clocked_of", "signed_of",
                                             "listed_of", "eliminated_of", "worded_of", "expected_of", "planned_of", "read_of",
                                             "judged_of")]
-        names += [x + "::number_of" for x in ("planner", "elimination", "set_file", "plan_file")]
+        names += [x + "::number_of" for x in ("planner", "set_words", "elimination", "set_file", "plan_file")]
         for name in names:
             for number in (0, 0, 0, 1, 17, 24, 25, self.random.randrange(1, 26), ALL):
                 data = [self.pick([self.bits(64), self.pick(NUMBERS)]) for _ in range(6)]
@@ -1001,11 +1070,17 @@ class Batch:
         self.use(whole, big=True)
         self.use_damaged(whole, data + b"\0", [0, 2, 3])
         self.use_damaged(whole, data[:-1], [1, 4])
-        # around the printer's 4,096 column places
+        # as many unknown cells as the printer lends places, and one more
         for n, s in ((16, 256), (17, 241)):
             self.use(Set(64, 1, self.inversion(64), [low(64)] * n, self.cells(n, s, "all")), big=True)
+        # all cells unknown: of any rank, of rank 1, and with one column more, in the slice that is reached last
         dense = self.any_set(64, 256, 512, "all")
-        self.call("canceller_plan", a=dense.data(), u=self.junk_words(dense.unknowns()), v=self.junk_words(64))
+        flat = Set(64, 1, self.inversion(64), [low(64)] * 256, dense.slices)
+        for one in (dense, flat, self.first_slice(64, 256, 512, self.pick([0, 63, 64, 128, 255]))):
+            left = one.left()
+            for places in {64, left, max(0, left - 1)}:
+                self.call("canceller_plan", a=one.data(), u=self.junk_words(WORKING), v=self.junk_words(places))
+            self.call("plan_text::print_plan", a=one.data(), u=self.junk_words(4096), v=self.junk_words(64), d=self.junk(4096))
         self.call("canceller_list_columns", a=dense.data(), u=self.junk_words(dense.unknowns() - 1))
         # one more than the limits, with the right length
         for m, n, s in ((5, 257, 1), (64, 257, 0), (3, 1, 513), (8, 9, 513), (64, 2, 514), (7, 258, 2)):
@@ -1024,6 +1099,61 @@ class Batch:
             s = self.pick([530 // n + 1, 700 // n + 1, 1100 // n + 2])
             self.use(self.low_rank(m, n, min(s, 512)), big=True)
 
+    # Sets in which a cell that is left out, listed for another chain or clocked too often shows: with taps 1 the register only turns,
+    # so that the spread word of all bits has one column, and one of an even number of bits only such columns.
+
+    def first_slice(self, m, n, s, c):
+        """All cells unknown and of one column, but that chain c drives bit 0 alone and is unknown in slice 0 alone."""
+        spread = [low(m)] * n
+        spread[c] = 1
+        others = low_row(n) & ~(1 << c)
+        return Set(m, 1, self.inversion(m), spread, [(0, low_row(n))] + [(self.bits(1) << c, others) for _ in range(s - 1)])
+
+    def single_cells(self, m, n, s, count):
+        """Many unknown cells of one column, and some chains with words of their own, each unknown in one slice."""
+        spread, slices = [low(m)] * n, [(0, self.bits(n) | self.bits(n)) for _ in range(s)]
+        for c in self.random.sample(range(n), min(n, count)):
+            spread[c] = self.word(m)
+            slices = [(v, x & ~(1 << c)) for v, x in slices]
+            t = self.random.randrange(s)
+            slices[t] = (slices[t][0], slices[t][1] | 1 << c)
+        return Set(m, 1, self.inversion(m), spread, [(self.bits(n) & ~x, x) for _, x in slices])
+
+    def one_word(self, m, n, s, whole):
+        """Columns of an even number of bits, which leave one word where there are enough of them; with `whole` the last to be reached
+        is one of an odd number, and no word is left."""
+        spread = [w ^ 1 if bin(w).count("1") % 2 else w for w in (self.bits(m) for _ in range(n))]
+        spread = [w or 3 for w in spread]
+        slices = [(0, low_row(n) & ~1)] * s
+        if whole:
+            spread[0], slices = 1, [(0, low_row(n))] + slices[1:]
+        return Set(m, 1, self.inversion(m), spread, slices)
+
+    def so_many(self, m, n, s, count):
+        """A set with so many unknown cells."""
+        cells = set(self.random.sample(range(n * s), count))
+        marks = [sum(1 << c for c in range(n) if n * t + c in cells) for t in range(s)]
+        spread, taps = self.pick([([self.word(m) for _ in range(n)], self.taps(m)), (self.low_rank(m, n, 1).spread, 1)])
+        return Set(m, taps, self.inversion(m), spread, [(self.bits(n) & ~x, x) for x in marks])
+
+    def cut_rows(self):
+        """Sets whose rows are cut: more marked cells than the working list has places."""
+        sets = []
+        for n in (65, 66, 127, 128, 129, 200, 255, 256):
+            sets.append(self.first_slice(self.pick([64, 63, 9, 3]), n, self.pick([1, 2, 3, 9]), self.pick([0, 63, 64, n - 1])))
+            sets.append(self.single_cells(self.pick([64, 64, 63, 33]), n, self.pick([1, 2, 3, 9]), self.pick([1, 5, 20, 60])))
+            sets.append(self.one_word(self.pick([64, 63, 17, 2]), n, self.pick([1, 2, 5]), self.pick([False, True])))
+        # around the number from which on the chains' words are advanced together
+        for count in (500, 511, 512, 513, 514, 600):
+            n = self.pick([9, 65, 130, 256])
+            sets.append(self.so_many(self.pick([64, 63, 40]), n, 1200 // n + 2, count))
+        sets.append(self.single_cells(64, 7, 100, 6))
+        sets.append(self.single_cells(64, 256, 40, 50))
+        for one in sets:
+            self.use(one, big=True)
+            for room in WORKING_LISTS:
+                self.call("canceller_plan", a=one.data(), u=self.junk_words(room), v=self.junk_words(self.near(one.left())))
+
     def sets(self, count):
         for _ in range(count):
             self.use(self.any_set())
@@ -1037,6 +1167,52 @@ class Batch:
 
 def low_row(n):
     return (1 << n) - 1
+
+
+def packed(words):
+    """Words as bytes, 8 for each."""
+    return b"".join(map(eight_bytes, words))
+
+
+def clocked(m, taps, w):
+    """A word one clock later, where nothing is driven and nothing inverted."""
+    return (w << 1 & low(m)) ^ (taps if w >> (m - 1) & 1 else 0)
+
+
+def powers_of(m, taps):
+    """Bit 0 alone, 0 to 575 clocks later."""
+    out = [1]
+    while len(out) < 576:
+        out.append(clocked(m, taps, out[-1]))
+    return out
+
+
+def after_portion(register, data, rows, words, powers, room, t, chains):
+    """Where a portion ends, and the words then."""
+    (m, taps), (at, stride, size) = register[:2], rows
+    while t:
+        row = int.from_bytes(data[at + stride * (t - 1):][:size], "little")
+        for k in reversed(range(0, chains, 64)):
+            marked = bin(row >> k & low_row(min(64, chains - k))).count("1")
+            if room < marked:
+                return words, t, min(k + 64, chains)
+            room -= marked
+        t, chains = t - 1, len(words)
+        if not powers:
+            words = [clocked(m, taps, w) for w in words]
+    return words, t, chains
+
+
+def parity_table(words):
+    """For each of the eight bytes of a column and each value of it, its parities with the first 64 words, bit k for word k."""
+    bits = [sum((w >> b & 1) << k for k, w in enumerate(words[:64])) for b in range(64)]
+    table = []
+    for b in range(0, 64, 8):
+        entries = [0]
+        for bit in bits[b:b + 8]:
+            entries += [x ^ bit for x in entries]
+        table += entries
+    return table
 
 
 def highest(w):
@@ -1101,6 +1277,7 @@ def calls_of(number):
     for left in (2, 2, 2, 2, 2, 2, 3, 3, 4, 5, 6, 8):
         batch.long_eliminations(4, left)
     batch.many_columns(12)
+    batch.cut_rows()
     batch.steps(30)
     batch.plans(25)
     batch.lists_of_rows(40)

@@ -13,8 +13,8 @@ pub const USE: Use = Use {
     does: "print the plan of a set, and write the plan file",
     more: "\
 Prints what the plan printer prints: 'set m n s unknowns', a line 'word index word expected' for each word, and 'end q'; a
-set that is refused prints 'refused' and the number. Any number of unknown cells is taken, where the plan printer stops at
-4,096. With '-o -' the plan file goes to standard output, and nothing is printed.
+set that is refused prints 'refused' and the number. Both take any number of unknown cells. With '-o -' the plan file goes
+to standard output, and nothing is printed.
 
 Example: canceller plan sample.set -o sample.plan",
     options: &["-o"],

@@ -1,6 +1,8 @@
 //! What the tests of the command share: running it, and folders for its files.
 #![allow(dead_code)]
 
+use reference::second::plan::Plan;
+use reference::second::planning::plan;
 use std::fs::File;
 use std::io::Write;
 use std::path::{Path, PathBuf};
@@ -132,6 +134,11 @@ pub fn with_inversion(set: &[u8], word: u64) -> Vec<u8> {
 
 pub fn inversion_of(set: &[u8]) -> u64 {
     u64::from_le_bytes(set[INVERSION].try_into().unwrap())
+}
+
+/// The plan of a set by the second implementation, which is lent as many places as the command lends.
+pub fn second_plan(set: &[u8]) -> Result<Plan, u64> {
+    plan(set, 64, 64).reply
 }
 
 /// A file of samples/, and of what the tests have stored.
