@@ -1,13 +1,15 @@
 -- Columns that are even with every word: the loop that passes over them, and that the words stay as they are. Assumes nothing.
 use mathlib.Core.Path.{_≡_, refl, sym, ap, ap₂, _∙_, subst}
-use mathlib.Core.Bool.{Bool, true, false, cond}
+use mathlib.Core.Bool.{Bool, true, false, cond, _&&_}
 use mathlib.Core.List.{List, [], _∷_}
 use Prim.Native.Nat.{ℕ, suc, _+_, _^_, _≤_, _<_}
 use native.Mathlib.Numerals.{add-one}
 use native.Mathlib.Omega.{arith}
+use borrow.Author.Tests.{eq-eqb, ne-eqb}
 use lib.Dec.{eqb}
-use lib.ListN.{length, getD, take, drop, drop-of-length-le}
+use lib.ListN.{length, getD, take, drop, drop-of-length-le, length-drop}
 use lib.Seq.{drop-cons, drop-drop, take-all, getD-drop}
+use Rattle.word.specs.Word.{parity}
 use Rattle.combinations.specs.Combination.{xFree}
 use Rattle.combinations.specs.Step.{steps}
 use Rattle.parity_table.specs.Table.{ParityTable, runOf, evenRun, tableRun}
@@ -69,6 +71,36 @@ pub table-run-from : (ws table cs : List ℕ) (from r : ℕ) → ParityTable ws 
 table-run-from ws table cs from r right small e =
     e ∙ ap (λ (n : ℕ). from + n) (table-run ws table (drop from cs) right (λ i. subst (λ (x : ℕ). x < 2 ^ 64) (sym (getD-drop from cs i 0)) (small (from + i))))
 
+-- ---- the loop over the words: those before place i are even with the column
+
+pub Evened : List ℕ → ℕ → ℕ → Type 0
+Evened ws c i = xFree ws c ≡ xFree (drop i ws) c
+
+module _ (ws : List ℕ) (c : ℕ) where
+  pub evened-start : Evened ws c 0
+  unfolding Evened
+  evened-start = refl
+
+  one-more : (i : ℕ) → i < length ws → xFree (drop i ws) c ≡ (eqb (parity c (getD ws i 0)) 0 && xFree (drop (i + 1) ws) c)
+  unfolding xFree
+  one-more i h =
+      ap (λ (x : List ℕ). xFree x c) (drop-cons ws i 0 h)
+      ∙ ap (λ (n : ℕ). eqb (parity c (getD ws i 0)) 0 && xFree (drop n ws) c) (sym (add-one i))
+
+  pub evened-turn : (i p : ℕ) → Evened ws c i → i < length ws → p ≡ parity c (getD ws i 0) → p ≡ 0 → Evened ws c (i + 1)
+  unfolding Evened
+  evened-turn i p e h ep z =
+      e ∙ one-more i h ∙ ap (λ (b : Bool). b && xFree (drop (i + 1) ws) c) (eq-eqb (parity c (getD ws i 0)) 0 (sym ep ∙ z))
+
+  pub evened-stop : (i p : ℕ) → Evened ws c i → i < length ws → p ≡ parity c (getD ws i 0) → (p ≡ 0 → ⊥) → false ≡ xFree ws c
+  unfolding Evened
+  evened-stop i p e h ep n =
+      sym (e ∙ one-more i h ∙ ap (λ (b : Bool). b && xFree (drop (i + 1) ws) c) (ne-eqb (parity c (getD ws i 0)) 0 (λ z. n (ep ∙ z))))
+
+  pub evened-end : (i : ℕ) → Evened ws c i → length ws ≤ i → true ≡ xFree ws c
+  unfolding Evened xFree
+  evened-end i e h = sym (e ∙ ap (λ (x : List ℕ). xFree x c) (drop-of-length-le ws h))
+
 -- ---- the columns passed over
 
 run-steps : (ws cs : List ℕ) → steps (drop (evenRun ws cs) cs) ws ≡ steps cs ws
@@ -82,11 +114,27 @@ run-steps ws (c ∷ cs) = go (xFree ws c) refl (run-steps ws cs)
         ap (λ (n : ℕ). steps (drop n (c ∷ cs)) ws) (run-on (xFree ws) cs c e) ∙ ih ∙ ap (steps cs) (sym (step-same c ws e))
     go false e ih = ap (λ (n : ℕ). steps (drop n (c ∷ cs)) ws) (run-stops (xFree ws) cs c e)
 
+pub skipped-steps : (ws cs : List ℕ) (from r : ℕ) → r ≡ from + evenRun ws (drop from cs) → (from ≤ r) × (steps (drop r cs) ws ≡ steps (drop from cs) ws)
+skipped-steps ws cs from r e = (
+  omega arith,
+  ap (λ (n : ℕ). steps (drop n cs) ws) e ∙ ap (λ (l : List ℕ). steps l ws) (sym (drop-drop (evenRun ws (drop from cs)) from cs))
+      ∙ run-steps ws (drop from cs),
+)
+
 pub next-skipped : (ws cs : List ℕ) (from r : ℕ) → length ws ≤ 64 → r ≡ from + evenRun (take 64 ws) (drop from cs)
     → (from ≤ r) × (steps (drop r cs) ws ≡ steps (drop from cs) ws)
-next-skipped ws cs from r h e =
-    let place : r ≡ from + evenRun ws (drop from cs) = e ∙ ap (λ (l : List ℕ). from + evenRun l (drop from cs)) (take-all 64 ws h) in (
-      omega arith,
-      ap (λ (n : ℕ). steps (drop n cs) ws) place ∙ ap (λ (l : List ℕ). steps l ws) (sym (drop-drop (evenRun ws (drop from cs)) from cs))
-          ∙ run-steps ws (drop from cs),
-    )
+next-skipped ws cs from r h e = skipped-steps ws cs from r (e ∙ ap (λ (l : List ℕ). from + evenRun l (drop from cs)) (take-all 64 ws h))
+
+-- ---- no more columns are passed over than there are
+
+run-most : (f : ℕ → Bool) (cs : List ℕ) → runOf f cs ≤ length cs
+unfolding runOf
+run-most f [] = omega arith
+run-most f (c ∷ cs) = go (f c) (run-most f cs)
+  where
+    go : (b : Bool) → runOf f cs ≤ length cs → cond b (suc (runOf f cs)) 0 ≤ suc (length cs)
+    go true h = omega arith
+    go false h = omega arith
+
+pub skipped-inside : (f : ℕ → Bool) (cs : List ℕ) (from r : ℕ) → from ≤ length cs → r ≡ from + runOf f (drop from cs) → r ≤ length cs
+skipped-inside f cs from r h e = omega (arith, run-most f (drop from cs), length-drop from cs)

@@ -5,6 +5,7 @@ ghost use mathlib.Core.List.{map};
 ghost use Prim.Native.Nat.{_+_, _<_};
 ghost use lib.ListN.{length, take, drop};
 ghost use Rattle.word.specs.Parities.{parities};
+ghost use Rattle.combinations.specs.Combination.{xFree};
 ghost use Rattle.combinations.specs.Step.{units};
 ghost use Rattle.parity_table.specs.Table.{ParityTable, parityEntry, lookedParities, evenRun, tableRun};
 
@@ -98,4 +99,33 @@ pub fn skip_even(words: &[u64], columns: &[u64], from: usize) -> usize
 {
     let table = byte_table(words);
     skip_by_table(&table, columns, from)
+}
+
+// Whether the column is even with every word.
+fn is_even(words: &[u64], column: u64) -> bool
+    ensures { λ r. ⌜ r ≡ xFree (now (words .entry)) column ⌝ }
+{
+    let mut i: usize = 0;
+    while i < words.len() {
+        if word::shared_parity(column, words[i]) != 0 {
+            return false;
+        }
+        i += 1;
+    }
+    true
+}
+
+// The place of the first column, from place `from` on, that is odd with one of the words, without a table; the end where none is. For one
+// word or two it takes less time than looking a column up.
+pub fn skip_plainly(words: &[u64], columns: &[u64], from: usize) -> usize
+    ensures { λ r. ⌜ r ≡ from + evenRun (now (words .entry)) (drop from (now (columns .entry))) ⌝ }
+{
+    let mut i = from;
+    while i < columns.len() {
+        if !is_even(words, columns[i]) {
+            return i;
+        }
+        i += 1;
+    }
+    i
 }

@@ -85,7 +85,8 @@ fn add_portion(
     let portion = portions::fill_portion(source, list, powers, words, working, from);
     let place = portion.place;
     let count = working.len() - place;
-    let left = elimination::add_columns(held, &working[place..]);
+    let odd = parity_table::skip_plainly(held, working, place);
+    let left = elimination::add_columns(held, &working[odd..]);
     Progress {
         t: portion.t,
         chains: portion.chains,
