@@ -7,8 +7,8 @@ use mathlib.Core.List.{List, [], _∷_, _++_, map, map-append, map-map, append-a
 use Prim.Native.Nat.{ℕ, zero, suc, _+_, _-_, _*_, _≤_, _<_, min}
 use native.Mathlib.Decide.{ℕ-discrete}
 use native.Mathlib.Omega.{arith}
-use lib.ListN.{length, take, drop, getD, length-append, length-drop, length-map, length-take}
-use lib.Seq.{take-at, drop-at, take-all, take-take, drop-length, take-append-le, drop-append-le, length-take-le, getD-take}
+use lib.ListN.{length, take, drop, getD, length-append, length-drop, length-map, drop-of-length-le}
+use lib.Seq.{take-at, drop-at, take-all, take-take, drop-length, take-append-le, drop-append-le, length-take-le, length-front, getD-take}
 use Rattle.numbers.specs.Joined.{joined}
 use Rattle.numbers.proofs.JoinLaws.{joined-ext}
 use Rattle.rows.specs.Row.{Cells, cell}
@@ -25,7 +25,7 @@ use Rattle.marked_words.specs.Fitting.{FittedIn}
 use Rattle.marked_words.specs.declared.Fitted.{Fitted}
 use Rattle.swept_columns.proofs.FillLaws.{laterWords, later-words, later-words-none, later-words-suc, later-words-get, later-words-length, first-words}
 use Rattle.sparse_columns.proofs.SparseLaws.{map-chosen}
-use Rattle.portions.specs.Portions.{columnsLeft, Way, swept, sparse, Ready, PortionOf}
+use Rattle.portions.specs.Portions.{columnsLeft, Way, swept, sparse, Ready, RowFits, PortionOf}
 use Rattle.portions.specs.declared.Portion.{Portion}
 
 -- ---- the columns that are left
@@ -81,50 +81,69 @@ module _ (k : Circuit) (j : ℕ) (ps ws : List ℕ) where
             ∙ from-powers k (take (k .width) (drop j ps)) j (getD (k .spread) d 0) (part .1) (part .0) (good-spread (k .width) (k .spread) good d)
             ∙ sym (later-words-get k j (k .spread) d))
 
--- ---- the list
+-- ---- a row's list
 
--- the end of the first `place` places of l becomes part, and then its places from `start` on vs
-module _ (l part vs : List ℕ) (place start : ℕ) (inside : place ≤ length l) (long : length part ≡ length (take place l)) (before : start ≤ place)
-    (kept : take start part ≡ take start (take place l)) where
-  l₁ : List ℕ
-  l₁ = part ++ drop place l
+-- the end of the list l, from `start` on, becomes that of part, and then vs
+module _ (l part vs l₂ : List ℕ) (start : ℕ) (long : length part ≡ length l) (before : start ≤ length l) (kept : take start part ≡ take start l)
+    (e : l₂ ≡ take start part ++ (vs ++ drop (length part - start) (drop start part))) where
+  whole : l₂ ≡ take start part ++ vs
+  whole =
+      let past : length (drop start part) ≤ length part - start = omega (arith, length-drop start part) in
+      e ∙ ap (λ (x : List ℕ). take start part ++ (vs ++ x)) (drop-of-length-le (drop start part) past) ∙ ap (λ (x : List ℕ). take start part ++ x) (append-nil vs)
 
-  part-long : length part ≡ place
-  part-long = long ∙ length-take-le place l inside
+  front-long : length (take start part) ≡ start
+  front-long = length-take-le start part (omega arith)
 
-  pub written : take (place - start) (drop start (part ++ drop place l)) ≡ drop start part
-  written =
-      ap (take (place - start)) (drop-append-le start part (drop place l) (omega (arith, part-long)))
-      ∙ take-at (drop start part) (drop place l) (place - start) (length-drop start part ∙ ap (λ (i : ℕ). i - start) part-long)
+  pub changed-kept : take start l₂ ≡ take start l
+  changed-kept = ap (take start) whole ∙ take-at (take start part) vs start front-long ∙ kept
 
-  after : drop (place - start) (drop start (part ++ drop place l)) ≡ drop place l
-  after =
-      ap (drop (place - start)) (drop-append-le start part (drop place l) (omega (arith, part-long)))
-      ∙ drop-at (drop start part) (drop place l) (place - start) (length-drop start part ∙ ap (λ (i : ℕ). i - start) part-long)
+  pub changed-listed : drop start l₂ ≡ vs
+  changed-listed = ap (drop start) whole ∙ drop-at (take start part) vs start front-long
 
-  front : take start (part ++ drop place l) ≡ take start l
-  front =
-      take-append-le start part (drop place l) (omega (arith, part-long)) ∙ kept ∙ take-take start place l before
+  pub changed-long : length vs ≡ length (take (length part - start) (drop start part)) → length l₂ ≡ length l
+  changed-long many =
+      let same : take (length part - start) (drop start part) ≡ drop start part = take-all (length part - start) (drop start part) (omega (arith, length-drop start part)) in
+      ap length whole ∙ length-append (take start part) vs ∙ omega (arith, front-long, many, ap length same, length-drop start part)
 
-  module _ (l₂ : List ℕ)
-      (e : l₂ ≡ take start (part ++ drop place l) ++ (vs ++ drop (place - start) (drop start (part ++ drop place l)))) where
-    whole : l₂ ≡ take start l ++ (vs ++ drop place l)
-    whole = e ∙ ap₂ (λ (a b : List ℕ). a ++ (vs ++ b)) front after
+pub rest-whole : (part : List ℕ) (start : ℕ) → take (length part - start) (drop start part) ≡ drop start part
+rest-whole part start = take-all (length part - start) (drop start part) (omega (arith, length-drop start part))
 
-    front-long : length (take start l) ≡ start
-    front-long = length-take-le start l (omega arith)
+-- the row of slice t, of as many chains as there are words, listed and made the columns: ws₀ are the words, the first of ws
+module _ (k : Circuit) (s : ℕ) (u : Response) (ps ws ws₀ : List ℕ) (t : ℕ) (ready : Ready k s (suc t) ps ws) (few : length ws₀ ≤ chains k)
+    (first : ws₀ ≡ take (length ws₀) ws) (l part vs l₂ row : List ℕ) (width clocks : ℕ) (r : Fitted) (er : cell row ≡ u t)
+    (fit : FittedIn ws₀ (cell row) l part r) (ec : clocks ≡ s - suc t) (wide : width ≡ k .width)
+    (stay : length ps ≡ 0 → vs ≡ take (length part - r .place) (drop (r .place) part))
+    (put : 0 < length ps → clocks + width ≤ length ps → vs ≡ map (fromPowers (take width (drop clocks ps))) (take (length part - r .place) (drop (r .place) part)))
+    (e : l₂ ≡ take (r .place) part ++ (vs ++ drop (length part - r .place) (drop (r .place) part))) where
+  pub row-columns : sliceColumns k s u t (length ws₀) ≡ sliceColumns k s u t (r .chains) ++ drop (r .place) l₂
+  row-columns =
+      let within : t < s = ready .inside in
+      first-words k s u t (length ws₀) within few
+      ∙ ap (λ (x : Cells). markedWords (laterWords k (s - suc t) (k .spread)) x (length ws₀)) (sym er)
+      ∙ row-made k (s - suc t) ps ws (cell row) (length ws₀) (r .chains) width (drop (r .place) part) vs few (fit .chains) wide
+      (omega (arith, ready .slices, ready .narrow))
+      (ap (λ (x : List ℕ). markedWords x (cell row) (length ws₀)) (sym first) ∙ fit .listed ∙ ap (λ (x : List ℕ). markedWords x (cell row) (r .chains) ++ drop (r .place) part) first)
+      (λ z. stay z ∙ rest-whole part (r .place))
+      (λ z m.
+      put z (omega arith) ∙ ap (λ (i : ℕ). map (fromPowers (take width (drop i ps))) (take (length part - r .place) (drop (r .place) part))) ec
+      ∙ ap (map (fromPowers (take width (drop (s - suc t) ps)))) (rest-whole part (r .place)))
+      (ready .way)
+      ∙ ap₂ (λ (a b : List ℕ). a ++ b)
+      (ap (λ (x : Cells). markedWords (laterWords k (s - suc t) (k .spread)) x (r .chains)) er
+      ∙ sym (first-words k s u t (r .chains) within (omega (arith, fit .chains, few))))
+      (sym (changed-listed l part vs l₂ (r .place) (fit .long) (fit .place) (fit .kept) e))
 
-    pub changed-kept : take start l₂ ≡ take start l
-    changed-kept = ap (take start) whole ∙ take-at (take start l) (vs ++ drop place l) start front-long
-
-    pub changed-listed : drop start l₂ ≡ vs ++ drop place l
-    changed-listed = ap (drop start) whole ∙ drop-at (take start l) (vs ++ drop place l) start front-long
-
-    pub changed-long : length vs ≡ length (take (place - start) (drop start (part ++ drop place l))) → length l₂ ≡ length l
-    changed-long many =
-        let so-many : length vs ≡ place - start = many ∙ ap length written ∙ length-drop start part ∙ ap (λ (i : ℕ). i - start) part-long in
-        ap length whole ∙ length-append (take start l) (vs ++ drop place l)
-        ∙ omega (arith, front-long, length-append vs (drop place l), length-drop place l)
+-- .. of the slice before the t-th
+pub row-before : (k : Circuit) (s : ℕ) (u : Response) (ps ws ws₀ : List ℕ) (t : ℕ) → 0 < t → Ready k s t ps ws → length ws₀ ≤ chains k → ws₀ ≡ take (length ws₀) ws
+    → (l part vs l₂ row : List ℕ) (width clocks : ℕ) (r : Fitted) → cell row ≡ u (t - 1)
+    → FittedIn ws₀ (cell row) l part r → clocks ≡ s - t → width ≡ k .width
+    → (length ps ≡ 0 → vs ≡ take (length part - r .place) (drop (r .place) part))
+    → (0 < length ps → clocks + width ≤ length ps → vs ≡ map (fromPowers (take width (drop clocks ps))) (take (length part - r .place) (drop (r .place) part)))
+    → l₂ ≡ take (r .place) part ++ (vs ++ drop (length part - r .place) (drop (r .place) part))
+    → sliceColumns k s u (t - 1) (length ws₀) ≡ sliceColumns k s u (t - 1) (r .chains) ++ drop (r .place) l₂
+row-before k s u ps ws ws₀ t h ready few first l part vs l₂ row width clocks r er fit ec wide stay put e =
+    let back-up : t ≡ suc (t - 1) = omega arith in
+    row-columns k s u ps ws ws₀ (t - 1) (subst (λ (x : ℕ). Ready k s x ps ws) back-up ready) few first l part vs l₂ row width clocks r er fit (omega arith) wide stay put e
 
 -- ---- the loop over the slices
 
@@ -138,7 +157,16 @@ pub record Filling (k : Circuit) (s : ℕ) (u : Response) (ps l₀ : List ℕ) (
   pub kept : take at l ≡ take at l₀
 
 module _ (k : Circuit) (s : ℕ) (u : Response) (ps l₀ : List ℕ) (t₀ c₀ : ℕ) where
-  pub filling-starts : (ws : List ℕ) → Ready k s t₀ ps ws → c₀ ≤ chains k → Filling k s u ps l₀ t₀ c₀ ws l₀ (length l₀) t₀ c₀
+  -- the columns that are left, by those of the last slice
+  left-split : (t c n : ℕ) (vs : List ℕ) → 0 < t → sliceColumns k s u (t - 1) c ≡ sliceColumns k s u (t - 1) n ++ vs
+      → columnsLeft k s u t c ≡ columnsLeft k s u t n ++ vs
+  left-split t c n vs h split =
+      let back-up : t ≡ suc (t - 1) = omega arith in
+      ap (λ (x : ℕ). columnsLeft k s u x c) back-up ∙ ap (λ (x : List ℕ). columnsBelow k s u (t - 1) ++ x) split
+      ∙ sym (append-assoc (columnsBelow k s u (t - 1)) (sliceColumns k s u (t - 1) n) vs)
+      ∙ ap (λ (x : ℕ). columnsLeft k s u x n ++ vs) (sym back-up)
+
+  filling-starts : (ws : List ℕ) → Ready k s t₀ ps ws → c₀ ≤ chains k → Filling k s u ps l₀ t₀ c₀ ws l₀ (length l₀) t₀ c₀
   filling-starts ws r h = record {
     ready = r;
     few = h;
@@ -148,62 +176,50 @@ module _ (k : Circuit) (s : ℕ) (u : Response) (ps l₀ : List ℕ) (t₀ c₀ 
     kept = refl;
   }
 
-  -- a row is listed as far as there is room, and what was listed is made the columns
-  module _ (ws l part vs l₂ row : List ℕ) (place t c width clocks : ℕ) (r : Fitted) (f : Filling k s u ps l₀ t₀ c₀ ws l place (suc t) c)
-      (er : cell row ≡ u t) (fit : FittedIn (take c ws) (cell row) (take place l) part r) (ec : clocks ≡ s - suc t) (wide : width ≡ k .width)
-      (stay : length ps ≡ 0 → vs ≡ take (place - r .place) (drop (r .place) (part ++ drop place l)))
-      (put : 0 < length ps → clocks + width ≤ length ps → vs ≡ map (fromPowers (take width (drop clocks ps))) (take (place - r .place) (drop (r .place) (part ++ drop place l))))
-      (many : length vs ≡ length (take (place - r .place) (drop (r .place) (part ++ drop place l))))
-      (e₂ : l₂ ≡ take (r .place) (part ++ drop place l) ++ (vs ++ drop (place - r .place) (drop (r .place) (part ++ drop place l)))) where
-    words-long : length (take c ws) ≡ c
-    words-long = length-take-le c ws (omega (arith, f .few, way-length k (s - suc t) ps ws (f .ready .way)))
+  -- no slice is left
+  pub filling-none : (ws : List ℕ) → t₀ ≡ 0 → Ready k s t₀ ps ws → c₀ ≤ chains k → Filling k s u ps l₀ t₀ c₀ ws l₀ (length l₀) 0 c₀
+  filling-none ws z r h = subst (λ (x : ℕ). Filling k s u ps l₀ t₀ c₀ ws l₀ (length l₀) x c₀) z (filling-starts ws r h)
 
+  -- the first row
+  pub filling-first : (ws part : List ℕ) (r : Fitted) (n : ℕ) → n ≡ c₀ → 0 < t₀ → Ready k s t₀ ps ws → n ≤ chains k → RowFits n l₀ part r → length part ≡ length l₀
+      → sliceColumns k s u (t₀ - 1) n ≡ sliceColumns k s u (t₀ - 1) (r .chains) ++ drop (r .place) part
+      → Filling k s u ps l₀ t₀ c₀ ws part (r .place) t₀ (r .chains)
+  filling-first ws part r n e h ready few fit long split = record {
+    ready = ready;
+    few = omega (arith, fit .chains);
+    place = fit .place;
+    long = long;
+    listed = ap (columnsLeft k s u t₀) (sym e) ∙ left-split t₀ n (r .chains) (drop (r .place) part) h split;
+    kept = fit .kept;
+  }
+
+  -- a row is listed as far as there is room
+  module _ (ws l part : List ℕ) (place t c : ℕ) (r : Fitted) (h : 0 < t) (f : Filling k s u ps l₀ t₀ c₀ ws l place t c)
+      (fit : RowFits c (take place l) part r) (long : length part ≡ length (take place l))
+      (split : sliceColumns k s u (t - 1) c ≡ sliceColumns k s u (t - 1) (r .chains) ++ drop (r .place) part) where
     inside : place ≤ length l
     inside = omega (arith, f .place, f .long)
+
+    part-long : length part ≡ place
+    part-long = long ∙ length-take-le place l inside
 
     early : r .place ≤ place
     early = omega (arith, fit .place, length-take-le place l inside)
 
-    fewer : r .chains ≤ c
-    fewer = omega (arith, fit .chains, words-long)
-
-    listed-there : take (place - r .place) (drop (r .place) (part ++ drop place l)) ≡ drop (r .place) part
-    listed-there = written l part vs place (r .place) inside (fit .long) early (fit .kept)
-
-    row-split : sliceColumns k s u t c ≡ sliceColumns k s u t (r .chains) ++ vs
-    row-split =
-        let within : t < s = f .ready .inside in
-        first-words k s u t c within (f .few)
-        ∙ ap (λ (x : Cells). markedWords (laterWords k (s - suc t) (k .spread)) x c) (sym er)
-        ∙ row-made k (s - suc t) ps ws (cell row) c (r .chains) width (drop (r .place) part) vs (f .few) fewer wide
-        (omega (arith, f .ready .slices, f .ready .narrow)) split
-        (λ z. stay z ∙ listed-there)
-        (λ z m. put z (omega arith) ∙ ap (λ (i : ℕ). map (fromPowers (take width (drop i ps))) (take (place - r .place) (drop (r .place) (part ++ drop place l)))) ec ∙ ap (map (fromPowers (take width (drop (s - suc t) ps)))) listed-there) (f .ready .way)
-        ∙ ap (λ (a : List ℕ). a ++ vs)
-        (ap (λ (x : Cells). markedWords (laterWords k (s - suc t) (k .spread)) x (r .chains)) er
-        ∙ sym (first-words k s u t (r .chains) within (omega (arith, fewer, f .few))))
-      where
-        split : markedWords (take c ws) (cell row) c ≡ markedWords (take c ws) (cell row) (r .chains) ++ drop (r .place) part
-        split = ap (markedWords (take c ws) (cell row)) (sym words-long) ∙ fit .listed
-
-    pub filling-row : Filling k s u ps l₀ t₀ c₀ ws l₂ (r .place) (suc t) (r .chains)
+    pub filling-row : Filling k s u ps l₀ t₀ c₀ ws (part ++ drop place l) (r .place) t (r .chains)
     filling-row = record {
       ready = f .ready;
-      few = omega (arith, fewer, f .few);
+      few = omega (arith, fit .chains, f .few);
       place = omega (arith, early, f .place);
-      long = changed-long l part vs place (r .place) inside (fit .long) early (fit .kept) l₂ e₂ many ∙ f .long;
+      long = length-front l part place long ∙ f .long;
       listed =
-          f .listed
-              ∙ ap (λ (x : List ℕ). columnsBelow k s u t ++ x ++ drop place l) row-split
-              ∙ regroup (columnsBelow k s u t) (sliceColumns k s u t (r .chains)) vs (drop place l)
-              ∙ ap (λ (x : List ℕ). columnsLeft k s u (suc t) (r .chains) ++ x) (sym (changed-listed l part vs place (r .place) inside (fit .long) early (fit .kept) l₂ e₂));
+          f .listed ∙ ap (λ (x : List ℕ). x ++ drop place l) (left-split t c (r .chains) (drop (r .place) part) h split)
+              ∙ append-assoc (columnsLeft k s u t (r .chains)) (drop (r .place) part) (drop place l)
+              ∙ ap (λ (x : List ℕ). columnsLeft k s u t (r .chains) ++ x) (sym (drop-append-le (r .place) part (drop place l) (omega (arith, part-long, early))));
       kept =
-          changed-kept l part vs place (r .place) inside (fit .long) early (fit .kept) l₂ e₂
+          take-append-le (r .place) part (drop place l) (omega (arith, part-long, early)) ∙ fit .kept ∙ take-take (r .place) place l early
               ∙ sym (take-take (r .place) place l early) ∙ ap (take (r .place)) (f .kept) ∙ take-take (r .place) place l₀ early;
     }
-      where
-        regroup : (a b d e : List ℕ) → a ++ (b ++ d) ++ e ≡ a ++ b ++ (d ++ e)
-        regroup a b d e = ap (λ (x : List ℕ). x ++ e) (sym (append-assoc a b d)) ∙ append-assoc (a ++ b) d e
 
   -- the row is done
   pub filling-down : (ws ws′ l : List ℕ) (place t : ℕ) → Filling k s u ps l₀ t₀ c₀ ws l place (suc t) 0
@@ -242,24 +258,6 @@ module _ (k : Circuit) (s : ℕ) (u : Response) (ps l₀ : List ℕ) (t₀ c₀ 
       subst (λ (x : ℕ). Filling k s u ps l₀ t₀ c₀ ws′ l place (t - 1) x) (sym e)
       (filling-down ws ws′ l place (t - 1) (subst (λ (x : ℕ). Filling k s u ps l₀ t₀ c₀ ws l place x 0) back-up (subst (λ (x : ℕ). Filling k s u ps l₀ t₀ c₀ ws l place t x) z f)) step stay)
 
-  -- .. and of a row there
-  module _ (ws l part vs l₂ row : List ℕ) (place t c width clocks : ℕ) (r : Fitted) (h : 0 < t) (f : Filling k s u ps l₀ t₀ c₀ ws l place t c)
-      (er : cell row ≡ u (t - 1)) (fit : FittedIn (take c ws) (cell row) (take place l) part r) (ec : clocks ≡ s - t) (wide : width ≡ k .width)
-      (stay : length ps ≡ 0 → vs ≡ take (place - r .place) (drop (r .place) (part ++ drop place l)))
-      (put : 0 < length ps → clocks + width ≤ length ps → vs ≡ map (fromPowers (take width (drop clocks ps))) (take (place - r .place) (drop (r .place) (part ++ drop place l))))
-      (many : length vs ≡ length (take (place - r .place) (drop (r .place) (part ++ drop place l))))
-      (e₂ : l₂ ≡ take (r .place) (part ++ drop place l) ++ (vs ++ drop (place - r .place) (drop (r .place) (part ++ drop place l)))) where
-    back-up : t ≡ suc (t - 1)
-    back-up = omega arith
-
-    clocked : clocks ≡ s - suc (t - 1)
-    clocked = omega arith
-
-    pub row-turns : Filling k s u ps l₀ t₀ c₀ ws l₂ (r .place) t (r .chains)
-    row-turns =
-        subst (λ (x : ℕ). Filling k s u ps l₀ t₀ c₀ ws l₂ (r .place) x (r .chains)) (sym back-up)
-        (filling-row ws l part vs l₂ row place (t - 1) c width clocks r (subst (λ (x : ℕ). Filling k s u ps l₀ t₀ c₀ ws l place x c) back-up f) er fit clocked wide stay put many e₂)
-
   -- ---- the end
 
   pub filling-gives : (from : Portion) (ws l : List ℕ) (place t c : ℕ) → from .t ≡ t₀ → from .chains ≡ c₀ → Filling k s u ps l₀ t₀ c₀ ws l place t c
@@ -281,46 +279,44 @@ pub portion-at : (k : Circuit) (s s′ : ℕ) (u : Response) (ps : List ℕ) (fr
     → PortionOf k s′ u ps from ws l₀ l r → PortionOf k s u ps from ws l₀ l r
 portion-at k s s′ u ps from ws l₀ l r e p = subst (λ (x : ℕ). PortionOf k x u ps from ws l₀ l r) e p
 
+pub columns-at : (k : Circuit) (s s′ : ℕ) (u : Response) (t c n : ℕ) (vs : List ℕ) → s′ ≡ s → sliceColumns k s′ u t c ≡ sliceColumns k s′ u t n ++ vs
+    → sliceColumns k s u t c ≡ sliceColumns k s u t n ++ vs
+columns-at k s s′ u t c n vs e h = subst (λ (x : ℕ). sliceColumns k x u t c ≡ sliceColumns k x u t n ++ vs) e h
+
 -- the chains that are left are no more than there are words
 pub chains-same : (k : Circuit) (s t : ℕ) (ps ws : List ℕ) (n c : ℕ) → Ready k s t ps ws → n ≤ chains k → c ≡ min (n + 0) (length ws) → n ≡ c
 chains-same k s t ps ws n c r h e = omega (arith, way-length k (s - t) ps ws (r .way))
 
 -- ---- something is done in every portion
 
--- with at most 256 words no more cells are left than there were, and with 64 places fewer, but for the start and for a row that is done
-pub Moving : ℕ → ℕ → ℕ → ℕ → ℕ → ℕ → ℕ → Type 0
-Moving n room t₀ c₀ at t c =
-    n ≤ 256 → (257 * t + c ≤ 257 * t₀ + c₀) × (64 ≤ room → (64 ≤ at) ⊎ ((c ≡ 0) ⊎ (257 * t + c < 257 * t₀ + c₀)))
+-- after a row: with at most 256 words no more cells are left than there were, and with 64 places fewer, but where the row is done
+pub Moved : ℕ → ℕ → ℕ → ℕ → ℕ → ℕ → Type 0
+Moved n room t₀ c₀ t c =
+    n ≤ 256 → (257 * t + c ≤ 257 * t₀ + c₀) × (64 ≤ room → (c ≡ 0) ⊎ (257 * t + c < 257 * t₀ + c₀))
 
-module _ (n room t₀ c₀ : ℕ) where
-  pub moving-starts : Moving n room t₀ c₀ room t₀ c₀
-  unfolding Moving
-  moving-starts h = (omega arith, inl)
-
-  -- the row ws of c cells is listed in the first `at` places of a list
-  module _ (ws l part : List ℕ) (x : Cells) (at t c : ℕ) (r : Fitted) (m : Moving n room t₀ c₀ at t c) (fit : FittedIn ws x l part r) (many : length ws ≡ c)
-      (long : length l ≡ at) where
-    row-moves : n ≤ 256 → 64 ≤ room → (r .chains ≡ 0) ⊎ (257 * t + r .chains < 257 * t₀ + c₀)
-    unfolding Moving
-    row-moves h wide =
+module _ (n t₀ c₀ : ℕ) where
+  pub moved-first : (l part : List ℕ) (r : Fitted) (m : ℕ) → m ≡ c₀ → RowFits m l part r → Moved n (length l) t₀ c₀ t₀ (r .chains)
+  unfolding Moved
+  moved-first l part r m e fit few = (
+    omega (arith, fit .chains),
+    (λ wide.
         dite (ℕ-discrete (r .chains) 0) (λ (z : r .chains ≡ 0). inl z)
-        (λ (d : r .chains ≡ 0 → ⊥).
-        let there : 0 < length ws = omega (arith, fit .chains, d) in
-        inr
-        (⊎-elim (λ (a : 64 ≤ at). let fits : 64 ≤ length l = omega arith in omega (arith, fit .some fits there, m h .0))
-        (λ (a : (c ≡ 0) ⊎ (257 * t + c < 257 * t₀ + c₀)).
-        ⊎-elim (λ (z : c ≡ 0). let no : ⊥ = d (omega (arith, fit .chains, z)) in absurd no)
-        (λ (z : 257 * t + c < 257 * t₀ + c₀). omega (arith, fit .chains, z)) a)
-        (m h .1 wide)))
+        (λ (d : r .chains ≡ 0 → ⊥). let there : 0 < m = omega (arith, fit .chains, d) in inr (omega (arith, fit .some wide there)))),
+  )
 
-    pub moving-turns : Moving n room t₀ c₀ (r .place) t (r .chains)
-    unfolding Moving
-    moving-turns h = (omega (arith, fit .chains, m h .0), (λ wide. inr (row-moves h wide)))
+  module _ (room t c : ℕ) (m : Moved n room t₀ c₀ t c) where
+    -- the slice before it, with all its chains
+    pub moved-down : 0 < t → n ≤ 256 → 257 * (t - 1) + n < 257 * t₀ + c₀
+    unfolding Moved
+    moved-down h few = omega (arith, m few .0)
 
-    pub moving-less : n ≤ 256 → 64 ≤ room → 0 < r .chains → 257 * t + r .chains < 257 * t₀ + c₀
-    moving-less h wide some =
-        ⊎-elim (λ (z : r .chains ≡ 0). let no : ⊥ = omega arith in absurd no) (λ (z : 257 * t + r .chains < 257 * t₀ + c₀). z) (row-moves h wide)
+    pub moved-next : (l part : List ℕ) (r : Fitted) (i : ℕ) → i ≡ n → 0 < t → RowFits i l part r → Moved n room t₀ c₀ (t - 1) (r .chains)
+    unfolding Moved
+    moved-next l part r i e h fit few =
+        let less : 257 * (t - 1) + r .chains < 257 * t₀ + c₀ = omega (arith, moved-down h few, fit .chains) in
+        (omega arith, (λ wide. inr less))
 
-  pub moving-down : (at t c : ℕ) → 0 < t → Moving n room t₀ c₀ at t c → Moving n room t₀ c₀ at (t - 1) n
-  unfolding Moving
-  moving-down at t c h m few = (omega (arith, m few .0), (λ wide. inr (inr (omega (arith, m few .0)))))
+    pub moved-less : n ≤ 256 → 64 ≤ room → (c ≡ 0 → ⊥) → 257 * t + c < 257 * t₀ + c₀
+    unfolding Moved
+    moved-less few wide some =
+        ⊎-elim (λ (z : c ≡ 0). absurd (some z)) (λ (z : 257 * t + c < 257 * t₀ + c₀). z) (m few .1 wide)

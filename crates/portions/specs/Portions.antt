@@ -6,6 +6,7 @@
 --   columnsLeft k s u t c  the columns of the first t slices' unknown cells, but that in the last of these only the chains below c count
 --   Way k j ps ws          the words ws are the circuit's spread words j clocks later, or there are the powers ps that make them so
 --   Ready k s t ps ws      .. for the columns of the slice before the t-th of s, where slices, chains and width are within their limits
+--   RowFits n l l′ r       a row of n chains stands at the end of the list l′, which was l, as far as there is room
 --   PortionOf ..           a portion stands at the end of the list l′, which was l, and r tells which columns are left
 use mathlib.Core.Path.{_≡_}
 use mathlib.Core.Bool.{false}
@@ -17,6 +18,7 @@ use Rattle.register.specs.Circuit.{Circuit, circuit, chains}
 use Rattle.signatures.specs.Signature.{Response}
 use Rattle.signatures.specs.Later.{later}
 use Rattle.signatures.specs.Columns.{sliceColumns, columnsBelow}
+use Rattle.marked_words.specs.declared.Fitted.{Fitted}
 use Rattle.portions.specs.declared.Source.{Source}
 use Rattle.portions.specs.declared.Portion.{Portion}
 
@@ -40,6 +42,13 @@ pub record Ready (k : Circuit) (s t : ℕ) (ps ws : List ℕ) : Type 0 where
   pub few : chains k ≤ 256
   pub narrow : k .width ≤ 64
   pub way : Way k (s - t) ps ws
+
+-- of n chains r .chains are left, and only the places from r .place on have changed; with 64 places fewer chains are left than there were
+pub record RowFits (n : ℕ) (l l′ : List ℕ) (r : Fitted) : Type 0 where
+  pub chains : r .chains ≤ n
+  pub place : r .place ≤ length l
+  pub kept : take (r .place) l′ ≡ take (r .place) l
+  pub some : 64 ≤ length l → 0 < n → r .chains < n
 
 -- the columns from those that r leaves on, up to those that `from` had left, stand from r .place on, and nothing else of the list has
 -- changed; the words are ready for what is left

@@ -1,13 +1,15 @@
 // The columns of marked cells in portions: as many of the last ones as a list has room for, then as many of those before them, and so on. It
 // sees the register's powers and the marked words of a row; it knows no file. Every function is total.
 ghost use mathlib.Core.Path.{_≡_};
-ghost use mathlib.Core.List.{List, map};
+ghost use mathlib.Core.List.{List, _++_, map};
 ghost use Prim.Native.Nat.{ℕ, _+_, _-_, _*_, _≤_, _<_, min};
 ghost use lib.ListN.{length, take, drop};
 ghost use Rattle.rows.specs.Lists.{cellsOf};
 ghost use Rattle.register.specs.Circuit.{advanced};
 ghost use Rattle.powers.specs.Powers.{fromPowers};
-ghost use Rattle.portions.specs.Portions.{wiring, slicesIn, Ready, PortionOf};
+ghost use Rattle.signatures.specs.Columns.{sliceColumns};
+ghost use Rattle.portions.specs.Portions.{wiring, slicesIn, Ready, RowFits, PortionOf};
+use marked_words::Fitted;
 use register::Register;
 use rows::Rows;
 
@@ -66,6 +68,32 @@ fn put_later(powers: &[u64], clocks: usize, width: usize, words: &mut [u64])
     powers::power_words(&powers[clocks..end], words);
 }
 
+// Writes the columns of the last of the first t slices over the end of the list, as far as there is room, for as many chains as there are
+// words.
+fn fill_row(
+    source: Source,
+    list: &[u8],
+    powers: &[u64],
+    words: &[u64],
+    columns: &mut [u64],
+    t: u16,
+) -> Fitted
+    requires { ⌜ 0 < t ⌝ }
+    ensures fits { λ r. ⌜ RowFits (length (now (words .entry))) (now (columns .entry)) (now (columns .exit)) r ⌝ }
+    ensures row { λ r. ⌜ ((spread ws : List ℕ) → length (now (words .entry)) ≤ length spread → now (words .entry) ≡ take (length (now (words .entry))) ws → Ready (wiring source spread) (slicesIn source) t (now (powers .entry)) ws → sliceColumns (wiring source spread) (slicesIn source) (cellsOf (now (list .entry)) (source .marks)) (t - 1) (length (now (words .entry))) ≡ sliceColumns (wiring source spread) (slicesIn source) (cellsOf (now (list .entry)) (source .marks)) (t - 1) (r .chains) ++ drop (r .place) (now (columns .exit))) ⌝ }
+{
+    let register = source.register;
+    let marks = source.marks;
+    let width = register::width_limit(register.m) as usize;
+    let slices = register::slice_limit(source.s);
+    let row = rows::row_of(list, marks, t - 1);
+    let fitted = marked_words::list_fitting(columns, words, row);
+    let start = fitted.place;
+    let clocks = later_slices(slices, t);
+    put_later(powers, clocks, width, &mut columns[start..]);
+    fitted
+}
+
 // Writes the last of the columns that are left over the end of the list, as many as there is room for, and answers with which are left
 // then. The words are those of the chains: with the register's powers the spread words, which stay as they are; without powers the spread
 // words advanced once for each slice after the first t. With 64 places, and at most 256 chains, fewer cells are left then. It meets no
@@ -83,27 +111,29 @@ pub fn fill_portion(
     ensures portion { λ r. ⌜ ((spread : List ℕ) → from .chains ≤ length spread → Ready (wiring source spread) (slicesIn source) (from .t) (now (powers .entry)) (now (words .entry)) → PortionOf (wiring source spread) (slicesIn source) (cellsOf (now (list .entry)) (source .marks)) (now (powers .entry)) from (now (words .exit)) (now (columns .entry)) (now (columns .exit)) r) ⌝ }
 {
     let register = source.register;
-    let marks = source.marks;
-    let width = register::width_limit(register.m) as usize;
-    let slices = register::slice_limit(source.s);
     let all = words.len();
-    let mut place = columns.len();
+    let limit = numbers::moved(from.chains, 0, all);
+    if from.t == 0 {
+        return Portion {
+            t: 0,
+            chains: limit,
+            place: columns.len(),
+        };
+    }
+    let first = fill_row(source, list, powers, &words[..limit], columns, from.t);
     let mut t = from.t;
-    let mut chains = numbers::moved(from.chains, 0, all);
-    while 0 < t {
-        let row = rows::row_of(list, marks, t - 1);
-        let fitted = marked_words::list_fitting(&mut columns[..place], &words[..chains], row);
-        let start = fitted.place;
-        let clocks = later_slices(slices, t);
-        put_later(powers, clocks, width, &mut columns[start..place]);
-        place = start;
-        chains = fitted.chains;
-        if 0 < chains {
-            return Portion { t, chains, place };
-        }
+    let mut place = first.place;
+    let mut chains = first.chains;
+    while chains == 0 {
         advance_swept(register, powers, words);
         t -= 1;
         chains = all;
+        if t == 0 {
+            return Portion { t, chains, place };
+        }
+        let next = fill_row(source, list, powers, words, &mut columns[..place], t);
+        place = next.place;
+        chains = next.chains;
     }
     Portion { t, chains, place }
 }

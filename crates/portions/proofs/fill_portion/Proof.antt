@@ -1,123 +1,131 @@
 -- `fill_portion` meets its contract. The loop's invariant: the columns from those that are left on stand at the list's end, for all spread
--- words that the words are ready for.
-use mathlib.Core.Path.{_≡_, refl, sym, ap, _∙_}
+-- words that the words are ready for; a row was just listed.
+use mathlib.Core.Path.{_≡_, refl, sym, ap, _∙_, subst}
 use mathlib.Core.List.{List, _++_}
-use Prim.Native.Nat.{ℕ, _+_, _-_, _*_, _≤_, _<_, min}
+use Prim.Native.Nat.{ℕ, _+_, _-_, _*_, _≤_, _<_}
 use native.Mathlib.Omega.{arith}
-use lib.ListN.{length, take, drop}
-use lib.Seq.{length-take-le, length-front}
-use Rattle.rows.specs.Row.{cell}
+use lib.ListN.{length, take, drop, length-append}
+use lib.Seq.{length-take-le, length-front, take-length}
 use Rattle.rows.specs.Lists.{cellsOf}
-use Rattle.register.specs.Circuit.{circuit}
-use Rattle.portions.specs.Portions.{Ready}
-use Rattle.portions.proofs.PortionLaws.{Filling, filling-starts, row-turns, filling-goes, filling-gives, ready-at, portion-at, chains-same, way-length, changed-long, Moving, moving-starts, moving-turns, moving-less, moving-down}
+use Rattle.portions.specs.Portions.{wiring, slicesIn, Ready, RowFits}
+use Rattle.portions.proofs.PortionLaws.{Filling, filling-none, filling-first, filling-row, filling-goes, filling-gives, chains-same, way-length, Moved, moved-first, moved-down, moved-next, moved-less}
 use borrow.Author.Needs.{needs}
 use Rattle.portions.proofs.fill_portion.Statement.{statement}
 use Rattle.portions.proofs.fill_portion.Tie as tie
 
 abbrev Inv-loop : tie.InvT-loop
-Inv-loop list powers words₀ columns₀ register marks width slices all place₀ t₀ chains₀ words columns place t chains =
-    (chains ≤ length words)
+Inv-loop source list powers words₀ columns₀ register all limit t₀ place₀ chains₀ words columns t place chains =
+    (0 < t)
+    × (chains ≤ length words)
     × (place ≤ length columns)
     × (length columns ≡ length columns₀)
     × (length words ≡ length words₀)
-    × Moving (length words₀) (length columns₀) t₀ chains₀ place t chains
-    × ((spread : List ℕ) → Ready (circuit (min (register .m) 64) (register .taps) (register .inversion) spread) slices t₀ powers words₀
-    → Filling (circuit (min (register .m) 64) (register .taps) (register .inversion) spread) slices (cellsOf list marks) powers columns₀ t₀ chains₀ words columns place t chains)
+    × Moved (length words₀) (length columns₀) t₀ limit t chains
+    × ((spread l₀ : List ℕ) → Filling (wiring source spread) (slicesIn source) (cellsOf list (source .marks)) powers l₀ t₀ limit words₀ columns₀ place₀ t₀ chains₀
+    → Filling (wiring source spread) (slicesIn source) (cellsOf list (source .marks)) powers l₀ t₀ limit words columns place t chains)
 
 abbrev μ-loop : tie.MeasureT-loop
-μ-loop list powers words₀ columns₀ register marks width slices all place₀ t₀ chains₀ words columns place t chains = t
+μ-loop source list powers words₀ columns₀ register all limit t₀ place₀ chains₀ words columns t place chains = t
+
+-- the chains that are left are no more than there are words
+limited : (c : tie.After-moved Inv-loop μ-loop) → length (take (c .moved .result) (c .before .before .before .before .before .before .args .words .now)) ≡ c .moved .result
+limited c = length-take-le (c .moved .result) (c .before .before .before .before .before .before .args .words .now) (omega (arith, c .moved .ensures))
+
+-- the first row is listed
+started : (c : tie.After-fill-row Inv-loop μ-loop) (spread : List ℕ) → Ready (wiring (c .before .before .before .before .before .before .before .before .before .before .before .args .source) spread) (slicesIn (c .before .before .before .before .before .before .before .before .before .before .before .args .source)) (c .before .before .before .before .before .before .before .before .before .before .before .args .from .t) (c .before .before .before .before .before .before .before .before .before .before .before .args .powers .now) (c .before .before .before .before .before .before .before .before .before .before .before .args .words .now)
+    → Filling (wiring (c .before .before .before .before .before .before .before .before .before .before .before .args .source) spread) (slicesIn (c .before .before .before .before .before .before .before .before .before .before .before .args .source)) (cellsOf (c .before .before .before .before .before .before .before .before .before .before .before .args .list .now) (c .before .before .before .before .before .before .before .before .before .before .before .args .source .marks)) (c .before .before .before .before .before .before .before .before .before .before .before .args .powers .now) (c .before .before .before .before .before .before .before .before .before .before .before .args .columns .now) (c .before .before .before .before .before .before .before .before .before .before .before .args .from .t) (c .before .before .before .before .before .moved .result) (c .before .before .before .before .before .before .before .before .before .before .before .args .words .now) (c .fill-row .last .1 .1 .1 .1 .0) (c .fill-row .result .place) (c .before .before .before .before .before .before .before .before .before .before .before .args .from .t) (c .fill-row .result .chains)
+started c spread ready =
+    let args = c .before .before .before .before .before .before .before .before .before .before .before .args in
+    let limit = c .before .before .before .before .before .moved .result in
+    let few : length (take limit (args .words .now)) ≤ length spread = omega (arith, limited (c .before .before .before .before .before), c .before .before .before .before .before .moved .ensures, way-length _ _ _ _ (ready .way)) in
+    filling-first _ _ _ _ _ _ _ _ _ _ _ (limited (c .before .before .before .before .before)) (omega (arith, c .before .before .before .if1 .left)) ready few (c .fill-row .ensures .0) (c .fill-row .kept .1 .1 .1 .1 .0)
+    (c .fill-row .ensures .1 spread (args .words .now) few (ap (λ (i : ℕ). take i (args .words .now)) (sym (limited (c .before .before .before .before .before)))) ready)
 
 loop-holds : tie.Need-loop-holds Inv-loop μ-loop
 loop-holds c =
-    (omega (arith, c .moved .ensures), search needs, refl, refl, moving-starts _ _ _ _, (λ spread ready. filling-starts _ _ _ _ _ _ _ _ ready (omega (arith, c .moved .ensures, way-length _ _ _ _ (ready .way)))))
-
--- the row is listed as far as there was room, and what was listed is made its columns
-turned : (c : tie.After-put-later Inv-loop μ-loop) (spread : List ℕ)
-    → Ready (circuit (min (c .before .before .before .before .before .before .before .before .before .before .before .before .before .before .before .before .before .before .before .before .args .source .register .m) 64) (c .before .before .before .before .before .before .before .before .before .before .before .before .before .before .before .before .before .before .before .before .args .source .register .taps) (c .before .before .before .before .before .before .before .before .before .before .before .before .before .before .before .before .before .before .before .before .args .source .register .inversion) spread) (c .before .before .before .before .before .before .before .before .before .before .before .before .slice-limit .result) (c .before .before .before .before .before .before .before .before .before .before .before .before .before .before .before .before .before .before .before .before .args .from .t) (c .before .before .before .before .before .before .before .before .before .before .before .before .before .before .before .before .before .before .before .before .args .powers .now) (c .before .before .before .before .before .before .before .before .before .before .before .before .before .before .before .before .before .before .before .before .args .words .now)
-    → Filling (circuit (min (c .before .before .before .before .before .before .before .before .before .before .before .before .before .before .before .before .before .before .before .before .args .source .register .m) 64) (c .before .before .before .before .before .before .before .before .before .before .before .before .before .before .before .before .before .before .before .before .args .source .register .taps) (c .before .before .before .before .before .before .before .before .before .before .before .before .before .before .before .before .before .before .before .before .args .source .register .inversion) spread) (c .before .before .before .before .before .before .before .before .before .before .before .before .slice-limit .result) (cellsOf (c .before .before .before .before .before .before .before .before .before .before .before .before .before .before .before .before .before .before .before .before .args .list .now) (c .before .before .before .before .before .before .before .before .before .before .before .before .before .before .before .before .before .before .before .before .args .source .marks)) (c .before .before .before .before .before .before .before .before .before .before .before .before .before .before .before .before .before .before .before .before .args .powers .now) (c .before .before .before .before .before .before .before .before .before .before .before .before .before .before .before .before .before .before .before .before .args .columns .now) (c .before .before .before .before .before .before .before .before .before .before .before .before .before .before .before .before .before .before .before .before .args .from .t) (c .before .before .before .before .before .before .before .before .before .before .before .moved .result) (c .before .before .before .before .before .before .before .before .before .before .loop .words) (take (c .before .before .before .before .before .list-fitting .result .place) (c .before .before .before .before .before .list-fitting .last .0 ++ drop (c .before .before .before .before .before .before .before .before .before .before .loop .place) (c .before .before .before .before .before .before .before .before .before .before .loop .columns)) ++ (c .put-later .last .1 .1 .1 .0 ++ drop (c .before .before .before .before .before .before .before .before .before .before .loop .place - c .before .before .before .before .before .list-fitting .result .place) (drop (c .before .before .before .before .before .list-fitting .result .place) (c .before .before .before .before .before .list-fitting .last .0 ++ drop (c .before .before .before .before .before .before .before .before .before .before .loop .place) (c .before .before .before .before .before .before .before .before .before .before .loop .columns))))) (c .before .before .before .before .before .list-fitting .result .place) (c .before .before .before .before .before .before .before .before .before .before .loop .t) (c .before .before .before .before .before .list-fitting .result .chains)
-turned c spread ready =
-    row-turns _ _ _ _ _ _ _ _ _ _ _ _ (c .before .before .before .before .before .before .before .before .row-of .result .now) _ _ _ _ _ _ (c .before .before .before .before .before .before .before .before .before .loop-test .taken) (c .before .before .before .before .before .before .before .before .before .before .loop .inv .5 spread ready) (ap cell (c .before .before .before .before .before .before .before .before .row-of .ensures)) (c .before .before .before .before .before .list-fitting .ensures) (c .before .before .later-slices .ensures) (c .before .before .before .before .before .before .before .before .before .before .before .before .before .width-limit .ensures) (c .put-later .ensures .0) (c .put-later .ensures .1) (c .put-later .kept .1 .1 .1 .0) refl
-
-slice-aggregate-list-fitting : tie.Need-slice-aggregate-list-fitting Inv-loop μ-loop
-slice-aggregate-list-fitting c = sym (length-take-le _ _ (search needs))
-
-slice-aggregate-list-fitting-2 : tie.Need-slice-aggregate-list-fitting-2 Inv-loop μ-loop
-slice-aggregate-list-fitting-2 c = sym (length-take-le _ _ (search needs))
-
-early : (c : tie.After-later-slices Inv-loop μ-loop) → c .before .before .before .list-fitting .result .place ≤ c .before .before .before .before .before .before .before .before .loop .place
-early c = omega (arith, c .before .before .before .list-fitting .ensures .place, length-take-le (c .before .before .before .before .before .before .before .before .loop .place) (c .before .before .before .before .before .before .before .before .loop .columns) (c .before .before .before .before .before .before .before .before .loop .inv .1))
-
-whole : (c : tie.After-later-slices Inv-loop μ-loop) → length (c .before .before .before .list-fitting .last .0 ++ drop (c .before .before .before .before .before .before .before .before .loop .place) (c .before .before .before .before .before .before .before .before .loop .columns)) ≡ length (c .before .before .before .before .before .before .before .before .loop .columns)
-whole c = length-front (c .before .before .before .before .before .before .before .before .loop .columns) (c .before .before .before .list-fitting .last .0) (c .before .before .before .before .before .before .before .before .loop .place) (c .before .before .before .list-fitting .ensures .long)
-
-mul-put-later : tie.Need-mul-put-later Inv-loop μ-loop
-mul-put-later c = record { fits = omega (arith, early c, c .before .before .before .before .before .before .before .before .loop .inv .1) }
-
-sub-put-later : tie.Need-sub-put-later Inv-loop μ-loop
-sub-put-later c = early c
-
-part-put-later-start : tie.Need-part-put-later-start Inv-loop μ-loop
-part-put-later-start c = early c
-
-part-put-later-end : tie.Need-part-put-later-end Inv-loop μ-loop
-part-put-later-end c = omega (arith, whole c, c .before .before .before .before .before .before .before .before .loop .inv .1)
-
-long-still : (c : tie.After-put-later Inv-loop μ-loop)
-    → length (take (c .before .before .before .before .before .list-fitting .result .place) (c .before .before .before .before .before .list-fitting .last .0 ++ drop (c .before .before .before .before .before .before .before .before .before .before .loop .place) (c .before .before .before .before .before .before .before .before .before .before .loop .columns)) ++ (c .put-later .last .1 .1 .1 .0 ++ drop (c .before .before .before .before .before .before .before .before .before .before .loop .place - c .before .before .before .before .before .list-fitting .result .place) (drop (c .before .before .before .before .before .list-fitting .result .place) (c .before .before .before .before .before .list-fitting .last .0 ++ drop (c .before .before .before .before .before .before .before .before .before .before .loop .place) (c .before .before .before .before .before .before .before .before .before .before .loop .columns))))) ≡ length (c .before .before .before .before .before .before .before .before .before .before .loop .columns)
-long-still c =
-    let at = c .before .before .before .before .before .before .before .before .before .before .loop in
-    let fitted = c .before .before .before .before .before .list-fitting in
-    changed-long (at .columns) (fitted .last .0) (c .put-later .last .1 .1 .1 .0) (at .place) (fitted .result .place) (at .inv .1) (fitted .ensures .long) (early (c .before .before)) (fitted .ensures .kept) _ refl (c .put-later .kept .1 .1 .1 .0)
-
-same-length : tie.Need-same-length Inv-loop μ-loop
-same-length c = c .before .before .before .before .before .before .before .before .before .before .before .before .before .loop .inv .3
-
-same-length-2 : tie.Need-same-length-2 Inv-loop μ-loop
-same-length-2 c = long-still (c .before .before .before) ∙ c .before .before .before .before .before .before .before .before .before .before .before .before .before .loop .inv .2
+    let row = c .before .before .fill-row in
+    let long = row .kept .1 .1 .1 .1 .0 in (
+      omega (arith, c .before .before .before .before .before .if1 .left),
+      omega (arith, row .ensures .0 .chains, limited (c .before .before .before .before .before .before .before), c .before .before .before .before .before .before .before .moved .ensures),
+      omega (arith, row .ensures .0 .place, long),
+      refl,
+      refl,
+      subst (λ (i : ℕ). Moved (length (c .before .before .before .before .before .before .before .before .before .before .before .before .before .args .words .now)) i (c .before .before .before .before .before .before .before .before .before .before .before .before .before .args .from .t) (c .before .before .before .before .before .before .before .moved .result) (c .before .before .before .before .before .before .before .before .before .before .before .before .before .args .from .t) (row .result .chains)) (sym long)
+      (moved-first _ _ _ _ _ _ _ (limited (c .before .before .before .before .before .before .before)) (row .ensures .0)),
+      (λ spread l₀ so-far. so-far),
+    )
 
 returns : tie.Need-returns Inv-loop μ-loop
 returns c =
-    let args = c .before .before .before .before .before .before .before .before .before .before .before .before .before .before .before .before .before .before .before .before .before .before .before .args in
-    let at = c .before .before .before .before .before .before .before .before .before .before .before .before .before .loop in
-    let fitted = c .before .before .before .before .before .before .before .before .list-fitting in
-    let slices = c .before .before .before .before .before .before .before .before .before .before .before .before .before .before .before .slice-limit .ensures in (
-      omega (arith, early (c .before .before .before .before .before), at .inv .1, at .inv .2),
-      ((λ wide few some.
-          omega (arith, moving-less _ _ _ _ _ _ _ _ _ _ _ _ (at .inv .4) (fitted .ensures) (length-take-le (at .chains) (at .words) (at .inv .0)) (length-take-le (at .place) (at .columns) (at .inv .1)) few wide (c .if1 .taken), c .before .before .before .before .before .before .before .before .before .before .before .before .before .before .moved .ensures)),
+    let args = c .before .before .before .before .before .before .before .before .args in (
+      omega arith,
+      ((λ wide few some. let no : ⊥ = omega (arith, c .if1 .taken) in absurd no),
       (λ spread few ready.
-          portion-at _ _ _ _ _ _ _ _ _ _ slices
-          (filling-gives _ _ _ _ _ _ _ (args .from) _ _ _ _ _ refl (chains-same _ _ _ _ _ _ _ ready few (c .before .before .before .before .before .before .before .before .before .before .before .before .before .before .moved .ensures)) (turned (c .before .before .before) spread (ready-at _ _ _ _ _ _ slices ready))))),
+          filling-gives _ _ _ _ _ _ _ (args .from) _ _ _ _ _ refl (chains-same _ _ _ _ _ _ _ ready few (c .before .before .moved .ensures))
+          (filling-none _ _ _ _ _ _ _ _ (c .if1 .taken) ready (omega (arith, c .before .before .moved .ensures, way-length _ _ _ _ (ready .way)))))),
     )
 
-loop-again : tie.Need-loop-again Inv-loop μ-loop
-loop-again c =
-    let advanced = c .before .before .advance-swept in (
-      omega (arith, advanced .kept .1 .1 .0, c .before .before .before .before .before .before .before .before .before .before .before .before .before .before .before .before .before .loop .inv .3),
-      omega (arith, early (c .before .before .before .before .before .before .before .before .before), long-still (c .before .before .before .before .before .before .before), c .before .before .before .before .before .before .before .before .before .before .before .before .before .before .before .before .before .loop .inv .1),
-      long-still (c .before .before .before .before .before .before .before) ∙ c .before .before .before .before .before .before .before .before .before .before .before .before .before .before .before .before .before .loop .inv .2,
-      advanced .kept .1 .1 .0 ∙ c .before .before .before .before .before .before .before .before .before .before .before .before .before .before .before .before .before .loop .inv .3,
-      moving-down _ _ _ _ _ _ _ (c .before .before .before .before .before .before .before .before .before .before .before .before .before .before .before .before .loop-test .taken) (moving-turns _ _ _ _ _ _ _ _ _ _ _ _ (c .before .before .before .before .before .before .before .before .before .before .before .before .before .before .before .before .before .loop .inv .4) (c .before .before .before .before .before .before .before .before .before .before .before .before .list-fitting .ensures) (length-take-le (c .before .before .before .before .before .before .before .before .before .before .before .before .before .before .before .before .before .loop .chains) (c .before .before .before .before .before .before .before .before .before .before .before .before .before .before .before .before .before .loop .words) (c .before .before .before .before .before .before .before .before .before .before .before .before .before .before .before .before .before .loop .inv .0)) (length-take-le (c .before .before .before .before .before .before .before .before .before .before .before .before .before .before .before .before .before .loop .place) (c .before .before .before .before .before .before .before .before .before .before .before .before .before .before .before .before .before .loop .columns) (c .before .before .before .before .before .before .before .before .before .before .before .before .before .before .before .before .before .loop .inv .1))),
-      (λ spread ready.
-          filling-goes _ _ _ _ _ _ _ _ _ _ _ _ _ _ (c .before .before .before .before .before .before .before .before .before .before .before .before .before .before .before .before .loop-test .taken) (turned (c .before .before .before .before .before .before .before) spread ready) (omega arith) (way-length _ _ _ _ (ready .way)) (advanced .ensures .0) (advanced .ensures .1)),
-    )
+slice-aggregate-fill-row : tie.Need-slice-aggregate-fill-row Inv-loop μ-loop
+slice-aggregate-fill-row c = sym (limited (c .before .before .before))
 
-same-length-3 : tie.Need-same-length-3 Inv-loop μ-loop
-same-length-3 c = search needs
+fill-row-requires : tie.Need-fill-row-requires Inv-loop μ-loop
+fill-row-requires c κs = omega (arith, c .before .before .if1 .left)
 
-same-length-4 : tie.Need-same-length-4 Inv-loop μ-loop
-same-length-4 c = search needs
+same-length : tie.Need-same-length Inv-loop μ-loop
+same-length c = c .before .before .before .advance-swept .kept .1 .1 .0 ∙ c .before .before .before .before .before .before .loop .inv .4
+
+same-length-2 : tie.Need-same-length-2 Inv-loop μ-loop
+same-length-2 c = c .before .before .before .before .before .before .loop .inv .3 ∙ c .before .before .before .before .before .before .before .before .before .fill-row .kept .1 .1 .1 .1 .0
 
 returns-2 : tie.Need-returns-2 Inv-loop μ-loop
 returns-2 c =
-    let args = c .before .before .before .before .before .before .before .before .before .before .before .args in
-    let at = c .before .loop in
-    let slices = c .before .before .before .slice-limit .ensures in (
-      omega (arith, at .inv .1, at .inv .2),
-      ((λ wide few some. omega (arith, at .inv .0, at .inv .3)),
+    let args = c .before .before .before .before .before .before .before .before .before .before .before .before .before .before .before .before .before .before .before .before .args in
+    let at = c .before .before .before .before .before .before .loop in
+    let advanced = c .before .before .before .advance-swept in (
+      omega (arith, at .inv .2, at .inv .3, c .before .before .before .before .before .before .before .before .before .fill-row .kept .1 .1 .1 .1 .0),
+      ((λ wide few some. omega (arith, moved-down _ _ _ _ _ _ (at .inv .5) (at .inv .0) few, c .before .before .before .before .before .before .before .before .before .before .before .before .before .before .moved .ensures)),
       (λ spread few ready.
-          portion-at _ _ _ _ _ _ _ _ _ _ slices
-          (filling-gives _ _ _ _ _ _ _ (args .from) _ _ _ _ _ refl (chains-same _ _ _ _ _ _ _ ready few (c .before .before .moved .ensures)) (at .inv .5 spread (ready-at _ _ _ _ _ _ slices ready))))),
+          filling-gives _ _ _ _ _ _ _ (args .from) _ _ _ _ _ refl (chains-same _ _ _ _ _ _ _ ready few (c .before .before .before .before .before .before .before .before .before .before .before .before .before .before .moved .ensures))
+          (filling-goes _ _ _ _ _ _ _ _ _ _ _ _ _ _ (at .inv .0) (at .inv .6 spread (args .columns .now) (started (c .before .before .before .before .before .before .before .before .before) spread ready)) (c .before .before .before .before .before .loop-test .taken) (way-length _ _ _ _ (ready .way)) (advanced .ensures .0) (advanced .ensures .1)))),
+    )
+
+slice-aggregate-fill-row-2 : tie.Need-slice-aggregate-fill-row-2 Inv-loop μ-loop
+slice-aggregate-fill-row-2 c = sym (length-take-le _ _ (search needs))
+
+fill-row-requires-2 : tie.Need-fill-row-requires-2 Inv-loop μ-loop
+fill-row-requires-2 c κs = omega (arith, c .before .before .if2 .left)
+
+loop-again : tie.Need-loop-again Inv-loop μ-loop
+loop-again c =
+    let args = c .before .before .before .before .before .before .before .before .before .before .before .before .before .before .before .before .before .before .before .before .before .before .before .before .before .args in
+    let at = c .before .before .before .before .before .before .before .before .before .before .before .loop in
+    let advanced = c .before .before .before .before .before .before .before .before .advance-swept in
+    let row = c .before .before .fill-row2 in
+    let same = advanced .kept .1 .1 .0 ∙ at .inv .4 in
+    let long = row .kept .1 .1 .1 .1 .0 in (
+      omega (arith, c .before .before .before .before .before .if2 .left),
+      row .ensures .0 .chains,
+      omega (arith, row .ensures .0 .place, long, length-append (row .last .1 .1 .1 .1 .0) (drop (at .place) (at .columns))),
+      length-front (at .columns) (row .last .1 .1 .1 .1 .0) (at .place) long ∙ at .inv .3,
+      same,
+      moved-next _ _ _ _ _ _ (at .inv .5) _ _ _ _ same (at .inv .0) (row .ensures .0),
+      (λ spread l₀ start.
+          let so-far = at .inv .6 spread l₀ start in
+          let gone =
+          filling-goes _ _ _ _ _ _ _ _ _ _ _ _ _ (length (advanced .last .1 .1 .0)) (at .inv .0) so-far (c .before .before .before .before .before .before .before .before .before .before .loop-test .taken) (advanced .kept .1 .1 .0 ∙ way-length _ _ _ _ (so-far .ready .way)) (advanced .ensures .0) (advanced .ensures .1) in
+          filling-row _ _ _ _ _ _ _ _ _ _ _ _ _ _ (omega (arith, c .before .before .before .before .before .if2 .left)) gone (row .ensures .0) long
+          (row .ensures .1 spread (advanced .last .1 .1 .0) (gone .few) (sym (take-length (advanced .last .1 .1 .0))) (gone .ready))),
+    )
+
+returns-3 : tie.Need-returns-3 Inv-loop μ-loop
+returns-3 c =
+    let args = c .before .before .before .before .before .before .before .before .before .before .before .before .before .before .before .args in
+    let at = c .before .loop in (
+      omega (arith, at .inv .2, at .inv .3, c .before .before .before .before .fill-row .kept .1 .1 .1 .1 .0),
+      ((λ wide few some. omega (arith, moved-less _ _ _ _ _ _ (at .inv .5) few (omega (arith, wide, c .before .before .before .before .fill-row .kept .1 .1 .1 .1 .0)) (c .loop-test .left), c .before .before .before .before .before .before .before .before .before .moved .ensures)),
+      (λ spread few ready.
+          filling-gives _ _ _ _ _ _ _ (args .from) _ _ _ _ _ refl (chains-same _ _ _ _ _ _ _ ready few (c .before .before .before .before .before .before .before .before .before .moved .ensures))
+          (at .inv .6 spread (args .columns .now) (started (c .before .before .before .before) spread ready)))),
     )
 
 pub fill-portion-spec : {M : Type 1} → statement M
@@ -127,29 +135,21 @@ fill-portion-spec =
     Inv-loop
     μ-loop
     (λ c κs. search needs)
-    (λ c κs. search needs)
-    (λ c κs. search needs)
+    returns
+    (λ c. omega (arith, c .before .before .moved .ensures))
+    slice-aggregate-fill-row
+    fill-row-requires
     loop-holds
-    (λ c. search needs)
     (λ c κs. search needs)
     (λ c. search needs)
-    slice-aggregate-list-fitting
-    (λ c. search needs)
-    slice-aggregate-list-fitting-2
-    (λ c κs. search needs)
-    (λ c κs. search needs)
-    mul-put-later
-    sub-put-later
-    part-put-later-start
-    part-put-later-end
-    (λ c κs. search needs)
     same-length
     same-length-2
-    returns
-    (λ c κs. search needs)
+    returns-2
     (λ c. search needs)
+    slice-aggregate-fill-row-2
+    fill-row-requires-2
     (λ c. search needs)
     loop-again
-    same-length-3
-    same-length-4
-    returns-2)
+    (λ c. search needs)
+    (λ c. search needs)
+    returns-3)
