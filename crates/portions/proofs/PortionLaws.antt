@@ -214,11 +214,11 @@ module _ (k : Circuit) (s : ℕ) (u : Response) (ps l₀ : List ℕ) (t₀ c₀ 
       long = length-front l part place long ∙ f .long;
       listed =
           f .listed ∙ ap (λ (x : List ℕ). x ++ drop place l) (left-split t c (r .chains) (drop (r .place) part) h split)
-              ∙ append-assoc (columnsLeft k s u t (r .chains)) (drop (r .place) part) (drop place l)
-              ∙ ap (λ (x : List ℕ). columnsLeft k s u t (r .chains) ++ x) (sym (drop-append-le (r .place) part (drop place l) (omega (arith, part-long, early))));
+          ∙ append-assoc (columnsLeft k s u t (r .chains)) (drop (r .place) part) (drop place l)
+          ∙ ap (λ (x : List ℕ). columnsLeft k s u t (r .chains) ++ x) (sym (drop-append-le (r .place) part (drop place l) (omega (arith, part-long, early))));
       kept =
           take-append-le (r .place) part (drop place l) (omega (arith, part-long, early)) ∙ fit .kept ∙ take-take (r .place) place l early
-              ∙ sym (take-take (r .place) place l early) ∙ ap (take (r .place)) (f .kept) ∙ take-take (r .place) place l₀ early;
+          ∙ sym (take-take (r .place) place l early) ∙ ap (take (r .place)) (f .kept) ∙ take-take (r .place) place l₀ early;
     }
 
   -- the row is done

@@ -59,7 +59,7 @@ module _ (k : Circuit) (s : ℕ) (u : Response) (m : ℕ) (ps : List ℕ) where
     columns = drop (r .place) l′ ++ so-far .columns;
     split =
         so-far .split ∙ ap (λ (x : List ℕ). x ++ so-far .columns) (p .listed)
-            ∙ append-assoc (columnsLeft k s u (r .t) (r .chains)) (drop (r .place) l′) (so-far .columns);
+        ∙ append-assoc (columnsLeft k s u (r .t) (r .chains)) (drop (r .place) l′) (so-far .columns);
     words = e ∙ ap (steps (drop (r .place) l′)) (so-far .words) ∙ sym (portion-before m (drop (r .place) l′) (so-far .columns));
   }
 

@@ -69,12 +69,14 @@ returns c =
     let filled = c .before .before .before .before .before .before .before .before .before .before .before .before .before .before .before .before .fill-portion in
     let added = c .before .before .before .add-columns in (
       omega (arith, fewer-words _ (at .held) _ (added .ensures .0), ap length (at .inv .2)),
-      ((λ some. ⊎-elim (λ a. omega (arith, less (c .before .before .before .before .before .before .before .before .before .before .before .before .before .before .before .before), a .0, a .1)) (λ a. omega (arith, less (c .before .before .before .before .before .before .before .before .before .before .before .before .before .before .before .before), a)) (at .inv .3)),
-      (λ spread m before.
-          let so-far = at .inv .4 spread m before in
-          reduced-portion _ _ _ _ _ _ _ _ _ _ _ _ _ so-far (filled .ensures .1 .1 spread (so-far .few) (so-far .ready))
-          (front-words (filled .last .1 .1 .1 .1 .0) (at .held) _ _ _ (added .ensures .0) (added .ensures .1)
-          ∙ ap (steps (drop (c .before .before .before .before .before .before .before .before .skip-by-table .result) (filled .last .1 .1 .1 .1 .0))) (at .inv .2) ∙ passed (c .before .before .before .before .before .before .before .before)))),
+      (
+        (λ some. ⊎-elim (λ a. omega (arith, less (c .before .before .before .before .before .before .before .before .before .before .before .before .before .before .before .before), a .0, a .1)) (λ a. omega (arith, less (c .before .before .before .before .before .before .before .before .before .before .before .before .before .before .before .before), a)) (at .inv .3)),
+        (λ spread m before.
+            let so-far = at .inv .4 spread m before in
+            reduced-portion _ _ _ _ _ _ _ _ _ _ _ _ _ so-far (filled .ensures .1 .1 spread (so-far .few) (so-far .ready))
+            (front-words (filled .last .1 .1 .1 .1 .0) (at .held) _ _ _ (added .ensures .0) (added .ensures .1)
+            ∙ ap (steps (drop (c .before .before .before .before .before .before .before .before .skip-by-table .result) (filled .last .1 .1 .1 .1 .0))) (at .inv .2) ∙ passed (c .before .before .before .before .before .before .before .before))),
+      ),
     )
 
 loop-less : tie.Need-loop-less Inv-loop μ-loop
@@ -108,10 +110,12 @@ returns-2 : tie.Need-returns-2 Inv-loop μ-loop
 returns-2 c =
     let at = c .before .loop in (
       omega arith,
-      ((λ some. ⊎-elim (λ a. let no : ⊥ = omega (arith, a .0) in absurd no) (λ a. a) (at .inv .3)),
-      (λ spread m before.
-          let so-far = at .inv .4 spread m before in
-          reduced-alike _ _ _ _ _ _ _ _ _ _ _ refl (ap (take (length (c .before .before .before .before .before .before .before .before .before .args .held .now))) (at .inv .2) ∙ take-length (c .before .before .before .before .before .before .before .before .before .args .held .now)) so-far)),
+      (
+        (λ some. ⊎-elim (λ a. let no : ⊥ = omega (arith, a .0) in absurd no) (λ a. a) (at .inv .3)),
+        (λ spread m before.
+            let so-far = at .inv .4 spread m before in
+            reduced-alike _ _ _ _ _ _ _ _ _ _ _ refl (ap (take (length (c .before .before .before .before .before .before .before .before .before .args .held .now))) (at .inv .2) ∙ take-length (c .before .before .before .before .before .before .before .before .before .args .held .now)) so-far),
+      ),
     )
 
 pub add-by-table-spec : {M : Type 1} → statement M

@@ -28,10 +28,12 @@ returns c =
     let added = c .before .before .before .before .add-columns in
     let passed = skipped-steps (args .held .now) (filled .last .1 .1 .1 .1 .0) _ _ (c .before .before .before .before .before .before .before .before .skip-plainly .ensures) .1 in (
       fewer-words _ (args .held .now) _ (added .ensures .0),
-      ((λ some. filled .ensures .1 .0 (c .before .before .before .before .before .before .before .before .before .before .before .before .before .before .before .before .before .before .before .before .before .before .before .pre .0) (c .before .before .before .before .before .before .before .before .before .before .before .before .before .before .before .before .before .before .before .before .before .before .before .pre .1) some),
-      (λ spread m so-far.
-          reduced-portion _ _ _ _ _ _ _ _ _ _ _ _ _ so-far (filled .ensures .1 .1 spread (so-far .few) (so-far .ready))
-          (front-words (filled .last .1 .1 .1 .1 .0) (args .held .now) _ _ _ (added .ensures .0) (added .ensures .1) ∙ passed))),
+      (
+        (λ some. filled .ensures .1 .0 (c .before .before .before .before .before .before .before .before .before .before .before .before .before .before .before .before .before .before .before .before .before .before .before .pre .0) (c .before .before .before .before .before .before .before .before .before .before .before .before .before .before .before .before .before .before .before .before .before .before .before .pre .1) some),
+        (λ spread m so-far.
+            reduced-portion _ _ _ _ _ _ _ _ _ _ _ _ _ so-far (filled .ensures .1 .1 spread (so-far .few) (so-far .ready))
+            (front-words (filled .last .1 .1 .1 .1 .0) (args .held .now) _ _ _ (added .ensures .0) (added .ensures .1) ∙ passed)),
+      ),
     )
 
 pub add-portion-spec : {M : Type 1} → statement M

@@ -46,10 +46,12 @@ returns-2 c =
     let taken = c .before .before .before .before .before .before .before .before .before .before .before .before .before .before .before .before .before .before .before .before .before .args .taken in
     let all = c .before .before .before .before .before .before .before .before .before .before .before .before .before .before .all-words .ensures in
     let few = c .before .before .before .before .before .before .before .before .before .before .before .before .before .before .before .before .chain-limit .ensures in
-    let reduced = c .before .before .before .before .before .reduce-all2 in
-    (reduced .ensures .0, (λ start. reduced .ensures .1 (take (taken .n) (taken .spread)) (min (taken .register .m) 64) (starts-sparse _ _ _ _ _ _ _ (omega arith) (limited-few (taken .n) _ _ all) (omega arith) (limited-words _ _ _ _ few all) start (search needs)
-    (λ i l. c .before .before .before .before .before .before .before .before .before .before .powers2 .ensures i l ∙ later-same _ _ (taken .register .inversion) (take (taken .n) (taken .spread)) i 1)
-    (sym (c .before .before .before .before .before .before .before .before .before .before .before .before .has-bad-word .ensures) ∙ or-false-right (ltb 512 (c .before .before .before .before .before .before .before .before .before .before .before .before .before .count-marks .result)) (c .before .before .before .before .before .before .before .before .before .before .before .before .has-bad-word .result) (c .before .before .before .before .before .before .before .before .before .before .before .if1 .left)))))
+    let reduced = c .before .before .before .before .before .reduce-all2 in (
+      reduced .ensures .0,
+      (λ start. reduced .ensures .1 (take (taken .n) (taken .spread)) (min (taken .register .m) 64) (starts-sparse _ _ _ _ _ _ _ (omega arith) (limited-few (taken .n) _ _ all) (omega arith) (limited-words _ _ _ _ few all) start (search needs)
+          (λ i l. c .before .before .before .before .before .before .before .before .before .before .powers2 .ensures i l ∙ later-same _ _ (taken .register .inversion) (take (taken .n) (taken .spread)) i 1)
+          (sym (c .before .before .before .before .before .before .before .before .before .before .before .before .has-bad-word .ensures) ∙ or-false-right (ltb 512 (c .before .before .before .before .before .before .before .before .before .before .before .before .before .count-marks .result)) (c .before .before .before .before .before .before .before .before .before .before .before .before .has-bad-word .result) (c .before .before .before .before .before .before .before .before .before .before .before .if1 .left)))),
+    )
 
 pub reduce-marked-spec : {M : Type 1} → statement M
 reduce-marked-spec =
