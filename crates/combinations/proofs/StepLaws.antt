@@ -142,6 +142,12 @@ step-span c (w ∷ ws) y =
     ∙ ap (λ (a : Bool). a && even c y) (sym (xor-of-cons w ws y)))
     (parity-cases w c)
 
+-- no word stays no word
+pub steps-none : (cs : List ℕ) → steps cs [] ≡ []
+unfolding steps step
+steps-none [] = refl
+steps-none (c ∷ cs) = steps-none cs
+
 pub steps-append : (cs ds ws : List ℕ) → steps (cs ++ ds) ws ≡ steps ds (steps cs ws)
 unfolding steps
 steps-append [] ds ws = refl

@@ -3,13 +3,13 @@ use mathlib.Core.Path.{_≡_, refl, sym, ap, ap₂, _∙_, subst}
 use mathlib.Core.Bool.{true, _&&_}
 use mathlib.Core.Logic.{_⊎_, ⊎-elim}
 use mathlib.Core.List.{List, [], _∷_, _++_}
-use Prim.Native.Nat.{ℕ, zero, suc, _+_, _*_, _/_, _%_, _^_, _<_, _≤_}
-use native.Mathlib.Nat.{div-self, mul-div-cancel-left, le-dest, lt-of-not-le, div-eq-of-lt-le, not-suc-le-zero, le-of-suc-le-suc, eq-or-lt-of-le, one-mul}
+use Prim.Native.Nat.{ℕ, zero, suc, _+_, _-_, _*_, _/_, _%_, _^_, _<_, _≤_}
+use native.Mathlib.Nat.{div-self, mul-div-cancel-left, le-dest, lt-of-not-le, div-eq-of-lt-le, not-suc-le-zero, le-of-suc-le-suc, eq-or-lt-of-le, one-mul, le-add-left, zero-add, suc-add, sub-add-cancel}
 use native.Mathlib.Numerals.{add-one}
 use native.Mathlib.Decide.{decLe}
 use native.Mathlib.Omega.{arith}
 use lib.ListN.{length, getD, take, set, length-append, List·getD-append}
-use lib.Seq.{getD-at, take-suc-set}
+use lib.Seq.{getD-at, take-suc-set, take-length, take-append-le}
 use lib.Pow.{pow-pos, pow-add, shl-exact}
 use lib.Bits.{bitXor, xor-shr}
 use Rattle.word.specs.Word.{digit}
@@ -114,3 +114,15 @@ one-bit i h = shl-exact {a = 1} 1 i 64 (omega arith) (omega arith) ∙ one-mul (
 pub next-taken : (l us : List ℕ) (i v u : ℕ) → i < length l → take i l ≡ us → v ≡ u → take (i + 1) (set l i v) ≡ us ++ u ∷ []
 next-taken l us i v u h e ev =
     ap (λ (n : ℕ). take n (set l i v)) (add-one i) ∙ take-suc-set l i v h ∙ ap₂ (λ (x : List ℕ) (y : ℕ). x ++ y ∷ []) e ev
+
+-- the first m of more single bits
+units-prefix : (m d : ℕ) → take m (units (d + m)) ≡ units m
+unfolding units
+units-prefix m zero = ap (λ (n : ℕ). take m (units n)) (zero-add m) ∙ ap (λ (n : ℕ). take n (units m)) (sym (length-units m)) ∙ take-length (units m)
+units-prefix m (suc d) =
+    ap (λ (n : ℕ). take m (units n)) (suc-add d m)
+    ∙ take-append-le m (units (d + m)) (2 ^ (d + m) ∷ []) (subst (λ (n : ℕ). m ≤ n) (sym (length-units (d + m))) (le-add-left m d))
+    ∙ units-prefix m d
+
+pub units-front : (m : ℕ) → m ≤ 64 → take m (units 64) ≡ units m
+units-front m h = ap (λ (n : ℕ). take m (units n)) (omega (arith, sub-add-cancel h)) ∙ units-prefix m (64 - m)

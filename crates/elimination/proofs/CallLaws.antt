@@ -20,8 +20,7 @@ use Rattle.elimination.specs.declared.Eliminated.{Eliminated}
 use Rattle.elimination.specs.declared.Eliminated.the-variants.{Done, Refused}
 use Rattle.combinations.proofs.Theorems.{kept-list, words-and-rank, only-empty-list}
 use Rattle.elimination.proofs.Theorems.{reply-2, reply-15, reply-17, reply-18, reply-done}
-use Rattle.combinations.proofs.Units.{length-units}
-use Rattle.elimination.proofs.LoopLaws.{units-front}
+use Rattle.combinations.proofs.Units.{length-units, units-front}
 
 -- what the call answers, e, and leaves in the list l, l′
 abbrev pub Ends : ℕ → List ℕ → List ℕ → Eliminated → List ℕ → Type 0

@@ -3,7 +3,7 @@ use mathlib.Core.Path.{_≡_, refl, sym, ap, ap₂, _∙_, subst}
 use mathlib.Core.Bool.{Bool, true, false, _||_}
 use mathlib.Core.List.{List, [], _∷_, _++_, append-nil}
 use Prim.Native.Nat.{ℕ, zero, suc, _+_, _-_, _*_, _%_, _^_, _<_, _≤_}
-use native.Mathlib.Nat.{le-refl, lt-of-lt-of-le, le-add-left, zero-add, suc-add, sub-add-cancel}
+use native.Mathlib.Nat.{le-refl, lt-of-lt-of-le}
 use native.Mathlib.Numerals.{add-one}
 use native.Mathlib.Omega.{arith}
 use borrow.Author.Tests.{lt-leb, leb-false, le-leb, leb-true}
@@ -20,8 +20,9 @@ use Rattle.word.proofs.SomeLaws.{any-of-below, any-of-none}
 use Rattle.word.proofs.WordLaws.{not-beyond}
 use Rattle.combinations.specs.Step.{step, steps, units}
 use Rattle.elimination.specs.Code.{orBelow}
+use Rattle.combinations.proofs.StepLaws.{steps-none}
 use Rattle.combinations.proofs.Portions.{steps-most}
-use Rattle.combinations.proofs.Units.{length-units, one-bit, next-taken}
+use Rattle.combinations.proofs.Units.{one-bit, next-taken}
 
 -- ---- the OR of the columns
 
@@ -80,17 +81,6 @@ units-end ws i long l h e =
     let all : i ≡ 64 = omega arith in
     sym (take-all i ws (omega arith)) ∙ e ∙ ap units all
 
-units-prefix : (m d : ℕ) → take m (units (d + m)) ≡ units m
-unfolding units
-units-prefix m zero = ap (λ (n : ℕ). take m (units n)) (zero-add m) ∙ ap (λ (n : ℕ). take n (units m)) (sym (length-units m)) ∙ take-length (units m)
-units-prefix m (suc d) =
-    ap (λ (n : ℕ). take m (units n)) (suc-add d m)
-    ∙ take-append-le m (units (d + m)) (2 ^ (d + m) ∷ []) (subst (λ (n : ℕ). m ≤ n) (sym (length-units (d + m))) (le-add-left m d))
-    ∙ units-prefix m d
-
-pub units-front : (m : ℕ) → m ≤ 64 → take m (units 64) ≡ units m
-units-front m h = ap (λ (n : ℕ). take m (units n)) (omega (arith, sub-add-cancel h)) ∙ units-prefix m (64 - m)
-
 -- ---- the columns one after the other
 
 pub record Reduced (cs l ws : List ℕ) (left i : ℕ) : Type 0 where
@@ -105,11 +95,6 @@ steps-cons : (cs : List ℕ) (i : ℕ) (ws : List ℕ) → i < length cs → ste
 unfolding steps
 steps-cons cs i ws h =
     ap (λ (x : List ℕ). steps x ws) (drop-cons cs i 0 h) ∙ ap (λ (n : ℕ). steps (drop n cs) (step (getD cs i 0) ws)) (sym (add-one i))
-
-pub steps-none : (cs : List ℕ) → steps cs [] ≡ []
-unfolding steps step
-steps-none [] = refl
-steps-none (c ∷ cs) = steps-none cs
 
 -- `part` is what the step left where the first `left` words were lent
 pub reduced-turn : (cs l ws part : List ℕ) (left next i : ℕ) → Reduced cs l ws left i → i < length cs

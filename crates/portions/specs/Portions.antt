@@ -7,13 +7,15 @@
 --   Way k j ps ws          the words ws are the circuit's spread words j clocks later, or there are the powers ps that make them so
 --   Ready k s t ps ws      .. for the columns of the slice before the t-th of s, where slices, chains and width are within their limits
 --   RowFits n l l′ r       a row of n chains stands at the end of the list l′, which was l, as far as there is room
+--   PortionFrom ..         what filling a portion does
 --   PortionOf ..           a portion stands at the end of the list l′, which was l, and r tells which columns are left
 use mathlib.Core.Path.{_≡_}
 use mathlib.Core.Bool.{false}
 use mathlib.Core.List.{List, [], _++_, map}
-use Prim.Native.Nat.{ℕ, zero, suc, _-_, _≤_, _<_, min}
+use Prim.Native.Nat.{ℕ, zero, suc, _+_, _-_, _*_, _≤_, _<_, min}
 use lib.ListN.{length, take, drop, getD}
 use Rattle.chains.specs.Driven.{badSpread}
+use Rattle.rows.specs.Lists.{cellsOf}
 use Rattle.register.specs.Circuit.{Circuit, circuit, chains}
 use Rattle.signatures.specs.Signature.{Response}
 use Rattle.signatures.specs.Later.{later}
@@ -59,3 +61,12 @@ pub record PortionOf (k : Circuit) (s : ℕ) (u : Response) (ps : List ℕ) (fro
   pub listed : columnsLeft k s u (from .t) (from .chains) ≡ columnsLeft k s u (r .t) (r .chains) ++ drop (r .place) l′
   pub kept : take (r .place) l′ ≡ take (r .place) l
   pub ready : Ready k s (r .t) ps ws′
+
+-- what filling a portion does, whatever it is handed: the words ws become ws′. With 64 places and at most 256 words fewer cells are left, and
+-- for all spread words that the words are ready for it is a portion
+pub record PortionFrom (src : Source) (list ps : List ℕ) (from : Portion) (ws ws′ l l′ : List ℕ) (r : Portion) : Type 0 where
+  pub place : r .place ≤ length l
+  pub less : 64 ≤ length l → length ws ≤ 256 → 0 < from .t → 257 * r .t + r .chains < 257 * from .t + from .chains
+  pub portion :
+      (spread : List ℕ) → from .chains ≤ length spread → Ready (wiring src spread) (slicesIn src) (from .t) ps ws
+      → PortionOf (wiring src spread) (slicesIn src) (cellsOf list (src .marks)) ps from ws′ l l′ r

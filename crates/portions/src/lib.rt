@@ -2,13 +2,13 @@
 // sees the register's powers and the marked words of a row; it knows no file. Every function is total.
 ghost use mathlib.Core.Path.{_≡_};
 ghost use mathlib.Core.List.{List, _++_, map};
-ghost use Prim.Native.Nat.{ℕ, _+_, _-_, _*_, _≤_, _<_, min};
+ghost use Prim.Native.Nat.{ℕ, _+_, _-_, _≤_, _<_, min};
 ghost use lib.ListN.{length, take, drop};
 ghost use Rattle.rows.specs.Lists.{cellsOf};
 ghost use Rattle.register.specs.Circuit.{advanced};
 ghost use Rattle.powers.specs.Powers.{fromPowers};
 ghost use Rattle.signatures.specs.Columns.{sliceColumns};
-ghost use Rattle.portions.specs.Portions.{wiring, slicesIn, Ready, RowFits, PortionOf};
+ghost use Rattle.portions.specs.Portions.{wiring, slicesIn, Ready, RowFits, PortionFrom};
 use marked_words::Fitted;
 use register::Register;
 use rows::Rows;
@@ -106,9 +106,7 @@ pub fn fill_portion(
     columns: &mut [u64],
     from: Portion,
 ) -> Portion
-    ensures place { λ r. ⌜ r .place ≤ length (now (columns .entry)) ⌝ }
-    ensures less { λ r. ⌜ (64 ≤ length (now (columns .entry)) → length (now (words .entry)) ≤ 256 → 0 < from .t → 257 * r .t + r .chains < 257 * from .t + from .chains) ⌝ }
-    ensures portion { λ r. ⌜ ((spread : List ℕ) → from .chains ≤ length spread → Ready (wiring source spread) (slicesIn source) (from .t) (now (powers .entry)) (now (words .entry)) → PortionOf (wiring source spread) (slicesIn source) (cellsOf (now (list .entry)) (source .marks)) (now (powers .entry)) from (now (words .exit)) (now (columns .entry)) (now (columns .exit)) r) ⌝ }
+    ensures { λ r. ⌜ PortionFrom source (now (list .entry)) (now (powers .entry)) from (now (words .entry)) (now (words .exit)) (now (columns .entry)) (now (columns .exit)) r ⌝ }
 {
     let register = source.register;
     let all = words.len();

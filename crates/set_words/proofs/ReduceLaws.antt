@@ -13,7 +13,7 @@ use Rattle.combinations.proofs.Theorems.{kept-list}
 use Rattle.combinations.proofs.Portions.{portion-before, steps-most}
 use Rattle.parity_table.specs.Table.{ParityTable, tableRun}
 use Rattle.parity_table.proofs.SkipLaws.{table-run-from, next-skipped}
-use Rattle.elimination.proofs.LoopLaws.{steps-none}
+use Rattle.combinations.proofs.StepLaws.{steps-none}
 use Rattle.numbers.proofs.PartLaws.{take-limit}
 use Rattle.chains.specs.Driven.{badSpread}
 use Rattle.register.specs.Circuit.{Circuit, chains}

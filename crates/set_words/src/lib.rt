@@ -61,41 +61,6 @@ fn is_table_worth(at: Progress, words: usize) -> bool
     at.calm & (256 <= at.more / 64 * words)
 }
 
-// The next portion: its columns through the elimination.
-fn add_portion(
-    source: Source,
-    list: &[u8],
-    powers: &[u64],
-    words: &mut [u64],
-    working: &mut [u64],
-    held: &mut [u64],
-    at: Progress,
-) -> Progress
-    requires { ⌜ (64 ≤ length (now working)) × (length (now words) ≤ 256) ⌝ }
-    ensures left { λ r. ⌜ r .left ≤ length (now (held .entry)) ⌝ }
-    ensures less { λ r. ⌜ (0 < at .t → 257 * r .t + r .chains < 257 * at .t + at .chains) ⌝ }
-    ensures words { λ r. ⌜ ((spread : List ℕ) (m : ℕ) → Reduced (wiring source spread) (slicesIn source) (cellsOf (now (list .entry)) (source .marks)) m (now (powers .entry)) (at .t) (at .chains) (now (words .entry)) (now (held .entry)) → Reduced (wiring source spread) (slicesIn source) (cellsOf (now (list .entry)) (source .marks)) m (now (powers .entry)) (r .t) (r .chains) (now (words .exit)) (take (r .left) (now (held .exit)))) ⌝ }
-{
-    let before = held.len();
-    let from = Portion {
-        t: at.t,
-        chains: at.chains,
-        place: 0,
-    };
-    let portion = portions::fill_portion(source, list, powers, words, working, from);
-    let place = portion.place;
-    let count = working.len() - place;
-    let odd = parity_table::skip_plainly(held, working, place);
-    let left = elimination::add_columns(held, &working[odd..]);
-    Progress {
-        t: portion.t,
-        chains: portion.chains,
-        left,
-        more: fewer(at.more, count),
-        calm: fewer(before, left) < 2,
-    }
-}
-
 // The next portions, up to the first with a column that is odd with one of the words: that one's columns through the elimination. Until
 // then the words stay as they are, and with them a table of their parities.
 fn add_by_table(
@@ -150,7 +115,7 @@ fn add_by_table(
     }
 }
 
-// The next portion or portions, by a table where it is worth it.
+// The next portion, its columns through the elimination; or the next portions, by a table, where that is worth it.
 fn add_next(
     source: Source,
     list: &[u8],
@@ -168,7 +133,24 @@ fn add_next(
     if is_table_worth(at, held.len()) {
         return add_by_table(source, list, powers, words, working, held, at);
     }
-    add_portion(source, list, powers, words, working, held, at)
+    let before = held.len();
+    let from = Portion {
+        t: at.t,
+        chains: at.chains,
+        place: 0,
+    };
+    let portion = portions::fill_portion(source, list, powers, words, working, from);
+    let place = portion.place;
+    let count = working.len() - place;
+    let odd = parity_table::skip_plainly(held, working, place);
+    let left = elimination::add_columns(held, &working[odd..]);
+    Progress {
+        t: portion.t,
+        chains: portion.chains,
+        left,
+        more: fewer(at.more, count),
+        calm: fewer(before, left) < 2,
+    }
 }
 
 // All portions, from the words of single bits on. Answers with how many words are left, which stand at the front of `held`. It stops

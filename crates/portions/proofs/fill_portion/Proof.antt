@@ -57,15 +57,13 @@ loop-holds c =
 
 returns : tie.Need-returns Inv-loop μ-loop
 returns c =
-    let args = c .before .before .before .before .before .before .before .before .args in (
-      omega arith,
-      (
-        (λ wide few some. let no : ⊥ = omega (arith, c .if1 .taken) in absurd no),
-        (λ spread few ready.
-            filling-gives _ _ _ _ _ _ _ (args .from) _ _ _ _ _ refl (chains-same _ _ _ _ _ _ _ ready few (c .before .before .moved .ensures))
-            (filling-none _ _ _ _ _ _ _ _ (c .if1 .taken) ready (omega (arith, c .before .before .moved .ensures, way-length _ _ _ _ (ready .way))))),
-      ),
-    )
+    let args = c .before .before .before .before .before .before .before .before .args in record {
+      place = omega arith;
+      less = (λ wide few some. let no : ⊥ = omega (arith, c .if1 .taken) in absurd no);
+      portion = (λ spread few ready.
+          filling-gives _ _ _ _ _ _ _ (args .from) _ _ _ _ _ refl (chains-same _ _ _ _ _ _ _ ready few (c .before .before .moved .ensures))
+          (filling-none _ _ _ _ _ _ _ _ (c .if1 .taken) ready (omega (arith, c .before .before .moved .ensures, way-length _ _ _ _ (ready .way)))));
+    }
 
 slice-aggregate-fill-row : tie.Need-slice-aggregate-fill-row Inv-loop μ-loop
 slice-aggregate-fill-row c = sym (limited (c .before .before .before))
@@ -83,15 +81,13 @@ returns-2 : tie.Need-returns-2 Inv-loop μ-loop
 returns-2 c =
     let args = c .before .before .before .before .before .before .before .before .before .before .before .before .before .before .before .before .before .before .before .before .args in
     let at = c .before .before .before .before .before .before .loop in
-    let advanced = c .before .before .before .advance-swept in (
-      omega (arith, at .inv .2, at .inv .3, c .before .before .before .before .before .before .before .before .before .fill-row .kept .1 .1 .1 .1 .0),
-      (
-        (λ wide few some. omega (arith, moved-down _ _ _ _ _ _ (at .inv .5) (at .inv .0) few, c .before .before .before .before .before .before .before .before .before .before .before .before .before .before .moved .ensures)),
-        (λ spread few ready.
-            filling-gives _ _ _ _ _ _ _ (args .from) _ _ _ _ _ refl (chains-same _ _ _ _ _ _ _ ready few (c .before .before .before .before .before .before .before .before .before .before .before .before .before .before .moved .ensures))
-            (filling-goes _ _ _ _ _ _ _ _ _ _ _ _ _ _ (at .inv .0) (at .inv .6 spread (args .columns .now) (started (c .before .before .before .before .before .before .before .before .before) spread ready)) (c .before .before .before .before .before .loop-test .taken) (way-length _ _ _ _ (ready .way)) (advanced .ensures .0) (advanced .ensures .1))),
-      ),
-    )
+    let advanced = c .before .before .before .advance-swept in record {
+      place = omega (arith, at .inv .2, at .inv .3, c .before .before .before .before .before .before .before .before .before .fill-row .kept .1 .1 .1 .1 .0);
+      less = (λ wide few some. omega (arith, moved-down _ _ _ _ _ _ (at .inv .5) (at .inv .0) few, c .before .before .before .before .before .before .before .before .before .before .before .before .before .before .moved .ensures));
+      portion = (λ spread few ready.
+          filling-gives _ _ _ _ _ _ _ (args .from) _ _ _ _ _ refl (chains-same _ _ _ _ _ _ _ ready few (c .before .before .before .before .before .before .before .before .before .before .before .before .before .before .moved .ensures))
+          (filling-goes _ _ _ _ _ _ _ _ _ _ _ _ _ _ (at .inv .0) (at .inv .6 spread (args .columns .now) (started (c .before .before .before .before .before .before .before .before .before) spread ready)) (c .before .before .before .before .before .loop-test .taken) (way-length _ _ _ _ (ready .way)) (advanced .ensures .0) (advanced .ensures .1)));
+    }
 
 slice-aggregate-fill-row-2 : tie.Need-slice-aggregate-fill-row-2 Inv-loop μ-loop
 slice-aggregate-fill-row-2 c = sym (length-take-le _ _ (search needs))
@@ -124,15 +120,13 @@ loop-again c =
 returns-3 : tie.Need-returns-3 Inv-loop μ-loop
 returns-3 c =
     let args = c .before .before .before .before .before .before .before .before .before .before .before .before .before .before .before .args in
-    let at = c .before .loop in (
-      omega (arith, at .inv .2, at .inv .3, c .before .before .before .before .fill-row .kept .1 .1 .1 .1 .0),
-      (
-        (λ wide few some. omega (arith, moved-less _ _ _ _ _ _ (at .inv .5) few (omega (arith, wide, c .before .before .before .before .fill-row .kept .1 .1 .1 .1 .0)) (c .loop-test .left), c .before .before .before .before .before .before .before .before .before .moved .ensures)),
-        (λ spread few ready.
-            filling-gives _ _ _ _ _ _ _ (args .from) _ _ _ _ _ refl (chains-same _ _ _ _ _ _ _ ready few (c .before .before .before .before .before .before .before .before .before .moved .ensures))
-            (at .inv .6 spread (args .columns .now) (started (c .before .before .before .before) spread ready))),
-      ),
-    )
+    let at = c .before .loop in record {
+      place = omega (arith, at .inv .2, at .inv .3, c .before .before .before .before .fill-row .kept .1 .1 .1 .1 .0);
+      less = (λ wide few some. omega (arith, moved-less _ _ _ _ _ _ (at .inv .5) few (omega (arith, wide, c .before .before .before .before .fill-row .kept .1 .1 .1 .1 .0)) (c .loop-test .left), c .before .before .before .before .before .before .before .before .before .moved .ensures));
+      portion = (λ spread few ready.
+          filling-gives _ _ _ _ _ _ _ (args .from) _ _ _ _ _ refl (chains-same _ _ _ _ _ _ _ ready few (c .before .before .before .before .before .before .before .before .before .moved .ensures))
+          (at .inv .6 spread (args .columns .now) (started (c .before .before .before .before) spread ready)));
+    }
 
 pub fill-portion-spec : {M : Type 1} → statement M
 fill-portion-spec =

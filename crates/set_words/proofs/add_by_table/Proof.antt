@@ -33,14 +33,14 @@ loop-holds c = (refl, refl, refl, inl (refl, refl), (λ spread m so-far. so-far)
 
 -- the portion stands in the list
 inside : (c : tie.After-fill-portion Inv-loop μ-loop) → c .fill-portion .result .place ≤ length (c .fill-portion .last .1 .1 .1 .1 .0)
-inside c = omega (arith, c .fill-portion .ensures .0, c .fill-portion .kept .1 .1 .1 .1 .0)
+inside c = omega (arith, c .fill-portion .ensures .place, c .fill-portion .kept .1 .1 .1 .1 .0)
 
 -- fewer cells are left
 less : (c : tie.After-fill-portion Inv-loop μ-loop)
     → 257 * c .fill-portion .result .t + c .fill-portion .result .chains < 257 * c .before .before .before .before .loop .t + c .before .before .before .before .loop .chains
 less c =
     let at = c .before .before .before .before .loop in
-    c .fill-portion .ensures .1 .0 (omega (arith, c .before .before .before .before .before .before .before .before .before .before .before .before .pre .0, at .inv .0)) (omega (arith, c .before .before .before .before .before .before .before .before .before .before .before .before .pre .1, at .inv .1)) (c .before .before .before .loop-test .taken)
+    c .fill-portion .ensures .less (omega (arith, c .before .before .before .before .before .before .before .before .before .before .before .before .pre .0, at .inv .0)) (omega (arith, c .before .before .before .before .before .before .before .before .before .before .before .before .pre .1, at .inv .1)) (c .before .before .before .loop-test .taken)
 
 -- the columns before the first odd one change nothing
 passed : (c : tie.After-skip-by-table Inv-loop μ-loop)
@@ -73,7 +73,7 @@ returns c =
         (λ some. ⊎-elim (λ a. omega (arith, less (c .before .before .before .before .before .before .before .before .before .before .before .before .before .before .before .before), a .0, a .1)) (λ a. omega (arith, less (c .before .before .before .before .before .before .before .before .before .before .before .before .before .before .before .before), a)) (at .inv .3)),
         (λ spread m before.
             let so-far = at .inv .4 spread m before in
-            reduced-portion _ _ _ _ _ _ _ _ _ _ _ _ _ so-far (filled .ensures .1 .1 spread (so-far .few) (so-far .ready))
+            reduced-portion _ _ _ _ _ _ _ _ _ _ _ _ _ so-far (filled .ensures .portion spread (so-far .few) (so-far .ready))
             (front-words (filled .last .1 .1 .1 .1 .0) (at .held) _ _ _ (added .ensures .0) (added .ensures .1)
             ∙ ap (steps (drop (c .before .before .before .before .before .before .before .before .skip-by-table .result) (filled .last .1 .1 .1 .1 .0))) (at .inv .2) ∙ passed (c .before .before .before .before .before .before .before .before))),
       ),
@@ -93,7 +93,7 @@ loop-again c =
       (λ spread m before.
           let so-far = at .inv .4 spread m before in
           let args = c .before .before .before .before .before .before .before .before .before .before .before .before .before .before .before .before .before .before .before .before .before .args in
-          reduced-portion _ _ _ _ _ _ _ _ _ _ _ _ _ so-far (filled .ensures .1 .1 spread (so-far .few) (so-far .ready))
+          reduced-portion _ _ _ _ _ _ _ _ _ _ _ _ _ so-far (filled .ensures .portion spread (so-far .few) (so-far .ready))
           (all-passed (args .held .now) (c .before .before .before .before .before .before .before .before .before .before .before .before .before .before .byte-table .result) (filled .last .1 .1 .1 .1 .0) _ _ (c .before .before .before .before .before .before .before .before .before .before .before .before .before .before .before .before .before .before .before .before .before .pre .2) (c .before .before .before .before .before .before .before .before .before .before .before .before .before .before .byte-table .ensures) (λ i. c .before .before .before .before .before .slice-known5 .given i .fits) (c .before .skip-by-table .ensures) (c .if1 .left))),
     )
 

@@ -9,8 +9,7 @@ use Rattle.word.specs.Reply.{front}
 use Rattle.word.specs.Zeros.{zeros}
 use Rattle.word.proofs.FrontLaws.{front-length, length-zeros}
 use Rattle.combinations.specs.Step.{units}
-use Rattle.combinations.proofs.Units.{length-units}
-use Rattle.elimination.proofs.LoopLaws.{units-front}
+use Rattle.combinations.proofs.Units.{length-units, units-front}
 use Rattle.set_words.specs.Working.{takenWords}
 use Rattle.set_words.proofs.KeptLaws.{ends-14, ends-17, ends-18, ends-words, cleared-places}
 use borrow.Author.Needs.{needs}

@@ -1,7 +1,7 @@
 -- `reduce_marked` meets its contract, by the powers of the register or without them.
 use mathlib.Core.Path.{_≡_, refl, sym, ap, _∙_}
 use native.Mathlib.Omega.{arith}
-use Prim.Native.Nat.{min}
+use Prim.Native.Nat.{_≤_}
 use lib.Dec.{ltb}
 use lib.ListN.{length, take, length-take}
 use lib.Seq.{length-take-le}
@@ -12,6 +12,13 @@ use Rattle.set_words.proofs.ReduceLaws.{starts-swept, starts-sparse, li
 use borrow.Author.Needs.{needs}
 use Rattle.set_words.proofs.reduce_marked.Statement.{statement}
 use Rattle.set_words.proofs.reduce_marked.Tie as tie
+
+-- the words of the set's chains
+own-words : (c : tie.After-all-words) → take (c .before .before .chain-limit .result) (c .all-words .result) ≡ take (c .before .before .before .before .before .before .before .args .taken .n) (c .before .before .before .before .before .before .before .args .taken .spread)
+own-words c = limited-words _ _ _ _ (c .before .before .chain-limit .ensures) (c .all-words .ensures)
+
+few-words : (c : tie.After-all-words) → length (take (c .before .before .before .before .before .before .before .args .taken .n) (c .before .before .before .before .before .before .before .args .taken .spread)) ≤ 256
+few-words c = limited-few (c .before .before .before .before .before .before .before .args .taken .n) _ _ (c .all-words .ensures)
 
 slice-aggregate-reduce-all : tie.Need-slice-aggregate-reduce-all
 slice-aggregate-reduce-all c = refl
@@ -25,11 +32,8 @@ reduce-all-requires c κs = (c .before .before .before .before .before .before .
 returns : tie.Need-returns
 unfolding takenWords
 returns c =
-    let taken = c .before .before .before .before .before .before .before .before .before .before .before .before .before .before .before .before .before .before .before .before .before .args .taken in
-    let all = c .before .before .before .before .before .before .before .before .before .before .before .before .before .before .all-words .ensures in
-    let few = c .before .before .before .before .before .before .before .before .before .before .before .before .before .before .before .before .chain-limit .ensures in
     let reduced = c .before .before .before .before .before .reduce-all in
-    (reduced .ensures .0, (λ start. reduced .ensures .1 (take (taken .n) (taken .spread)) (min (taken .register .m) 64) (starts-swept _ _ _ _ _ _ _ (omega arith) (limited-few (taken .n) _ _ all) (omega arith) (limited-words _ _ _ _ few all) start refl)))
+    (reduced .ensures .0, (λ start. reduced .ensures .1 _ _ (starts-swept _ _ _ _ _ _ _ (omega arith) (few-words (c .before .before .before .before .before .before .before .before .before .before .before .before .before .before)) (omega arith) (own-words (c .before .before .before .before .before .before .before .before .before .before .before .before .before .before)) start refl)))
 
 slice-aggregate-reduce-all-3 : tie.Need-slice-aggregate-reduce-all-3
 slice-aggregate-reduce-all-3 c = search needs
@@ -44,11 +48,11 @@ returns-2 : tie.Need-returns-2
 unfolding takenWords
 returns-2 c =
     let taken = c .before .before .before .before .before .before .before .before .before .before .before .before .before .before .before .before .before .before .before .before .before .args .taken in
-    let all = c .before .before .before .before .before .before .before .before .before .before .before .before .before .before .all-words .ensures in
-    let few = c .before .before .before .before .before .before .before .before .before .before .before .before .before .before .before .before .chain-limit .ensures in
     let reduced = c .before .before .before .before .before .reduce-all2 in (
       reduced .ensures .0,
-      (λ start. reduced .ensures .1 (take (taken .n) (taken .spread)) (min (taken .register .m) 64) (starts-sparse _ _ _ _ _ _ _ (omega arith) (limited-few (taken .n) _ _ all) (omega arith) (limited-words _ _ _ _ few all) start (search needs)
+      (λ start.
+          reduced .ensures .1 _ _
+          (starts-sparse _ _ _ _ _ _ _ (omega arith) (few-words (c .before .before .before .before .before .before .before .before .before .before .before .before .before .before)) (omega arith) (own-words (c .before .before .before .before .before .before .before .before .before .before .before .before .before .before)) start (search needs)
           (λ i l. c .before .before .before .before .before .before .before .before .before .before .powers2 .ensures i l ∙ later-same _ _ (taken .register .inversion) (take (taken .n) (taken .spread)) i 1)
           (sym (c .before .before .before .before .before .before .before .before .before .before .before .before .has-bad-word .ensures) ∙ or-false-right (ltb 512 (c .before .before .before .before .before .before .before .before .before .before .before .before .before .count-marks .result)) (c .before .before .before .before .before .before .before .before .before .before .before .before .has-bad-word .result) (c .before .before .before .before .before .before .before .before .before .before .before .if1 .left)))),
     )
