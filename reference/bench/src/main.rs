@@ -20,7 +20,7 @@ use row::{Row, Side};
 use std::hint::black_box;
 
 /// The calls whose instructions are counted, each with one input.
-const COUNTED: [(&str, fn() -> Row); 17] = [
+const COUNTED: [(&str, fn() -> Row); 22] = [
     ("read_set", rows::reader),
     ("value_row", || rows::stretch(false)),
     ("write_set", rows::set_writer),
@@ -33,6 +33,11 @@ const COUNTED: [(&str, fn() -> Row); 17] = [
     ("expect", rows::expecting),
     ("plan-63", || rows::planning(512, 63, 63, 1)),
     ("plan-4096", || rows::planning(512, 4_096, 63, 1)),
+    ("plan-500", || rows::planning(512, 500, 40, 1)),
+    ("plan-65536", || rows::planning(512, 65_536, 10, 1)),
+    ("plan-80000", || rows::planning(512, 80_000, 63, 1)),
+    ("plan-131072", || rows::planning(512, 131_072, 40, 1)),
+    ("plan-full", || rows::planning(512, 131_072, 64, 1)),
     ("eliminate-63", || rows::elimination(63, 63, 1)),
     ("eliminate-131072", || rows::elimination(131_072, 40, 1)),
     ("read_plan", rows::plan_reader),

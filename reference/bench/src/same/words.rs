@@ -81,6 +81,12 @@ fn is_table_worth(at: Progress, words: usize) -> bool {
     2 <= words && at.calm && 256 <= at.more / 64 * words
 }
 
+/// How many columns at the front are even with every word.
+fn skip_plainly(words: &[u64], columns: &[u64]) -> usize {
+    let even = |column: &u64| words.iter().all(|w| (w & column).count_ones() % 2 == 0);
+    columns.iter().take_while(|c| even(c)).count()
+}
+
 /// The next portion: its columns through the elimination. With a table of the words, first all portions that leave them as they are.
 fn add_next(
     source: Source,
@@ -97,7 +103,10 @@ fn add_next(
         (at.t, at.chains) = (portion.t, portion.chains);
         at.more = at.more.saturating_sub(columns.len());
         at.calm = true;
-        let even = table.as_ref().map_or(0, |t| skip_by_table(t, columns));
+        let even = match &table {
+            Some(table) => skip_by_table(table, columns),
+            None => skip_plainly(held, columns),
+        };
         if even < columns.len() || table.is_none() {
             at.left = reduce(held, &columns[even..]);
             at.calm = held.len() - at.left < 2;
