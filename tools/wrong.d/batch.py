@@ -976,6 +976,7 @@ class Batch:
                 columns[self.random.randrange(len(columns))] ^= 1 << self.random.randrange(64)
             start = self.pick([0, 0, 1, len(columns), self.pick(NUMBERS)])
             self.call("parity_table::skip_even", [start], v=words, u=columns)
+            self.call("parity_table::skip_plainly", [start], v=words, u=columns)
             table = self.pick([parity_table(words), self.junk_words(2048), [0] * 2048])
             self.call("parity_table::skip_by_table", [start], u=table, v=columns)
             if self.random.random() < 0.3:
