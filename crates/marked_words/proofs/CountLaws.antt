@@ -1,12 +1,16 @@
 -- The marked cells of rows counted by words of 64. Assumes nothing.
 use mathlib.Core.Path.{_≡_, refl, sym, ap, ap₂, _∙_}
+use mathlib.Core.Bool.{false, _||_}
 use mathlib.Core.List.{List}
 use Prim.Native.Nat.{ℕ, zero, suc, _+_, _*_, _/_, _%_, _^_, _≤_, _<_}
 use native.Mathlib.Nat.{div-one, pow-suc}
 use native.Mathlib.Numerals.{one-add, add-one}
 use native.Mathlib.Omega.{arith}
-use lib.Count.{ones, ones-step, ones-le}
+use lib.Count.{ones, onesIn, ones-step, ones-le}
+use lib.Dec.{ltb}
 use lib.ListN.{getD}
+use borrow.Author.Tests.{ltb-false}
+use Rattle.word.proofs.BoolLaws.{or-false-left, or-false-right}
 use lib.Pow.{shr-shr}
 use Rattle.word.specs.Word.{digit}
 use Rattle.numbers.specs.Bytes.{wordAt}
@@ -30,6 +34,10 @@ total-digits (suc k) b h =
     ∙ total-digits k (b / 2) (omega (arith, pow-suc 2 k)))
     ∙ sym (ones-step b)
 
+pub ones-none : ones 0 ≡ 0
+unfolding ones onesIn
+ones-none = refl
+
 pub ones-word-le : (w : ℕ) (l : List ℕ) (i : ℕ) → ((j : ℕ) → getD l j 0 < 256) → w ≡ wordAt l (8 * i) → ones w ≤ 64
 ones-word-le w l i bytes e = ones-le 64 w (rw e (number-at-lt 8 l (8 * i) bytes))
 
@@ -50,6 +58,21 @@ module _ (row : List ℕ) where
   pub count-turns : ((j : ℕ) → getD row j 0 < 256) → (i found w : ℕ) → found ≡ total (64 * i) (cell row) → w ≡ wordAt row (8 * i)
       → found + ones w ≡ total (64 * (i + 1)) (cell row)
   count-turns bytes i found w ef ew = ap₂ (λ (x y : ℕ). x + ones y) ef ew ∙ sym (count-turn bytes i)
+
+  -- all four words
+  module _ (bytes : (j : ℕ) → getD row j 0 < 256) (a b c d : ℕ) (ea : a ≡ wordAt row 0) (eb : b ≡ wordAt row 8) (ec : c ≡ wordAt row 16) (ed : d ≡ wordAt row 24) where
+    pub count-words : ones a + ones b + ones c + ones d ≡ total 256 (cell row)
+    count-words = omega (arith, count-turns bytes 3 _ d (count-turns bytes 2 _ c (count-turns bytes 1 _ b (count-turns bytes 0 0 a count-start ea) eb) ec) ed)
+
+    pub count-blank : (((ltb 0 a || ltb 0 b) || ltb 0 c) || ltb 0 d) ≡ false → 0 ≡ total 256 (cell row)
+    count-blank h =
+        let three = or-false-left ((ltb 0 a || ltb 0 b) || ltb 0 c) (ltb 0 d) h in
+        let two = or-false-left (ltb 0 a || ltb 0 b) (ltb 0 c) three in
+        let za : a ≡ 0 = omega (arith, ltb-false 0 a (or-false-left (ltb 0 a) (ltb 0 b) two)) in
+        let zb : b ≡ 0 = omega (arith, ltb-false 0 b (or-false-right (ltb 0 a) (ltb 0 b) two)) in
+        let zc : c ≡ 0 = omega (arith, ltb-false 0 c (or-false-right (ltb 0 a || ltb 0 b) (ltb 0 c) three)) in
+        let zd : d ≡ 0 = omega (arith, ltb-false 0 d (or-false-right ((ltb 0 a || ltb 0 b) || ltb 0 c) (ltb 0 d) h)) in
+        omega (arith, count-words, ap ones za, ap ones zb, ap ones zc, ap ones zd, ones-none)
 
   pub count-le : (i : ℕ) → total (64 * i) (cell row) ≤ 64 * i
   count-le i = omega (arith, total-le (64 * i) 1 (cell row) (λ c. omega (arith, cell-lt row c)))

@@ -1,73 +1,74 @@
--- `count_row` meets its contract. The loop's invariant: `found` is the number of cells of the first `i` words that are 1.
-use mathlib.Core.Path.{_≡_, ap, _∙_}
-use Prim.Native.Nat.{ℕ, _+_, _-_, _*_, _≤_, _<_}
+-- `count_row` meets its contract.
+use mathlib.Core.Path.{_≡_}
+use Prim.Native.Nat.{ℕ, _<_}
 use native.Mathlib.Omega.{arith}
 use lib.ListN.{getD}
-use lib.Count.{ones}
-use Rattle.rows.specs.Row.{cell}
-use Rattle.rows.specs.Marks.{total}
-use Rattle.marked_words.proofs.CountLaws.{count-start, count-turns, count-le, ones-word-le}
+use Rattle.marked_words.proofs.CountLaws.{count-words, count-blank}
 use borrow.Author.Needs.{needs}
 use Rattle.marked_words.proofs.count_row.Statement.{statement}
 use Rattle.marked_words.proofs.count_row.Tie as tie
 
-abbrev Inv-loop : tie.InvT-loop
-Inv-loop row found₀ i₀ found i = (i ≤ 4) × (found ≡ total (64 * i) (cell row))
-
-abbrev μ-loop : tie.MeasureT-loop
-μ-loop row found₀ i₀ found i = 4 - i
-
-loop-holds : tie.Need-loop-holds Inv-loop μ-loop
-loop-holds c = (search needs, count-start (c .before .args .row .now))
-
-mul-read-word : tie.Need-mul-read-word Inv-loop μ-loop
-mul-read-word c = search needs
-
-read-word-requires : tie.Need-read-word-requires Inv-loop μ-loop
+read-word-requires : tie.Need-read-word-requires
 read-word-requires c κs = search needs
 
-bytes : (c : tie.After-read-word Inv-loop μ-loop) (j : ℕ) → getD (c .before .before .before .before .args .row .now) j 0 < 256
-bytes c j = c .before .before .before .shared-slice-known .given j .fits
+read-word-requires-2 : tie.Need-read-word-requires-2
+read-word-requires-2 c κs = search needs
 
-few : (c : tie.After-read-word Inv-loop μ-loop) → ones (c .read-word .result) ≤ 64
-few c = ones-word-le _ (c .before .before .before .before .args .row .now) (c .before .before .loop .i) (bytes c) (c .read-word .ensures)
+read-word-requires-3 : tie.Need-read-word-requires-3
+read-word-requires-3 c κs = search needs
 
-turn : (c : tie.After-read-word Inv-loop μ-loop)
-    → c .before .before .loop .found + ones (c .read-word .result) ≡ total (64 * (c .before .before .loop .i + 1)) (cell (c .before .before .before .before .args .row .now))
-turn c = count-turns (c .before .before .before .before .args .row .now) (bytes c) _ _ _ (c .before .before .loop .inv .1) (c .read-word .ensures)
+read-word-requires-4 : tie.Need-read-word-requires-4
+read-word-requires-4 c κs = search needs
 
-cast-found : tie.Need-cast-found Inv-loop μ-loop
-cast-found c = omega (arith, few c)
+ones-in-requires : tie.Need-ones-in-requires
+ones-in-requires c κs = search needs
 
-add-found : tie.Need-add-found Inv-loop μ-loop
-add-found c = omega (arith, few c, count-le (c .before .before .before .before .args .row .now) (c .before .before .loop .i))
+ones-in-requires-2 : tie.Need-ones-in-requires-2
+ones-in-requires-2 c κs = search needs
 
-add-i : tie.Need-add-i Inv-loop μ-loop
-add-i c = search needs
+add-result : tie.Need-add-result
+add-result c = search needs
 
-loop-less : tie.Need-loop-less Inv-loop μ-loop
-loop-less c = search needs
+ones-in-requires-3 : tie.Need-ones-in-requires-3
+ones-in-requires-3 c κs = search needs
 
-loop-again : tie.Need-loop-again Inv-loop μ-loop
-loop-again c = (search needs, turn c)
+add-result-2 : tie.Need-add-result-2
+add-result-2 c = search needs
 
-returns : tie.Need-returns Inv-loop μ-loop
+ones-in-requires-4 : tie.Need-ones-in-requires-4
+ones-in-requires-4 c κs = search needs
+
+add-result-3 : tie.Need-add-result-3
+add-result-3 c = search needs
+
+returns : tie.Need-returns
 returns c =
-    let end : 64 * c .before .loop .i ≡ 256 = omega arith in
-    c .before .loop .inv .1 ∙ ap (λ (x : ℕ). total x (cell (c .before .before .before .args .row .now))) end
+    omega (
+      arith,
+      count-words (c .before .before .before .before .before .before .before .before .before .before .args .row .now) (λ j. c .before .before .before .before .before .before .before .before .before .shared-slice-known .given j .fits) _ _ _ _
+          (c .before .before .before .before .before .before .before .before .read-word .ensures) (c .before .before .before .before .before .before .before .read-word2 .ensures) (c .before .before .before .before .before .before .read-word3 .ensures) (c .before .before .before .before .before .read-word4 .ensures),
+    )
+
+returns-2 : tie.Need-returns-2
+returns-2 c =
+    count-blank (c .before .before .before .before .before .before .args .row .now) (λ j. c .before .before .before .before .before .shared-slice-known .given j .fits) _ _ _ _
+    (c .before .before .before .before .read-word .ensures) (c .before .before .before .read-word2 .ensures) (c .before .before .read-word3 .ensures) (c .before .read-word4 .ensures)
+    (c .if1 .left)
 
 pub count-row-spec : {M : Type 1} → statement M
 count-row-spec =
     tie.close
     (tie.spec
-    Inv-loop
-    μ-loop
-    loop-holds
-    mul-read-word
     read-word-requires
-    cast-found
-    add-found
-    add-i
-    loop-less
-    loop-again
-    returns)
+    read-word-requires-2
+    read-word-requires-3
+    read-word-requires-4
+    ones-in-requires
+    ones-in-requires-2
+    add-result
+    ones-in-requires-3
+    add-result-2
+    ones-in-requires-4
+    add-result-3
+    returns
+    returns-2)

@@ -1,20 +1,17 @@
 -- `is_too_many` meets its contract.
-use mathlib.Core.Path.{_≡_, refl, sym, ap}
+use mathlib.Core.Path.{sym, ap}
 use Prim.Native.Nat.{_≤_}
 use native.Mathlib.Omega.{arith}
 use borrow.Author.Tests.{le-ltb}
-use lib.Count.{ones, onesIn, ones-le}
+use lib.Count.{ones, ones-le}
+use Rattle.marked_words.proofs.CountLaws.{ones-none}
 use borrow.Author.Needs.{needs}
 use Rattle.marked_words.proofs.is_too_many.Statement.{statement}
 use Rattle.marked_words.proofs.is_too_many.Tie as tie
 
-none-of-zero : ones 0 ≡ 0
-unfolding ones onesIn
-none-of-zero = refl
-
 returns : tie.Need-returns
 returns c =
-    let none : ones (c .before .args .marks) ≤ c .before .args .room = omega (arith, ap ones (c .if1 .taken), none-of-zero) in
+    let none : ones (c .before .args .marks) ≤ c .before .args .room = omega (arith, ap ones (c .if1 .taken), ones-none) in
     sym (le-ltb (c .before .args .room) (ones (c .before .args .marks)) none)
 
 cast-result : tie.Need-cast-result
