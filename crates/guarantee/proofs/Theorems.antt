@@ -28,7 +28,6 @@ use mathlib.Core.List.{List}
 use Prim.Native.Nat.{ℕ, _^_, _<_, _≤_}
 use native.Mathlib.Nat.{lt-trans}
 use native.Mathlib.Omega.{arith}
-use borrow.Author.Tests.{le-ltb}
 use lib.Bits.{bitXor}
 use lib.Dec.{ltb}
 use lib.ListN.{length}
@@ -38,7 +37,8 @@ use Rattle.word.specs.Reply.{answer, refusal, firstOf}
 use Rattle.word.proofs.Laws.{parities-lt, parities-digit}
 use Rattle.word.proofs.TestLaws.{first-of-none, replied-answer}
 use Rattle.combinations.specs.Combination.{xFree, rank}
-use Rattle.combinations.proofs.Theorems.{words-and-rank, x-free-listed, only-empty-explains, explains-only-empty}
+use Rattle.combinations.proofs.Theorems.{x-free-listed, only-empty-explains, explains-only-empty}
+use Rattle.elimination.proofs.Theorems.{never-sixteen}
 use Rattle.set_layout.specs.Layout.{widthOf, chainsOf, slicesOf, circuitOf}
 use Rattle.set_file.specs.Reading.{setTests}
 use Rattle.set_file.proofs.Laws.{Accepted, accepted}
@@ -234,9 +234,7 @@ seventeen-explained set k l h =
 
 -- 16 applies to no set that meets none of the set's numbers
 pub sixteen-never : (set : List ℕ) → firstOf (setTests set) ≡ 0 → ltb (widthOf set) (rank (columnsOf set)) ≡ false
-sixteen-never set h =
-    le-ltb (widthOf set) (rank (columnsOf set))
-    (omega (arith, words-and-rank (widthOf set) (columnsOf set) (columns-of-within set (accepted set h))))
+sixteen-never set h = never-sixteen (widthOf set) (columnsOf set) (columns-of-within set (accepted set h))
 
 -- where every signature of the register's width is explained, and no number before 17 applies, planning gives 17
 pub explained-seventeen : (set : List ℕ) (k l : ℕ) → firstOf (earlierTests set k) ≡ 0

@@ -14,7 +14,7 @@ use Rattle.word.proofs.ReplyLaws.{refused-reply, refusal-leaves, refused-leaves
 use Rattle.word.proofs.TestLaws.{replied-answer, replied-alike}
 use Rattle.combinations.specs.Combination.{rank, onlyEmpty}
 use Rattle.combinations.specs.Reduced.{reducedList}
-use Rattle.elimination.proofs.Theorems.{rank-most}
+use Rattle.elimination.proofs.Theorems.{never-sixteen}
 use Rattle.rows.specs.Row.{rowBytes}
 use Rattle.rows.specs.declared.Rows.{Rows}
 use Rattle.set_layout.specs.Layout.{widthOf, markAt}
@@ -101,7 +101,7 @@ module _ (set : List ℕ) (k : Taken) (taken : TakenFrom set k) (r : Rows)
       go false h =
           let no-test : firstOf (workingTest p ∷ []) ≡ 0 = rw h in
           let none : firstOf (workTests set p) ≡ 0 = past ∙ no-test in
-          let never : ltb (widthOf set) (rank (columnsOf set)) ≡ false = rank-most (widthOf set) (columnsOf set) (columns-of-within set whole) in
+          let never : ltb (widthOf set) (rank (columnsOf set)) ≡ false = never-sixteen (widthOf set) (columnsOf set) (columns-of-within set whole) in
           let here : firstOf (later set l) ≡ firstOf (rest set l) = rw never in
           let there : firstOf (keptTests k set r p l) ≡ cond (onlyEmpty (takenWidth k) (takenColumns k set r)) 17 (cond (ltb l (length (takenWords k set r))) 18 0) = rw h in
           plan-later set p l none ∙ here
