@@ -122,7 +122,7 @@ pub extern "C" fn canceller_eliminate(m: u64, columns: &[u64], words: &mut [u64]
     crossing::eliminated_of(elimination::eliminate(m, columns, words))
 }
 
-// The words of a set, without expected bits. Meets the set's numbers, 14 and 16 to 18; the lists as planning leaves them.
+// The words of a set, without expected bits. Meets the set's numbers, 14, 17 and 18; the lists as planning leaves them.
 #[no_mangle]
 pub extern "C" fn canceller_plan_words(
     set: &[u8],
@@ -144,7 +144,7 @@ pub extern "C" fn canceller_expect(set: &[u8], words: &[u64]) -> CExpected
     crossing::expected_of(expectation::expect(set, words))
 }
 
-// Planning. Meets the set's numbers, 14 and 16 to 18; the words over the front of their list; past 14 the first 64 places of the working
+// Planning. Meets the set's numbers, 14, 17 and 18; the words over the front of their list; past 14 the first 64 places of the working
 // list hold 0.
 #[no_mangle]
 pub extern "C" fn canceller_plan(set: &[u8], working: &mut [u64], words: &mut [u64]) -> CPlanned

@@ -1,3 +1,4 @@
 pub mod Theorems
+pub mod Sixteen
 pub mod LoopLaws
 pub mod CallLaws

@@ -1,12 +1,11 @@
 -- What the elimination promises of its reply, for a width m, columns cs and a lent list of k places. Crates above cite these, with
 -- what combinations/proofs/Theorems.antt says of the rank and the reduced list, and open no definition.
 --
---   reply-2, reply-15, reply-17, reply-18   when each number is given (16 never is)
+--   reply-2, reply-15, reply-17, reply-18   when each number is given
 --   reply-done                              the answer: the rank and q
---   later-numbers                           past 15 the numbers are 16, 17 and 18
+--   later-numbers                           past 15 the numbers are 17 and 18
 --   rank-most                               no more than m columns without a bit at or above m are independent of earlier ones
 --   independent-most                        .. so of such columns, any that are independent of each other are m at most
---   never-sixteen                           .. and 16, which document 01 gives for more than m independent columns, never applies
 -- Assumes nothing.
 use mathlib.Core.Path.{_≡_, refl, ap, _∙_}
 use mathlib.Core.Bool.{Bool, true, false}
@@ -14,7 +13,7 @@ use mathlib.Core.Logic.{⊎-elim}
 use mathlib.Core.List.{List, [], _∷_}
 use Prim.Native.Nat.{ℕ, _≤_}
 use native.Mathlib.Omega.{arith}
-use borrow.Author.Tests.{eqb-true, eq-eqb, le-ltb}
+use borrow.Author.Tests.{eqb-true, eq-eqb}
 use lib.Dec.{eqb, ltb}
 use lib.ListN.{length}
 use Rattle.word.specs.Word.{beyond, badWidth}
@@ -50,10 +49,6 @@ pub independent-most : (m : ℕ) (cs ds : List ℕ) → anyOf (beyond m) cs ≡ 
     → rank ds ≡ length ds → length ds ≤ m
 independent-most m cs ds b among all = omega (arith, all, rank-most m ds (none-among (beyond m) cs ds b among))
 
--- the test for 16 never applied
-pub never-sixteen : (m : ℕ) (cs : List ℕ) → anyOf (beyond m) cs ≡ false → ltb m (rank cs) ≡ false
-never-sixteen m cs b = le-ltb m (rank cs) (rank-most m cs b)
-
 module _ (m : ℕ) (cs : List ℕ) (k : ℕ) where
   pub reply-2 : badWidth m ≡ true → eliminationReply m cs k ≡ refusal 2
   unfolding eliminationReply eliminationTests
@@ -65,7 +60,7 @@ module _ (m : ℕ) (cs : List ℕ) (k : ℕ) where
 
   pub later-numbers : badWidth m ≡ false → anyOf (beyond m) cs ≡ false
       → eliminationReply m cs k
-      ≡ reply (16 when ltb m (rank cs) ∷ 17 when onlyEmpty m cs ∷ 18 when ltb k (length (reducedList m cs)) ∷ [])
+      ≡ reply (17 when onlyEmpty m cs ∷ 18 when ltb k (length (reducedList m cs)) ∷ [])
       (record { rank = rank cs; q = length (reducedList m cs) })
   unfolding eliminationReply eliminationTests
   later-numbers a b = rw (a, b)
@@ -73,13 +68,13 @@ module _ (m : ℕ) (cs : List ℕ) (k : ℕ) where
   module _ (width : badWidth m ≡ false) (columns : anyOf (beyond m) cs ≡ false) where
     pub reply-17 : onlyEmpty m cs ≡ true → eliminationReply m cs k ≡ refusal 17
     unfolding eliminationReply eliminationTests
-    reply-17 e = rw (width, columns, never-sixteen m cs columns, e)
+    reply-17 e = rw (width, columns, e)
 
     pub reply-18 : onlyEmpty m cs ≡ false → ltb k (length (reducedList m cs)) ≡ true → eliminationReply m cs k ≡ refusal 18
     unfolding eliminationReply eliminationTests
-    reply-18 e s = rw (width, columns, never-sixteen m cs columns, e, s)
+    reply-18 e s = rw (width, columns, e, s)
 
     pub reply-done : onlyEmpty m cs ≡ false → ltb k (length (reducedList m cs)) ≡ false
         → eliminationReply m cs k ≡ answer (record { rank = rank cs; q = length (reducedList m cs) })
     unfolding eliminationReply eliminationTests
-    reply-done e s = rw (width, columns, never-sixteen m cs columns, e, s)
+    reply-done e s = rw (width, columns, e, s)

@@ -1,4 +1,6 @@
--- The elimination call. Document 01: "The elimination meets 2 and 15 to 18 and answers with the rank and q."
+-- The elimination call. Document 01: "The elimination meets 2 and 15 to 18 and answers with the rank and q." Document 02, No. 4:
+-- "Show that 16 cannot come up, then take it out; the number isn't given to anything else." Shown in proofs/Theorems (rank-most) and
+-- proofs/Sixteen; so it meets 2, 15, 17 and 18.
 --
 --   Counts               what it answers: the rank and q
 --   eliminationTests     the numbers that the call meets, in order, for width m, columns cs and a lent list of k places
@@ -24,7 +26,6 @@ unfoldable pub eliminationTests : ℕ → List ℕ → ℕ → List Test
 eliminationTests m cs k =
     2 when badWidth m
     ∷ 15 when anyOf (beyond m) cs
-    ∷ 16 when ltb m (rank cs)
     ∷ 17 when onlyEmpty m cs
     ∷ 18 when ltb k (length (reducedList m cs))
     ∷ []

@@ -134,7 +134,7 @@ fn refused(number: u64) -> Eliminated
 }
 
 // The elimination of document 01. Answers with the rank and q, and writes the q words of the reduced list over the front of
-// `words`; the rest of it stays. Meets 2, 15, 16, 17 and 18, in that order; a refusal writes nothing.
+// `words`; the rest of it stays. Meets 2, 15, 17 and 18, in that order; a refusal writes nothing.
 pub fn eliminate(m: u64, columns: &[u64], words: &mut [u64]) -> Eliminated
     ensures answer { λ r. ⌜ said r ≡ eliminationReply m (now (columns .entry)) (length (now (words .entry))) ⌝ }
     ensures list { λ _. ⌜ now (words .exit) ≡ lent (eliminationReply m (now (columns .entry)) (length (now (words .entry)))) (reducedList m (now (columns .entry))) (now (words .entry)) ⌝ }
@@ -149,9 +149,6 @@ pub fn eliminate(m: u64, columns: &[u64], words: &mut [u64]) -> Eliminated
     let mut held = unit_words();
     let q = reduce(&mut held[..width], columns);
     let rank = width - q;
-    if width < rank {
-        return refused(16);
-    }
     if q == 0 {
         return refused(17);
     }

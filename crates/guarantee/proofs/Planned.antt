@@ -10,35 +10,30 @@ use lib.Dec.{ltb}
 use lib.ListN.{length}
 use Rattle.word.specs.Reply.{answer, refusal, replied, firstOf}
 use Rattle.word.proofs.Laws.{parities-lt}
-use Rattle.word.proofs.TestLaws.{numbered, first-of-later, replied-answer, replied-number, without, first-of-without}
-use Rattle.combinations.specs.Combination.{rank, onlyEmpty}
+use Rattle.word.proofs.TestLaws.{replied-answer, replied-number, without, first-of-without}
+use Rattle.combinations.specs.Combination.{onlyEmpty}
 use Rattle.set_layout.specs.Layout.{widthOf}
 use Rattle.set_file.specs.Reading.{setTests}
 use Rattle.set_file.proofs.Laws.{Accepted, accepted, accepted-width}
 use Rattle.signatures.specs.Sets.{columnsOf, zeroSignature}
-use Rattle.planner.specs.Planning.{wordsOf, expectedOf, workTests, earlierTests, planTests, PlanParts, partsOf, planReply}
+use Rattle.planner.specs.Planning.{wordsOf, expectedOf, earlierTests, planTests, PlanParts, partsOf, planReply}
 use Rattle.planner.proofs.NumberLaws as numbers
-use Rattle.planner.proofs.NumberLaws.{plan-sooner, plan-later, work-set}
+use Rattle.planner.proofs.NumberLaws.{plan-sooner, plan-later, earlier-set}
 use Rattle.planner.proofs.CallLaws.{planned-parts}
 use Rattle.plan_writer.specs.Writing.{planContent, planBytes}
 use Rattle.plan_writer.proofs.Parts.{Content}
 use Rattle.guarantee.specs.Demand.{planFile}
 
-seventeen-among : (a b c : Bool) → _≡_ {A = ℕ} (cond a 16 (cond b 17 (cond c 18 0))) 17 → b ≡ true
-seventeen-among true b c h = let z : ⊥ = omega arith in absurd z
-seventeen-among false true c h = refl
-seventeen-among false false true h = let z : ⊥ = omega arith in absurd z
-seventeen-among false false false h = let z : ⊥ = omega arith in absurd z
+seventeen-among : (a b : Bool) → _≡_ {A = ℕ} (cond a 17 (cond b 18 0)) 17 → a ≡ true
+seventeen-among true b h = refl
+seventeen-among false true h = let z : ⊥ = omega arith in absurd z
+seventeen-among false false h = let z : ⊥ = omega arith in absurd z
 
--- ---- planning's tests: the set's and 14, then 16, 17 and 18
+-- ---- planning's tests: the set's and 14, then 17 and 18
 
-work-without-seventeen : (set : List ℕ) (k : ℕ) → without 17 (workTests set k) ≡ true
-unfolding workTests setTests
-work-without-seventeen set k = refl
-
-earlier-numbered : (set : List ℕ) (k : ℕ) → numbered (earlierTests set k) ≡ true
-unfolding earlierTests workTests setTests
-earlier-numbered set k = refl
+earlier-without-seventeen : (set : List ℕ) (k : ℕ) → without 17 (earlierTests set k) ≡ true
+unfolding earlierTests setTests
+earlier-without-seventeen set k = refl
 
 module _ (set : List ℕ) (k l : ℕ) where
   -- 17 means that the set is accepted and no X-free combination but the empty one exists
@@ -46,20 +41,20 @@ module _ (set : List ℕ) (k l : ℕ) where
   unfolding planReply
   seventeen-only-empty h =
       let number : firstOf (planTests set k l) ≡ 17 = replied-number (firstOf (planTests set k l)) (partsOf set) 17 h in
-      let none : firstOf (workTests set k) ≡ 0 =
-      dite (ℕ-discrete (firstOf (workTests set k)) 0) (λ (z : firstOf (workTests set k) ≡ 0). z)
-      (λ (d : firstOf (workTests set k) ≡ 0 → ⊥).
-      let z : 17 ≡ 0 = first-of-without 17 (workTests set k) (work-without-seventeen set k) (sym (plan-sooner set k l d) ∙ number) in
+      let none : firstOf (earlierTests set k) ≡ 0 =
+      dite (ℕ-discrete (firstOf (earlierTests set k)) 0) (λ (z : firstOf (earlierTests set k) ≡ 0). z)
+      (λ (d : firstOf (earlierTests set k) ≡ 0 → ⊥).
+      let z : 17 ≡ 0 = first-of-without 17 (earlierTests set k) (earlier-without-seventeen set k) (sym (plan-sooner set k l d) ∙ number) in
       let no : ⊥ = omega arith in
       absurd no)
       in
-      (accepted set (work-set set k none), seventeen-among (ltb (widthOf set) (rank (columnsOf set))) _ (ltb l (length (wordsOf set))) (sym (plan-later set k l none) ∙ number))
+      (accepted set (earlier-set set k none), seventeen-among _ (ltb l (length (wordsOf set))) (sym (plan-later set k l none) ∙ number))
 
   -- .. and where that is so and no earlier number applies, 17 it is
   pub only-empty-seventeen : firstOf (earlierTests set k) ≡ 0 → onlyEmpty (widthOf set) (columnsOf set) ≡ true → planReply set k l ≡ refusal 17
-  unfolding planReply planTests
+  unfolding planReply
   only-empty-seventeen h e =
-      let number : firstOf (planTests set k l) ≡ 17 = first-of-later (earlierTests set k) _ (earlier-numbered set k) h ∙ (rw e) in
+      let number : firstOf (planTests set k l) ≡ 17 = plan-later set k l h ∙ (rw e) in
       ap (λ (n : ℕ). replied n (partsOf set)) number
 
 -- ---- planning's answer

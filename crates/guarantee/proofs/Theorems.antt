@@ -14,7 +14,6 @@
 --      all-x-free              a combination is X-free exactly when it is an XOR of listed words, or of none
 --      seventeen-explained     where planning gives 17, every signature of the register's width is explained
 --      explained-seventeen     .. and where every one is and no number before 17 applies (earlierTests), it gives 17
---      sixteen-never           16, one of those numbers, never applies
 -- The plan itself:
 --      planned-parts           planning answers with the set's m, q and expected bits
 --      plan-written            the plan writer takes them where there is room
@@ -29,16 +28,14 @@ use Prim.Native.Nat.{ℕ, _^_, _<_, _≤_}
 use native.Mathlib.Nat.{lt-trans}
 use native.Mathlib.Omega.{arith}
 use lib.Bits.{bitXor}
-use lib.Dec.{ltb}
 use lib.ListN.{length}
 use Rattle.word.specs.Parities.{parities}
 use Rattle.word.specs.Span.{isXorOf}
 use Rattle.word.specs.Reply.{answer, refusal, firstOf}
 use Rattle.word.proofs.Laws.{parities-lt, parities-digit}
 use Rattle.word.proofs.TestLaws.{first-of-none, replied-answer}
-use Rattle.combinations.specs.Combination.{xFree, rank}
+use Rattle.combinations.specs.Combination.{xFree}
 use Rattle.combinations.proofs.Theorems.{x-free-listed, only-empty-explains, explains-only-empty}
-use Rattle.elimination.proofs.Theorems.{never-sixteen}
 use Rattle.set_layout.specs.Layout.{widthOf, chainsOf, slicesOf, circuitOf}
 use Rattle.set_file.specs.Reading.{setTests}
 use Rattle.set_file.proofs.Laws.{Accepted, accepted}
@@ -47,7 +44,7 @@ use Rattle.signatures.specs.Sets.{Explained, columnsOf, zeroSignature, recordCe
 use Rattle.signing.specs.Signing.{signTests, signReply}
 use Rattle.signatures.proofs.SetLaws.{columns-of-within, signature-within}
 use Rattle.planner.specs.Planning.{wordsOf, expectedOf, earlierTests, PlanParts, partsOf, planReply}
-use Rattle.planner.proofs.NumberLaws.{earlier-work, work-set}
+use Rattle.planner.proofs.NumberLaws.{earlier-set}
 use Rattle.planner.proofs.CallLaws as planning
 use Rattle.plan_file.specs.Layout.{planLength, fileWords}
 use Rattle.plan_file.specs.Reading.{planFileReply}
@@ -232,14 +229,10 @@ seventeen-explained set k l h =
     explaining.xor-all set (why .0)
     (only-empty-explains (widthOf set) (columnsOf set) (columns-of-within set (why .0)) (why .1))
 
--- 16 applies to no set that meets none of the set's numbers
-pub sixteen-never : (set : List ℕ) → firstOf (setTests set) ≡ 0 → ltb (widthOf set) (rank (columnsOf set)) ≡ false
-sixteen-never set h = never-sixteen (widthOf set) (columnsOf set) (columns-of-within set (accepted set h))
-
 -- where every signature of the register's width is explained, and no number before 17 applies, planning gives 17
 pub explained-seventeen : (set : List ℕ) (k l : ℕ) → firstOf (earlierTests set k) ≡ 0
     → ((y : ℕ) → y < 2 ^ widthOf set → Explained set y) → planReply set k l ≡ refusal 17
 explained-seventeen set k l h f =
-    let taken : Accepted set = accepted set (work-set set k (earlier-work set k h)) in
+    let taken : Accepted set = accepted set (earlier-set set k h) in
     planned.only-empty-seventeen set k l h
     (explains-only-empty (widthOf set) (columnsOf set) (columns-of-within set taken) (explaining.all-xor set taken f))

@@ -36,7 +36,7 @@ use Rattle.signatures.specs.Columns.{sliceColumns, columnsBelow}
 use Rattle.signatures.specs.Sets.{columnsOf, unknownsOf, zeroSignature}
 use Rattle.columns.specs.Listing.{listTests, listReply}
 use Rattle.expectation.specs.Expecting.{wordTests, expectTests, expectReply}
-use Rattle.planner.specs.Planning.{wordsOf, expectedOf, wordsReply, PlanParts, partsOf, workTests, earlierTests, planTests, planReply}
+use Rattle.planner.specs.Planning.{wordsOf, expectedOf, wordsReply, PlanParts, partsOf, earlierTests, planTests, planReply}
 use Rattle.reduced_list.specs.WordCount.{badWordCount}
 use Rattle.plan_file.specs.Checking.{badPlanWidth, badPlanCount, badPlanEnd, planFileTests}
 use Rattle.plan_writer.specs.Writing.{planBytes}
@@ -117,5 +117,5 @@ worked =
     ∷ []
 
 pub worked-agrees : agrees worked ≡ true
-unfolding worked sample eliminationReply eliminationTests clockReply clockTests listReply listTests setTests expectReply expectTests wordTests wordsReply planReply planTests earlierTests workTests judgeReply judgeTests planFileTests planFile planBytes badWidth badTaps badChains badSpread badSlices badPlanWidth badPlanCount badPlanEnd badWordCount spareSet beyond anyBelow anyOf allOf front number numberAt wordsAt bytesOf wordBytes joined parities parity ones onesIn highestBit leadingZeros rank rankAfter grown xFree onlyEmpty reducedList wordsBelow independent made xorRows isReduced ascending topsClear advanced driven clocked valueRow markRow runs column sliceColumns columnsBelow columnsOf unknownsOf total zeroSignature wordsOf expectedOf verdictFrom
+unfolding worked sample eliminationReply eliminationTests clockReply clockTests listReply listTests setTests expectReply expectTests wordTests wordsReply planReply planTests earlierTests judgeReply judgeTests planFileTests planFile planBytes badWidth badTaps badChains badSpread badSlices badPlanWidth badPlanCount badPlanEnd badWordCount spareSet beyond anyBelow anyOf allOf front number numberAt wordsAt bytesOf wordBytes joined parities parity ones onesIn highestBit leadingZeros rank rankAfter grown xFree onlyEmpty reducedList wordsBelow independent made xorRows isReduced ascending topsClear advanced driven clocked valueRow markRow runs column sliceColumns columnsBelow columnsOf unknownsOf total zeroSignature wordsOf expectedOf verdictFrom
 worked-agrees = refl

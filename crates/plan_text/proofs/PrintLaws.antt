@@ -6,15 +6,12 @@ use Prim.Native.Nat.{ℕ, zero, suc, _+_, _≤_}
 use native.Mathlib.Omega.{arith}
 use lib.ListN.{length, take, length-append}
 use Rattle.word.specs.Reply.{Reply, answer, refusal, replied, firstOf, numberOf, front, lent}
-use Rattle.word.proofs.TestLaws.{first-of-none}
 use Rattle.set_layout.specs.Layout.{widthOf, chainsOf, slicesOf}
-use Rattle.set_file.specs.Reading.{setTests}
-use Rattle.set_file.proofs.Laws.{accepted}
 use Rattle.signatures.specs.Sets.{unknownsOf}
-use Rattle.planner.specs.Planning.{PlanParts, wordsOf, workTests, workingLeft, earlierTests, planTests, partsOf, planReply, said}
+use Rattle.planner.specs.Planning.{PlanParts, wordsOf, workingLeft, planTests, partsOf, planReply, said}
 use Rattle.planner.specs.declared.Planned.{Planned}
 use Rattle.planner.specs.declared.Planned.the-variants.{Plan, Refused}
-use Rattle.planner.proofs.NumberLaws.{words-few}
+use Rattle.planner.proofs.NumberLaws.{words-few, planned-accepted}
 use Rattle.planner.proofs.CallLaws.{Ends, planned-parts, words-front}
 use Rattle.text.specs.Text.{Put}
 use Rattle.text.proofs.PutLaws.{put-then, put-front}
@@ -31,10 +28,8 @@ plan-lines-fit m n s u i ws e q hi h =
 
 -- the text of a reply whose first number is n; 0 stands for none
 number-fits : (set : List ℕ) (k l n : ℕ) → firstOf (planTests set k l) ≡ n → length (textOf (replied n (partsOf set)) set) ≤ 4096
-unfolding planTests earlierTests workTests
 number-fits set k l zero e =
-    let past : firstOf (workTests set k) ≡ 0 = first-of-none (workTests set k) _ (first-of-none (earlierTests set k) _ e) in
-    let few : length (wordsOf set) ≤ 64 = words-few set (accepted set (first-of-none (setTests set) _ past)) in
+    let few : length (wordsOf set) ≤ 64 = words-few set (planned-accepted set k l e) in
     plan-lines-fit _ _ _ _ _ (wordsOf set) _ _ (omega (arith, few)) few
 number-fits set k l (suc n) e = omega (arith, length-refused-line (suc n))
 

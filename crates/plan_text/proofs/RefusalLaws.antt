@@ -1,7 +1,7 @@
 -- What the text of a refusal says.
 --
 --   refused-text     the text is the line of the refusal n, a number of at most 20 digits, exactly when planning's reply is that refusal
---   early-printed    a number that planning meets up to 14, the set's or 14, is printed
+--   early-printed    a number that planning meets before 17, the set's or 14, is printed
 --   never-fourteen   the plan printer, which lends more places than 64, never prints 14
 -- Assumes nothing.
 use mathlib.Core.Path.{_≡_, refl, sym, ap, _∙_}
@@ -14,13 +14,13 @@ use Rattle.word.specs.Reply.{Reply, refusal, replied, firstOf}
 use Rattle.word.proofs.ReplyLaws.{replied-refusal}
 use Rattle.word.proofs.TestLaws.{first-sooner, first-of-most, without, never}
 use Rattle.set_file.specs.Reading.{setTests}
-use Rattle.planner.specs.Planning.{PlanParts, workTests, earlierTests, planTests, partsOf, planReply}
+use Rattle.planner.specs.Planning.{PlanParts, earlierTests, planTests, partsOf, planReply}
 use Rattle.plan_lines.specs.Lines.{refusedLine}
 use Rattle.plan_lines.proofs.LineLaws.{refused-line-same, set-line-no-refusal}
 use Rattle.plan_text.specs.PlanText.{textOf, planText, printedText}
 
 few-numbers : (set : List ℕ) (k l : ℕ) → firstOf (planTests set k l) ≤ 25
-unfolding planTests earlierTests workTests setTests
+unfolding planTests earlierTests setTests
 few-numbers set k l = first-of-most 25 (planTests set k l) refl
 
 -- the text of a reply whose first number is j; 0 stands for none
@@ -36,15 +36,15 @@ refused-text set k l n h = (
   (λ e. ap (λ (r : Reply PlanParts). textOf r set) e),
 )
 
-pub early-printed : (set : List ℕ) (k l n : ℕ) → n ≡ firstOf (workTests set k) → (n ≡ 0 → ⊥) → planText set k l ≡ refusedLine n
-unfolding planText planReply planTests earlierTests
+pub early-printed : (set : List ℕ) (k l n : ℕ) → n ≡ firstOf (earlierTests set k) → (n ≡ 0 → ⊥) → planText set k l ≡ refusedLine n
+unfolding planText planReply planTests
 early-printed set k l n e h =
-    let first : n ≡ firstOf (planTests set k l) = first-sooner (earlierTests set k) _ n (first-sooner (workTests set k) _ n e h) h in
+    let first : n ≡ firstOf (planTests set k l) = first-sooner (earlierTests set k) _ n e h in
     ap (λ (r : Reply PlanParts). textOf r set)
     (ap (λ (x : ℕ). replied x (partsOf set)) (sym first) ∙ replied-refusal n (partsOf set) h)
 
 with-room : (set : List ℕ) (k l : ℕ) → 64 ≤ k → without 14 (planTests set k l) ≡ true
-unfolding planTests earlierTests workTests setTests
+unfolding planTests earlierTests setTests
 with-room set k l room = rw (le-ltb k 64 room)
 
 pub never-fourteen : (set : List ℕ) → printedText set ≡ refusedLine 14 → ⊥

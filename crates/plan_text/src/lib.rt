@@ -9,7 +9,7 @@ use planner::Planned;
 use set_file::SetAnswer;
 
 // The plan printer's text for a set. Answers with its length and writes it over the front of `out`, which always holds it; the
-// rest of `out` stays. A refusal is one line, with the number that planning meets: the set's numbers, then 14, 16, 17 and 18.
+// rest of `out` stays. A refusal is one line, with the number that planning meets: the set's numbers, then 14, 17 and 18.
 // The two lent lists are left as planning leaves them.
 pub fn print_plan(set: &[u8], working: &mut [u64], words: &mut [u64], out: &mut [u8; 4096]) -> usize
     ensures count { λ r. ⌜ r ≡ length (planText (now (set .entry)) (length (now (working .entry))) (length (now (words .entry)))) ⌝ }

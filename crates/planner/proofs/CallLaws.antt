@@ -8,13 +8,12 @@ use Prim.Native.Nat.{ℕ, zero, suc, _*_, _≤_}
 use native.Mathlib.Omega.{arith}
 use lib.Dec.{ltb}
 use lib.ListN.{length, take}
-use Rattle.word.specs.Reply.{Test, _when_, Reply, answer, refusal, replied, firstOf, numberOf, lent}
+use Rattle.word.specs.Reply.{Reply, answer, refusal, replied, firstOf, numberOf, lent}
 use Rattle.word.specs.Zeros.{zeros}
 use Rattle.word.proofs.ReplyLaws.{refused-reply, refusal-leaves, refused-leaves, answered-part}
 use Rattle.word.proofs.TestLaws.{replied-answer, replied-alike}
-use Rattle.combinations.specs.Combination.{rank, onlyEmpty}
+use Rattle.combinations.specs.Combination.{onlyEmpty}
 use Rattle.combinations.specs.Reduced.{reducedList}
-use Rattle.elimination.proofs.Theorems.{never-sixteen}
 use Rattle.rows.specs.Row.{rowBytes}
 use Rattle.rows.specs.declared.Rows.{Rows}
 use Rattle.set_layout.specs.Layout.{widthOf, markAt}
@@ -22,17 +21,16 @@ use Rattle.set_file.specs.Reading.{setTests, TakenFrom}
 use Rattle.set_file.specs.declared.Taken.{Taken}
 use Rattle.set_file.proofs.Laws.{Accepted, accepted, accepted-width}
 use Rattle.signatures.specs.Sets.{columnsOf}
-use Rattle.signatures.proofs.SetLaws.{columns-of-within}
 use Rattle.columns.proofs.CallLaws.{columns-are}
 use Rattle.set_words.specs.Working.{workingPlaces, workingTest, takenWidth, takenColumns, takenWords, keptTests, keptReply, said as keptSaid}
 use Rattle.set_words.specs.declared.Kept.{Kept}
 use Rattle.set_words.proofs.KeptLaws.{KeptEnd}
 use Rattle.expectation.specs.Expecting.{expectedFor}
-use Rattle.planner.specs.Planning.{wordsOf, workTests, workingLeft, expectedOf, planTests, WordParts, wordPartsOf, wordsReply, saidWorded, PlanParts, partsOf, planReply, said}
+use Rattle.planner.specs.Planning.{wordsOf, earlierTests, workingLeft, expectedOf, planTests, WordParts, wordPartsOf, wordsReply, saidWorded, PlanParts, partsOf, planReply, said}
 use Rattle.planner.specs.declared.Worded.{Worded}
 use Rattle.planner.specs.declared.Planned.{Planned}
 use Rattle.planner.specs.declared.Planned.the-variants.{Plan, Refused}
-use Rattle.planner.proofs.NumberLaws.{later, plan-sooner, plan-later, work-past-set, words-few, planned-none}
+use Rattle.planner.proofs.NumberLaws.{plan-sooner, plan-later, earlier-past-set, words-few, planned-none}
 
 -- what the call that gives the words answers, w, and leaves in the working list cs, cs′, and in the word list ws, ws′
 abbrev pub WordsEnd : List ℕ → List ℕ → List ℕ → Worded → List ℕ → List ℕ → Type 0
@@ -52,22 +50,18 @@ words-refused set cs ws cs′ k h e = let left = refusal-leaves _ _ k (wordsOf s
 
 -- ---- the words: the set is refused, or 14
 
-pub words-early : (set cs ws : List ℕ) (k : ℕ) → k ≡ firstOf (workTests set (length cs)) → (k ≡ 0 → ⊥) → WordsEnd set cs ws (Worded.Refused k) cs ws
+pub words-early : (set cs ws : List ℕ) (k : ℕ) → k ≡ firstOf (earlierTests set (length cs)) → (k ≡ 0 → ⊥) → WordsEnd set cs ws (Worded.Refused k) cs ws
 unfolding wordsReply
 words-early set cs ws k e some =
     let number : k ≡ firstOf (planTests set (length cs) (length ws)) = e ∙ sym (plan-sooner set (length cs) (length ws) (λ z. some (e ∙ z))) in
     words-refused set cs ws cs k (sym (refused-reply _ k (wordPartsOf set) number some))
-    (refused-leaves (firstOf (workTests set (length cs))) k workingPlaces (zeros workingPlaces) cs e some .1)
+    (refused-leaves (firstOf (earlierTests set (length cs))) k workingPlaces (zeros workingPlaces) cs e some .1)
 
 -- ---- the words: past the set's numbers, of the taken set k and the rows r of its marks
 
 lent-alike : {A : Type 0} {B : Type 0} (n : ℕ) (a : A) (b : B) (vs l : List ℕ) → lent (replied n a) vs l ≡ lent (replied n b) vs l
 lent-alike zero a b vs l = refl
 lent-alike (suc n) a b vs l = refl
-
--- the numbers past 16
-abbrev rest : List ℕ → ℕ → List Test
-rest set l = 17 when onlyEmpty (widthOf set) (columnsOf set) ∷ 18 when ltb l (length (wordsOf set)) ∷ []
 
 module _ (set : List ℕ) (k : Taken) (taken : TakenFrom set k) (r : Rows)
     (e : (r .at ≡ markAt (k .n) 0) × (r .stride ≡ 2 * rowBytes (k .n)) × (r .bytes ≡ rowBytes (k .n))) where
@@ -84,27 +78,25 @@ module _ (set : List ℕ) (k : Taken) (taken : TakenFrom set k) (r : Rows)
   unfolding takenWords wordsOf columnsOf
   own-words = ap₂ reducedList own-width own-columns
 
-  -- the call on the taken set meets the numbers that are left but 16, which never applies
+  -- the call on the taken set meets the numbers that are left
   same-first : (p l : ℕ) → firstOf (planTests set p l) ≡ firstOf (keptTests k set r p l)
   unfolding keptTests
   same-first p l = go (ltb p workingPlaces) refl
     where
-      past : firstOf (workTests set p) ≡ firstOf (workingTest p ∷ [])
-      past = work-past-set set p (taken .none)
+      past : firstOf (earlierTests set p) ≡ firstOf (workingTest p ∷ [])
+      past = earlier-past-set set p (taken .none)
 
       go : (b : Bool) → ltb p workingPlaces ≡ b → firstOf (planTests set p l) ≡ firstOf (keptTests k set r p l)
       go true h =
           let one : firstOf (workingTest p ∷ []) ≡ 14 = rw h in
-          let short : firstOf (workTests set p) ≡ 14 = past ∙ one in
+          let short : firstOf (earlierTests set p) ≡ 14 = past ∙ one in
           let there : firstOf (keptTests k set r p l) ≡ 14 = rw h in
           plan-sooner set p l (λ z. omega (arith, short, z)) ∙ short ∙ sym there
       go false h =
           let no-test : firstOf (workingTest p ∷ []) ≡ 0 = rw h in
-          let none : firstOf (workTests set p) ≡ 0 = past ∙ no-test in
-          let never : ltb (widthOf set) (rank (columnsOf set)) ≡ false = never-sixteen (widthOf set) (columnsOf set) (columns-of-within set whole) in
-          let here : firstOf (later set l) ≡ firstOf (rest set l) = rw never in
+          let none : firstOf (earlierTests set p) ≡ 0 = past ∙ no-test in
           let there : firstOf (keptTests k set r p l) ≡ cond (onlyEmpty (takenWidth k) (takenColumns k set r)) 17 (cond (ltb l (length (takenWords k set r))) 18 0) = rw h in
-          plan-later set p l none ∙ here
+          plan-later set p l none
           ∙ sym
           (there
           ∙ ap₂ (λ (x y : Bool). cond x 17 (cond y 18 0)) (ap₂ onlyEmpty own-width own-columns) (ap (λ (vs : List ℕ). ltb l (length vs)) own-words))
@@ -120,7 +112,7 @@ module _ (set : List ℕ) (k : Taken) (taken : TakenFrom set k) (r : Rows)
 
     working-left : cs′ ≡ workingLeft set cs
     working-left =
-        end .1 .0 ∙ ap (λ (n : ℕ). lent (replied n workingPlaces) (zeros workingPlaces) cs) (sym (work-past-set set (length cs) (taken .none)))
+        end .1 .0 ∙ ap (λ (n : ℕ). lent (replied n workingPlaces) (zeros workingPlaces) cs) (sym (earlier-past-set set (length cs) (taken .none)))
 
     words-left : ws′ ≡ lent (wordsReply set (length cs) (length ws)) (wordsOf set) ws
     unfolding wordsReply number
@@ -197,7 +189,7 @@ module _ (set cs ws cs′ ws′ : List ℕ) (w : Worded) (end : WordsEnd set cs 
     )
 
 -- the set is refused, or 14
-pub ends-early : (set cs ws : List ℕ) (k : ℕ) → k ≡ firstOf (workTests set (length cs)) → (k ≡ 0 → ⊥) → Ends set cs ws (Refused k) cs ws
+pub ends-early : (set cs ws : List ℕ) (k : ℕ) → k ≡ firstOf (earlierTests set (length cs)) → (k ≡ 0 → ⊥) → Ends set cs ws (Refused k) cs ws
 ends-early set cs ws k e some = ends-refused set cs ws cs ws (Worded.Refused k) (words-early set cs ws k e some) k k refl refl
 
 -- ---- what a caller knows of an answer

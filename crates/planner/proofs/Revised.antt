@@ -22,18 +22,18 @@ use Rattle.set_file.specs.Reading.{setTests}
 use Rattle.signatures.specs.Sets.{columnsOf, Revised}
 use Rattle.signatures.proofs.SetLaws.{revised-columns}
 use Rattle.set_words.specs.Working.{workingPlaces}
-use Rattle.planner.specs.Planning.{wordsOf, workTests, workingLeft, planTests, WordParts, wordPartsOf, wordsReply}
-use Rattle.planner.proofs.NumberLaws.{later, plan-sooner, plan-later, work-past-set}
+use Rattle.planner.specs.Planning.{wordsOf, earlierTests, workingLeft, planTests, WordParts, wordPartsOf, wordsReply}
+use Rattle.planner.proofs.NumberLaws.{later, plan-sooner, plan-later, earlier-past-set}
 
 -- the first number of two lists of tests, by that of each
 abbrev firstNumber : ℕ → ℕ → ℕ
 firstNumber zero n = n
 firstNumber (suc k) n = suc k
 
-plan-number : (set : List ℕ) (k l : ℕ) → firstOf (planTests set k l) ≡ firstNumber (firstOf (workTests set k)) (firstOf (later set l))
-plan-number set k l = go (firstOf (workTests set k)) refl
+plan-number : (set : List ℕ) (k l : ℕ) → firstOf (planTests set k l) ≡ firstNumber (firstOf (earlierTests set k)) (firstOf (later set l))
+plan-number set k l = go (firstOf (earlierTests set k)) refl
   where
-    go : (n : ℕ) → firstOf (workTests set k) ≡ n → firstOf (planTests set k l) ≡ firstNumber n (firstOf (later set l))
+    go : (n : ℕ) → firstOf (earlierTests set k) ≡ n → firstOf (planTests set k l) ≡ firstNumber n (firstOf (later set l))
     go zero h = plan-later set k l h
     go (suc n) h = plan-sooner set k l (λ z. omega (arith, h, z)) ∙ h
 
@@ -46,15 +46,15 @@ module _ (old new : List ℕ) (r : Revised old new) where
   same-words = ap₂ reducedList same-width (revised-columns old new r)
 
   module _ (ho : firstOf (setTests old) ≡ 0) (hn : firstOf (setTests new) ≡ 0) where
-    same-work : (k : ℕ) → firstOf (workTests old k) ≡ firstOf (workTests new k)
-    same-work k = work-past-set old k ho ∙ sym (work-past-set new k hn)
+    same-earlier : (k : ℕ) → firstOf (earlierTests old k) ≡ firstOf (earlierTests new k)
+    same-earlier k = earlier-past-set old k ho ∙ sym (earlier-past-set new k hn)
 
     same-later : (l : ℕ) → firstOf (later old l) ≡ firstOf (later new l)
     same-later l =
         rw (same-width, revised-columns old new r, same-words) refl
 
     pub same-number : (k l : ℕ) → firstOf (planTests old k l) ≡ firstOf (planTests new k l)
-    same-number k l = plan-number old k l ∙ ap₂ firstNumber (same-work k) (same-later l) ∙ sym (plan-number new k l)
+    same-number k l = plan-number old k l ∙ ap₂ firstNumber (same-earlier k) (same-later l) ∙ sym (plan-number new k l)
 
     pub same-words-reply : (k l : ℕ) → wordsReply old k l ≡ wordsReply new k l
     unfolding wordsReply
@@ -65,7 +65,7 @@ module _ (old new : List ℕ) (r : Revised old new) where
         parts = ap₂ (λ (m q : ℕ). record { m = m; q = q }) same-width (ap length same-words)
 
     pub same-working-after : (l : List ℕ) → workingLeft old l ≡ workingLeft new l
-    same-working-after l = ap (λ (n : ℕ). lent (replied n workingPlaces) (zeros workingPlaces) l) (same-work (length l))
+    same-working-after l = ap (λ (n : ℕ). lent (replied n workingPlaces) (zeros workingPlaces) l) (same-earlier (length l))
 
     pub same-words-after : (k : ℕ) (ws : List ℕ)
         → lent (wordsReply old k (length ws)) (wordsOf old) ws ≡ lent (wordsReply new k (length ws)) (wordsOf new) ws

@@ -2,15 +2,15 @@
 -- word, bit i for word i". Document 02, No. 3: "Words are to come from a working list of 64 places, with the same answer. Refusal 14 in
 -- planning now means fewer than 64 places. Past 14, those 64 hold zero when the call ends, accepted or not." And the call that gives the
 -- words alone. Document 02, No. 2: "Planning is to be split in two: one call gives the words, the other the expected bits for a set and
--- its words." It meets planning's numbers and is lent planning's lists; the other call is expectation/specs/Expecting.
+-- its words." It meets planning's numbers and is lent planning's lists; the other call is expectation/specs/Expecting. 16 is none of the
+-- numbers: document 02, No. 4 (proofs/Sixteen).
 --
 --   wordsFor g              document 01: the plan's words, the reduced list for the columns of what is given
 --   wordsOf set             .. of a set
 --   expectedOf set          the expected bits of a set's own words
---   workTests set k         the numbers that planning meets up to 14, in order, for k working places
+--   earlierTests set k      the numbers that planning meets before 17, in order, for k working places: the set's and 14. Document 01: "an
+--                           earlier number is one that stands before 17 in that call"
 --   workingLeft set l       the working list l at exit
---   earlierTests set k      the numbers that planning meets before 17, in order, for k working places. Document 01: "an earlier number
---                           is one that stands before 17 in that call"
 --   planTests set k l       the numbers that planning meets, in order, for k working places and l word places
 --   WordParts               what the call that gives the words answers: m and q
 --   wordsReply set k l      its reply
@@ -23,7 +23,7 @@ use Prim.Native.Nat.{ℕ}
 use lib.Dec.{ltb}
 use lib.ListN.{length}
 use Rattle.word.specs.Reply.{Test, _when_, Reply, answer, refusal, reply}
-use Rattle.combinations.specs.Combination.{rank, onlyEmpty}
+use Rattle.combinations.specs.Combination.{onlyEmpty}
 use Rattle.combinations.specs.Reduced.{reducedList}
 use Rattle.set_layout.specs.Layout.{widthOf}
 use Rattle.signatures.specs.Given.{Given, columnsFor}
@@ -46,15 +46,11 @@ unfoldable pub expectedOf : List ℕ → ℕ
 expectedOf set = expectedFor set (wordsOf set)
 
 -- the set's numbers, then 14
-unfoldable pub workTests : List ℕ → ℕ → List Test
-workTests set k = setTests set ++ workingTest k ∷ []
+unfoldable pub earlierTests : List ℕ → ℕ → List Test
+earlierTests set k = setTests set ++ workingTest k ∷ []
 
 abbrev pub workingLeft : List ℕ → List ℕ → List ℕ
-workingLeft set l = workingAfter (workTests set (length l)) l
-
--- .. then 16
-unfoldable pub earlierTests : List ℕ → ℕ → List Test
-earlierTests set k = workTests set k ++ 16 when ltb (widthOf set) (rank (columnsOf set)) ∷ []
+workingLeft set l = workingAfter (earlierTests set (length l)) l
 
 -- .. then 17 and 18
 unfoldable pub planTests : List ℕ → ℕ → ℕ → List Test

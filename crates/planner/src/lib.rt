@@ -39,8 +39,8 @@ fn unknown_rows(n: u16) -> Rows
     set_layout::mark_rows(n)
 }
 
-// The words of a taken set. Past the set's numbers it meets 14, 16, 17 and 18; 16 never applies. The set's values change nothing of what
-// it answers and leaves (proofs/Revised.antt, same-words-reply, same-working-after).
+// The words of a taken set. Past the set's numbers it meets 14, 17 and 18. The set's values change nothing of what it answers and leaves
+// (proofs/Revised.antt, same-words-reply, same-working-after).
 fn fill_words(taken: Taken, set: &[u8], working: &mut [u64], words: &mut [u64]) -> Worded
     ensures { λ r. ⌜ (TakenFrom (now (set .entry)) taken → (saidWorded r ≡ wordsReply (now (set .entry)) (length (now (working .entry))) (length (now (words .entry)))) × ((now (working .exit) ≡ workingLeft (now (set .entry)) (now (working .entry))) × (now (words .exit) ≡ lent (wordsReply (now (set .entry)) (length (now (working .entry))) (length (now (words .entry)))) (wordsOf (now (set .entry))) (now (words .entry))))) ⌝ }
 {
@@ -56,8 +56,8 @@ fn fill_words(taken: Taken, set: &[u8], working: &mut [u64], words: &mut [u64]) 
     Worded::Words { m, q }
 }
 
-// The set read and its words made, for both calls: what is answered, and the set as it was taken. Meets the set's numbers, then 14, 16,
-// 17 and 18.
+// The set read and its words made, for both calls: what is answered, and the set as it was taken. Meets the set's numbers, then 14, 17
+// and 18.
 fn make_words(set: &[u8], working: &mut [u64], words: &mut [u64]) -> Made
     ensures taken { λ r. ⌜ (firstOf (setTests (now (set .entry))) ≡ 0 → TakenFrom (now (set .entry)) (r .taken)) ⌝ }
     ensures answer { λ r. ⌜ saidWorded (r .worded) ≡ wordsReply (now (set .entry)) (length (now (working .entry))) (length (now (words .entry))) ⌝ }
@@ -90,7 +90,7 @@ fn make_words(set: &[u8], working: &mut [u64], words: &mut [u64]) -> Made
 }
 
 // The words of a set, the first of the two calls of document 02. Answers with m and q, and writes the q words over the front of
-// `words`. Meets the set's numbers, then 14, 16, 17 and 18. A refusal writes nothing, but that past 14 the first 64 places of `working`
+// `words`. Meets the set's numbers, then 14, 17 and 18. A refusal writes nothing, but that past 14 the first 64 places of `working`
 // hold 0.
 pub fn plan_words(set: &[u8], working: &mut [u64], words: &mut [u64]) -> Worded
     ensures answer { λ r. ⌜ saidWorded r ≡ wordsReply (now (set .entry)) (length (now (working .entry))) (length (now (words .entry))) ⌝ }
@@ -112,8 +112,8 @@ fn words_number(worded: Worded) -> u64
 }
 
 // Planning of document 01: the words, then the expected bits for them (proofs/InARow.antt, plan-in-a-row); the set is read once for
-// both. Answers with m, q and the expected bits, and writes the q words over the front of `words`. Meets the set's numbers, then 14, 16,
-// 17 and 18. A refusal writes nothing, but that past 14 the first 64 places of `working` hold 0.
+// both. Answers with m, q and the expected bits, and writes the q words over the front of `words`. Meets the set's numbers, then 14, 17
+// and 18. A refusal writes nothing, but that past 14 the first 64 places of `working` hold 0.
 pub fn plan(set: &[u8], working: &mut [u64], words: &mut [u64]) -> Planned
     ensures answer { λ r. ⌜ said r ≡ planReply (now (set .entry)) (length (now (working .entry))) (length (now (words .entry))) ⌝ }
     ensures working { λ _. ⌜ now (working .exit) ≡ workingLeft (now (set .entry)) (now (working .entry)) ⌝ }

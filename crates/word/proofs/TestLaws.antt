@@ -51,6 +51,14 @@ first-later ts us n k d e z h = h ∙ sym (first-of-later ts us d (sym e ∙ z))
 pub none-of-both : (ts us : List Test) → numbered ts ≡ true → firstOf (ts ++ us) ≡ 0 → (firstOf ts ≡ 0) × (firstOf us ≡ 0)
 none-of-both ts us d h = let none : firstOf ts ≡ 0 = first-of-none ts us h in (none, sym (first-of-later ts us d none) ∙ h)
 
+-- ---- a test that never applies
+
+-- one that applies nowhere where those before it don't can be left out
+pub first-of-out : (ts us : List Test) (n : ℕ) (b : Bool) → (firstOf ts ≡ 0 → b ≡ false) → firstOf (ts ++ n when b ∷ us) ≡ firstOf (ts ++ us)
+first-of-out [] us n b h = rw (h refl) refl
+first-of-out (k when true ∷ ts) us n b h = refl
+first-of-out (k when false ∷ ts) us n b h = first-of-out ts us n b h
+
 -- ---- how large the first number can be
 
 pub cond-most : (b : Bool) (n k x : ℕ) → k ≤ n → (b ≡ false → x ≤ n) → cond b k x ≤ n

@@ -61,36 +61,30 @@ refused-requires-3 : tie.Need-refused-requires-3
 refused-requires-3 c κs = search needs
 
 returns-3 : tie.Need-returns-3
-returns-3 c = let z : ⊥ = omega (arith, c .before .if3 .taken) in absurd z
+returns-3 c = ends-17 _ _ _ _ _ (kept (c .before .before)) (c .before .if3 .taken) (c .refused3 .ensures)
 
 refused-requires-4 : tie.Need-refused-requires-4
 refused-requires-4 c κs = search needs
 
 returns-4 : tie.Need-returns-4
-returns-4 c = ends-17 _ _ _ _ _ (kept (c .before .before .before)) (c .before .if4 .taken) (c .refused4 .ensures)
-
-refused-requires-5 : tie.Need-refused-requires-5
-refused-requires-5 c κs = search needs
-
-returns-5 : tie.Need-returns-5
-returns-5 c =
-    let so-far = kept (c .before .before .before .before) in
-    ends-18 _ _ _ _ _ so-far (c .before .before .if4 .left) (c .before .if5 .taken) (c .refused5 .ensures)
+returns-4 c =
+    let so-far = kept (c .before .before .before) in
+    ends-18 _ _ _ _ _ so-far (c .before .before .if3 .left) (c .before .if4 .taken) (c .refused4 .ensures)
 
 array-share-prefix-held : tie.Need-array-share-prefix-held
 array-share-prefix-held c =
-    let words-left = c .before .before .before .before .before .reduce .last .0 in
-    let units = c .before .before .before .before .before .before .before .unit-words .ensures in
-    let same-long = c .before .before .before .before .before .reduce .kept .0 in
-    let so-far = kept (c .before .before .before .before) in
+    let words-left = c .before .before .before .before .reduce .last .0 in
+    let units = c .before .before .before .before .before .before .unit-words .ensures in
+    let same-long = c .before .before .before .before .reduce .kept .0 in
+    let so-far = kept (c .before .before .before) in
     held-long _ _ _ words-left _ so-far units same-long
 
 slice-aggregate-write-front : tie.Need-slice-aggregate-write-front
 slice-aggregate-write-front c =
-    let words-left = c .before .before .before .before .before .before .reduce .last .0 in
-    let units = c .before .before .before .before .before .before .before .before .unit-words .ensures in
-    let same-long = c .before .before .before .before .before .before .reduce .kept .0 in
-    let so-far = kept (c .before .before .before .before .before) in
+    let words-left = c .before .before .before .before .before .reduce .last .0 in
+    let units = c .before .before .before .before .before .before .before .unit-words .ensures in
+    let same-long = c .before .before .before .before .before .reduce .kept .0 in
+    let so-far = kept (c .before .before .before .before) in
     sym (length-take-le _ _ (held-long _ _ _ words-left _ so-far units same-long))
 
 write-front-requires : tie.Need-write-front-requires
@@ -99,15 +93,15 @@ write-front-requires c κs = search needs
 same-length : tie.Need-same-length
 same-length c = search needs
 
-returns-6 : tie.Need-returns-6
-returns-6 c =
-    let some-word = c .before .before .before .before .before .before .if4 .left in
-    let units = c .before .before .before .before .before .before .before .before .before .before .before .unit-words .ensures in
-    let same-long = c .before .before .before .before .before .before .before .before .before .reduce .kept .0 in
-    let reduced = c .before .before .before .before .before .before .before .before .before .reduce .ensures .1 in
-    let so-far = kept (c .before .before .before .before .before .before .before .before) in
+returns-5 : tie.Need-returns-5
+returns-5 c =
+    let some-word = c .before .before .before .before .before .before .if3 .left in
+    let units = c .before .before .before .before .before .before .before .before .before .before .unit-words .ensures in
+    let same-long = c .before .before .before .before .before .before .before .before .reduce .kept .0 in
+    let reduced = c .before .before .before .before .before .before .before .before .reduce .ensures .1 in
+    let so-far = kept (c .before .before .before .before .before .before .before) in
     let written = c .before .before .write-front .ensures in
-    ends-done _ _ (c .before .before .before .before .before .before .before .before .before .before .before .before .before .before .before .before .before .before .args .words .now) _ _ _ so-far some-word (search needs)
+    ends-done _ _ (c .before .before .before .before .before .before .before .before .before .before .before .before .before .before .before .before .before .args .words .now) _ _ _ so-far some-word (search needs)
     (kept-words _ _ _ _ _ so-far units same-long reduced)
     written
 
@@ -130,10 +124,8 @@ eliminate-spec =
     returns-3
     refused-requires-4
     returns-4
-    refused-requires-5
-    returns-5
     array-share-prefix-held
     slice-aggregate-write-front
     write-front-requires
     same-length
-    returns-6)
+    returns-5)
