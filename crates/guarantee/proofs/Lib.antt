@@ -3,6 +3,7 @@ pub mod Planned
 pub mod Content
 pub mod Theorems
 pub mod Seventeen
+pub mod Sixteen
 pub mod Revised
 pub mod WorkLaws
 pub mod Worked
