@@ -15,16 +15,16 @@
  *    1 the set has fewer than 18 bytes                      13 the record has a spare bit set
  *    2 m isn't 1 to 64                                      14 fewer places than unknown cells; in planning: fewer than 64 places
  *    3 the tap word has bit 0 clear or a bit at or above m  15 a column has a bit at or above m
- *    4 the chain count is absent or isn't 1 to 256          16 more than m independent columns
- *    5 the set ends before the last spread word             17 no X-free combination but the empty one exists
- *    6 a spread word is zero or has a bit at or above m     18 the word list is shorter than q
- *    7 the slice count is absent or above 512               19 the plan has fewer than 2 bytes, or its m isn't 1 to 64
- *    8 a length isn't what the counts give                  20 the word count is absent, 0 or above m, or a word is cut off
- *    9 a row has a spare bit set                            21 the words aren't a reduced list for m
- *   10 an unknown cell has its value bit set                22 the second count, the length or a spare bit is wrong
- *   11 the slice number isn't below s                       23 a signature has a bit at or above m
- *   12 the record's length isn't s times B                  24 the output is shorter than the file to be written
- *                                                           25 the inversion word has a bit at or above m
+ *    4 the chain count is absent or isn't 1 to 256          17 no X-free combination but the empty one exists
+ *    5 the set ends before the last spread word             18 the word list is shorter than q
+ *    6 a spread word is zero or has a bit at or above m     19 the plan has fewer than 2 bytes, or its m isn't 1 to 64
+ *    7 the slice count is absent or above 512               20 the word count is absent, 0 or above m, or a word is cut off
+ *    8 a length isn't what the counts give                  21 the words aren't a reduced list for m
+ *    9 a row has a spare bit set                            22 the second count, the length or a spare bit is wrong
+ *   10 an unknown cell has its value bit set                23 a signature has a bit at or above m
+ *   11 the slice number isn't below s                       24 the output is shorter than the file to be written
+ *   12 the record's length isn't s times B                  25 the inversion word has a bit at or above m
+ * There is no 16: it stood for more than m independent columns, which can't come up, and is given to nothing else.
  */
 #ifndef CANCELLER_H
 #define CANCELLER_H
@@ -36,7 +36,7 @@
 extern "C" {
 #endif
 
-#define CANCELLER_VERSION "3.0.0"
+#define CANCELLER_VERSION "3.0.1"
 
 #define CANCELLER_WIDTH_MAX 64
 #define CANCELLER_CHAINS_MAX 256
@@ -89,12 +89,12 @@ canceller_signed     canceller_sign(const uint8_t *set, size_t set_len, const ui
 canceller_listed     canceller_list_columns(const uint8_t *set, size_t set_len, uint64_t *columns, size_t columns_len);
 
 /* The elimination: the reduced list of X-free words of these columns over the front of the word list. Answers with the rank of
- * the columns and q, the number of words. Meets 2, 15, 16, 17, 18. A refusal writes nothing. */
+ * the columns and q, the number of words. Meets 2, 15, 17, 18. A refusal writes nothing. */
 canceller_eliminated canceller_eliminate(uint64_t m, const uint64_t *columns, size_t columns_len, uint64_t *words, size_t words_len);
 
 /* The words of a set, over the front of the word list. Answers with m and q. Sets that differ in their values alone have the same words.
  * The working list takes CANCELLER_WORKING places, however many cells are unknown; what it holds before changes nothing. Meets the set's
- * numbers, 14 (fewer places than that), 16, 17, 18. Past 14 those places hold 0 at the end, whatever follows, and the places behind them
+ * numbers, 14 (fewer places than that), 17, 18. Past 14 those places hold 0 at the end, whatever follows, and the places behind them
  * what they held; a refusal writes nothing else. */
 canceller_worded     canceller_plan_words(const uint8_t *set, size_t set_len, uint64_t *working, size_t working_len,
                                           uint64_t *words, size_t words_len);
@@ -105,7 +105,7 @@ canceller_worded     canceller_plan_words(const uint8_t *set, size_t set_len, ui
 canceller_expected   canceller_expect(const uint8_t *set, size_t set_len, const uint64_t *words, size_t words_len);
 
 /* Planning: canceller_plan_words, and then canceller_expect for its words. Words over the front of the word list. Answers with m, q and
- * the expected bits as one word, bit i for word i. Meets the set's numbers, 14, 16, 17, 18; the working list as in
+ * the expected bits as one word, bit i for word i. Meets the set's numbers, 14, 17, 18; the working list as in
  * canceller_plan_words. A refusal writes nothing else. */
 canceller_planned    canceller_plan(const uint8_t *set, size_t set_len, uint64_t *working, size_t working_len,
                                     uint64_t *words, size_t words_len);

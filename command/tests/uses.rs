@@ -174,8 +174,7 @@ fn changed_sample(at: usize, bytes: &[u8]) -> Vec<u8> {
 }
 
 /// The numbers 1 to 10, 12, 13, 17, 19 to 23 and 25, each by a use that meets it, and those of a set by every use that reads one. The
-/// command lends room enough that 14, 18 and 24 can't come up, asks for no slice that isn't there (11), and hands no columns over
-/// (15, 16).
+/// command lends room enough that 14, 18 and 24 can't come up, asks for no slice that isn't there (11), and hands no columns over (15).
 #[test]
 fn every_refusal_number() {
     let folder = with_sample("refusals");
@@ -387,21 +386,37 @@ fn plans_and_signatures_of_random_sets_with_an_inversion_word_by_the_second_impl
     assert!(other_bits >= 10, "{other_bits} with other expected bits");
 }
 
-/// Why, and what to do, in README.md's table of the numbers.
-fn row_of_readme(number: u64) -> (String, String) {
+/// Why, and what to do, in README.md's table of the numbers; nothing where it has no row for the number.
+fn told_in_readme(number: u64) -> Option<(String, String)> {
     let readme = text("README.md");
     let (_, table) = readme.split_once("## Refusal numbers").unwrap();
     let start = format!("| {number} | ");
-    let row = table.lines().find_map(|line| line.strip_prefix(&start));
-    let row = row.unwrap_or_else(|| panic!("no row {number}"));
+    let row = table.lines().find_map(|line| line.strip_prefix(&start))?;
     let (why, advice) = row.trim_end_matches(" |").split_once(" | ").unwrap();
-    (why.to_string(), advice.to_string())
+    Some((why.to_string(), advice.to_string()))
 }
 
+fn row_of_readme(number: u64) -> (String, String) {
+    told_in_readme(number).unwrap_or_else(|| panic!("no row {number}"))
+}
+
+/// The numbers that the header lists: each at the start of an entry of its two columns.
+fn numbers_of_the_header() -> Vec<u64> {
+    const COLUMNS: [usize; 2] = [5, 61];
+    let header = text("include/canceller.h");
+    let (_, list) = header.split_once("is looked for after 3:\n").unwrap();
+    let (list, _) = list.split_once(" * There is no 16: ").unwrap();
+    let entry = |line: &str, at: usize| line[at..at + 2].trim().parse().expect("an entry's number");
+    let column = |at| list.lines().map(move |line| entry(line, at));
+    COLUMNS.into_iter().flat_map(column).collect()
+}
+
+/// The numbers of the refusals: 16 is a gap, and nothing is renumbered to fill it.
 #[test]
 fn explain_says_what_the_readme_and_the_header_list() {
     let folder = Folder::new("explain");
-    for number in 1..=25 {
+    let numbers: Vec<u64> = (1..=25).filter(|&n| n != 16).collect();
+    for &number in &numbers {
         let (why, advice) = row_of_readme(number);
         let told = folder.done(&["explain", &number.to_string()]);
         assert_eq!(
@@ -409,22 +424,23 @@ fn explain_says_what_the_readme_and_the_header_list() {
             format!("refused {number}: {why}\nwhat to do: {advice}\n")
         );
     }
+    let first = row_of_readme(17).0;
+    assert_eq!(first, "no X-free combination but the empty one exists");
+    assert_eq!(row_of_readme(15).0, "a column has a bit at or above m");
     for bad in ["0", "26", "x", "18446744073709551615"] {
         let ran = folder.run(&["explain", bad]);
         let message =
-            format!("canceller: explain: expected a number from 1 to 25, found '{bad}'\n");
+            format!("canceller: explain: expected a number from 1 to 25 but 16, found '{bad}'\n");
         assert_eq!((ran.status, ran.err), (3, message));
     }
-    // the header lists the same numbers
-    let header = text("include/canceller.h");
-    let (_, list) = header.split_once("The numbers, in the order").unwrap();
-    let (list, _) = list.split_once("*/").unwrap();
-    let words: Vec<&str> = list.split_whitespace().collect();
-    for number in 1..=25 {
-        let starts = words.iter().filter(|w| **w == number.to_string());
-        assert!(starts.count() >= 1, "{number} in the header");
-    }
-    assert!(!words.contains(&"26"));
+    let gap = folder.run(&["explain", "16"]);
+    let message =
+        "canceller: explain: no call gives 16: more than m independent columns can't come up\n";
+    assert_eq!((gap.status, gap.err.as_str()), (3, message));
+    assert_eq!((told_in_readme(16), told_in_readme(26)), (None, None));
+    assert!(text("README.md")
+        .contains("\nThere is no 16. It stood for more than m independent columns"));
+    assert_eq!(numbers_of_the_header(), numbers);
 }
 
 #[test]

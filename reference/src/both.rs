@@ -12,7 +12,7 @@ use crate::second::set::{clock, list_columns, read_set, row_place, sign, write_s
 use crate::second::{word_of, Reply};
 use std::collections::BTreeMap;
 
-/// Each call with the numbers that it can meet, in the order in which it looks for them, but 16, which no input gives.
+/// Each call with the numbers that it can meet, in the order in which it looks for them.
 pub const MEETS: [(&str, &[u64]); 14] = [
     ("read_set", &[1, 2, 3, 25, 4, 5, 6, 7, 8, 9, 10]),
     ("value_row", &[1, 2, 3, 25, 4, 5, 6, 7, 8, 9, 10, 11]),
@@ -32,6 +32,9 @@ pub const MEETS: [(&str, &[u64]); 14] = [
     ("read_plan", &[19, 20, 21, 22, 18]),
     ("judge", &[19, 20, 21, 22, 23]),
 ];
+
+/// "Show that 16 cannot come up, then take it out; the number isn't given to anything else." (Document 02, No. 4.)
+pub const TAKEN_OUT: u64 = 16;
 
 /// A slice to lend.
 enum Lend<'a> {
@@ -91,8 +94,21 @@ pub struct Both {
     pub before: [Before; 2],
     /// How often each call was compared, by the number it gave; 0 for an answer.
     seen: BTreeMap<(&'static str, u64), u64>,
+    /// How often the library gave each number, whatever the call.
+    given: BTreeMap<u64, u64>,
     /// What the test is at, for the message of a failure.
     pub at: String,
+}
+
+/// At the end of every test that compares: of all calls that it made of the library, none gave the number that was taken out.
+impl Drop for Both {
+    fn drop(&mut self) {
+        let given = self.given(TAKEN_OUT);
+        // a test that has failed already says more
+        if !std::thread::panicking() {
+            assert_eq!(given, 0, "{given} calls gave {TAKEN_OUT}");
+        }
+    }
 }
 
 impl Default for Both {
@@ -162,6 +178,7 @@ impl Both {
             fences: SIDES.map(|side| [0; 4].map(|_| Fenced::new(side, 4096 * 16))),
             before: [|bytes| noise(1, bytes), |bytes| noise(2, bytes)],
             seen: BTreeMap::new(),
+            given: BTreeMap::new(),
             at: String::new(),
         }
     }
@@ -184,6 +201,7 @@ impl Both {
         for (fences, held) in self.fences.iter_mut().zip(self.before) {
             let lent = lay(fences, lend, held);
             let got = make(&lent);
+            *self.given.entry(got.refusal()).or_insert(0) += 1;
             assert!(
                 got == want,
                 "{call}, {}: the library gives {got:?}, the second implementation {want:?}",
@@ -211,6 +229,11 @@ impl Both {
     pub fn seen(&self, call: &str, number: u64) -> u64 {
         let there = self.seen.iter().find(|(k, _)| **k == (call, number));
         there.map_or(0, |(_, count)| *count)
+    }
+
+    /// How many calls of the library, two for each comparison, gave this number.
+    pub fn given(&self, number: u64) -> u64 {
+        self.given.get(&number).copied().unwrap_or(0)
     }
 
     /// Of a hundred comparisons of this call, how many were answers.

@@ -2,7 +2,7 @@
 //! slice against the untouchable page behind it and against the one in front (`Both`). A failure says where it was: the seed and
 //! the input. Tests that draw their inputs say how many of them must be accepted, so that they fail when the inputs go stale.
 
-use reference::both::{Both, MEETS};
+use reference::both::{Both, MEETS, TAKEN_OUT};
 use reference::draw;
 use reference::draw::Files;
 use reference::random::*;
@@ -536,5 +536,15 @@ fn a_million_calls() {
     for (call, number, _) in both.all_seen() {
         let (_, numbers) = MEETS.iter().find(|(name, _)| *name == call).unwrap();
         assert!(number == 0 || numbers.contains(&number), "{call}: {number}");
+    }
+    // what the library gave, number by number: 16 in none of two million calls, each other number in hundreds
+    let total: u64 = (0..=25).map(|number| both.given(number)).sum();
+    assert_eq!(total, 2 * compared);
+    for number in 0..=25 {
+        let given = both.given(number);
+        match number {
+            TAKEN_OUT => assert_eq!(given, 0, "{given} of {total} calls gave {number}"),
+            _ => assert!(given >= 800, "{given} of {total} calls gave {number}"),
+        }
     }
 }

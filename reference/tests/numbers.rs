@@ -1,12 +1,13 @@
 //! Each number that a call can meet, by an input that gives it and nothing earlier, and beside it the input that is right by one.
 
 use reference::both::Both;
-use reference::random::without_rows;
+use reference::random::{columns_of_rank, without_rows, Random};
 use reference::repository::sample;
 use reference::second::plan::Plan;
 use reference::second::planning::WORKING;
 use reference::second::set::{read_set, Content};
 use reference::second::word_of;
+use std::collections::BTreeSet;
 
 /// The sets that give 1 to 10 and 25.
 const BAD_SETS: [(&str, u64); 14] = [
@@ -366,6 +367,58 @@ fn the_elimination() {
         both.at = format!("m {m}, {columns:?}, {room} places");
         let answer = both.eliminate(m, columns, room);
         assert_eq!(number(answer), n, "{}", both.at);
+    }
+}
+
+/// "The count of columns independent of earlier ones", by all their XORs.
+fn rank_by_trial(columns: &[u64]) -> usize {
+    let mut xors = BTreeSet::from([0]);
+    let mut rank = 0;
+    for &c in columns {
+        if !xors.contains(&c) {
+            xors.extend(xors.clone().iter().map(|x| x ^ c));
+            rank += 1;
+        }
+    }
+    rank
+}
+
+/// All lists of `count` columns of m bits.
+fn all_lists(m: u32, count: u32) -> impl Iterator<Item = Vec<u64>> {
+    let columns = move |list: u64| (0..count).map(move |i| list >> (m * i) & ((1 << m) - 1));
+    (0..1u64 << (m * count)).map(move |list| columns(list).collect())
+}
+
+/// Number 16 stood for more than m independent columns. There are none: in no list of columns of m bits, of any length around m, are
+/// more than m independent, and where m are the elimination gives 17, not a number for too many.
+#[test]
+fn no_more_than_m_columns_are_independent() {
+    let mut both = Both::new();
+    let (mut full, mut more) = (0, 0);
+    for (m, longest) in [(1u32, 8), (2, 5), (3, 5), (4, 4)] {
+        for columns in (0..=longest).flat_map(|count| all_lists(m, count)) {
+            let rank = rank_by_trial(&columns);
+            both.at = format!("m {m}, {columns:?}");
+            assert!(rank <= m as usize, "{}", both.at);
+            let given = both.eliminate(m.into(), &columns, m as usize);
+            let whole = rank == m as usize;
+            assert_eq!(given.err(), whole.then_some(17), "{}", both.at);
+            full += u64::from(whole);
+            more += u64::from(whole && columns.len() > rank);
+        }
+    }
+    assert!(
+        full > 45_000 && more > 29_000,
+        "{full} lists of full rank, {more} of them with more columns than that"
+    );
+    for m in 1..=64 {
+        let mut r = Random::new(70_000 + m as u64);
+        for count in [m, m + 1, 2 * m, m + 300] {
+            both.at = format!("m {m}, {count} columns of rank {m}");
+            let columns = columns_of_rank(&mut r, m, m, count);
+            let given = both.eliminate(m as u64, &columns, m);
+            assert_eq!(number(given), 17, "{}", both.at);
+        }
     }
 }
 

@@ -1,6 +1,6 @@
 //! The differential test's random calls until the time is over: `soak SECONDS [SEED]`. Prints the seed that it starts from.
 
-use reference::both::Both;
+use reference::both::{Both, TAKEN_OUT};
 use reference::draw;
 use std::time::{Duration, Instant, SystemTime, UNIX_EPOCH};
 
@@ -25,4 +25,5 @@ fn main() {
     for (call, number, count) in both.all_seen() {
         println!("{call}: {count} gave {number}");
     }
+    println!("all calls: {} gave {TAKEN_OUT}", both.given(TAKEN_OUT));
 }

@@ -86,12 +86,10 @@ pub fn eliminate(m: u64, columns: &[u64], room: usize) -> Reply<(u64, Vec<u64>)>
     refuse_if(m < 1 || m > 64, 2)?;
     let width = m as usize;
     refuse_if(columns.iter().any(|&c| beyond(c, width)), 15)?;
-    let rank = rank(columns);
-    refuse_if(rank > m, 16)?;
     let words = reduced_list(width, columns);
     refuse_if(words.is_empty(), 17)?;
     refuse_if(room < words.len(), 18)?;
-    Ok((rank, words))
+    Ok((rank(columns), words))
 }
 
 /// Whether a list is a reduced list for m.

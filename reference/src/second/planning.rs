@@ -1,6 +1,6 @@
 //! Planning by its two calls, the words and the expected bits, and what the plan printer writes.
 
-use super::elimination::{rank, reduced_list};
+use super::elimination::reduced_list;
 use super::plan::{parities, take_words, Plan};
 use super::set::{read_set, Set};
 use super::*;
@@ -23,7 +23,6 @@ fn past_14(bytes: &[u8], room: usize) -> Reply<Set> {
 }
 
 fn words_of(m: usize, columns: &[u64], room: usize) -> Reply<Vec<u64>> {
-    refuse_if(rank(columns) > m as u64, 16)?;
     let words = reduced_list(m, columns);
     refuse_if(words.is_empty(), 17)?;
     refuse_if(room < words.len(), 18)?;
