@@ -1,19 +1,16 @@
 -- Number 16, taken out. Document 01: "16. The elimination would hold more than m independent columns."; "The elimination meets 2 and 15 to
--- 18". Document 02, No. 4: "Show that 16 cannot come up, then take it out; the number isn't given to anything else." What is defined here is
--- how the call was: no contract and no other definition names it.
+-- 18". Document 02, No. 4: "Show that 16 cannot come up, then take it out; the number isn't given to anything else." That it cannot come up is
+-- proofs/Theorems rank-most; here, that taking it out changes nothing. What is defined here is how the call was: no contract and no other
+-- definition names it.
 --
---   sixteen m cs              the number 16, for the columns cs at width m
 --   testsWithSixteen m cs k   document 01's numbers of the call, in order, for a lent list of k places
 --   replyWithSixteen m cs k   its reply by them
---   sixteen-never             16 applies to no columns without a bit at or above m
 --   sixteen-out               the reply with 16 in the list is the reply without it, for every width, columns and lent list
 --   sixteen-out-list          .. and the lent list is left the same
 -- Assumes nothing.
 use mathlib.Core.Path.{_≡_, ap}
-use mathlib.Core.Bool.{false}
 use mathlib.Core.List.{List, [], _∷_}
 use Prim.Native.Nat.{ℕ}
-use borrow.Author.Tests.{le-ltb}
 use lib.Dec.{ltb}
 use lib.ListN.{length}
 use Rattle.word.specs.Word.{beyond, badWidth}
@@ -23,25 +20,19 @@ use Rattle.word.proofs.TestLaws.{none-and-rest, first-of-out}
 use Rattle.combinations.specs.Combination.{rank, onlyEmpty}
 use Rattle.combinations.specs.Reduced.{reducedList}
 use Rattle.elimination.specs.Elimination.{Counts, eliminationTests, eliminationReply}
-use Rattle.elimination.proofs.Theorems.{rank-most}
-
-abbrev pub sixteen : ℕ → List ℕ → Test
-sixteen m cs = 16 when ltb m (rank cs)
+use Rattle.elimination.proofs.Theorems.{sixteen-never}
 
 abbrev pub testsWithSixteen : ℕ → List ℕ → ℕ → List Test
 testsWithSixteen m cs k =
     2 when badWidth m
     ∷ 15 when anyOf (beyond m) cs
-    ∷ sixteen m cs
+    ∷ 16 when ltb m (rank cs)
     ∷ 17 when onlyEmpty m cs
     ∷ 18 when ltb k (length (reducedList m cs))
     ∷ []
 
 abbrev pub replyWithSixteen : ℕ → List ℕ → ℕ → Reply Counts
 replyWithSixteen m cs k = reply (testsWithSixteen m cs k) (record { rank = rank cs; q = length (reducedList m cs) })
-
-pub sixteen-never : (m : ℕ) (cs : List ℕ) → anyOf (beyond m) cs ≡ false → ltb m (rank cs) ≡ false
-sixteen-never m cs b = le-ltb m (rank cs) (rank-most m cs b)
 
 module _ (m : ℕ) (cs : List ℕ) (k : ℕ) where
   same-number : firstOf (testsWithSixteen m cs k) ≡ firstOf (eliminationTests m cs k)

@@ -6,6 +6,8 @@
 --   later-numbers                           past 15 the numbers are 17 and 18
 --   rank-most                               no more than m columns without a bit at or above m are independent of earlier ones
 --   independent-most                        .. so of such columns, any that are independent of each other are m at most
+--   sixteen-never                           .. so 16, which document 01 gives for more than m independent columns, applies to none
+--   reply-not-16                            .. and the call, which has no test for it any more, never gives it (proofs/Sixteen: nor did it)
 -- Assumes nothing.
 use mathlib.Core.Path.{_≡_, refl, ap, _∙_}
 use mathlib.Core.Bool.{Bool, true, false}
@@ -13,13 +15,14 @@ use mathlib.Core.Logic.{⊎-elim}
 use mathlib.Core.List.{List, [], _∷_}
 use Prim.Native.Nat.{ℕ, _≤_}
 use native.Mathlib.Omega.{arith}
-use borrow.Author.Tests.{eqb-true, eq-eqb}
+use borrow.Author.Tests.{eqb-true, eq-eqb, le-ltb}
 use lib.Dec.{eqb, ltb}
 use lib.ListN.{length}
 use Rattle.word.specs.Word.{beyond, badWidth}
 use Rattle.word.specs.Some.{anyOf}
 use Rattle.word.specs.Reply.{_when_, answer, refusal, reply}
 use Rattle.word.proofs.BoolLaws.{or-cases, or-false, or-false-left, or-false-right, or-true-left, or-true-right, true-not-false}
+use Rattle.word.proofs.TestLaws.{never}
 use Rattle.combinations.specs.Combination.{member, rank, onlyEmpty}
 use Rattle.combinations.specs.Reduced.{reducedList}
 use Rattle.combinations.proofs.Theorems.{words-and-rank}
@@ -49,7 +52,14 @@ pub independent-most : (m : ℕ) (cs ds : List ℕ) → anyOf (beyond m) cs ≡ 
     → rank ds ≡ length ds → length ds ≤ m
 independent-most m cs ds b among all = omega (arith, all, rank-most m ds (none-among (beyond m) cs ds b among))
 
+pub sixteen-never : (m : ℕ) (cs : List ℕ) → anyOf (beyond m) cs ≡ false → ltb m (rank cs) ≡ false
+sixteen-never m cs b = le-ltb m (rank cs) (rank-most m cs b)
+
 module _ (m : ℕ) (cs : List ℕ) (k : ℕ) where
+  pub reply-not-16 : eliminationReply m cs k ≡ refusal 16 → ⊥
+  unfolding eliminationReply eliminationTests
+  reply-not-16 = never 16 (eliminationTests m cs k) _ (λ (z : 16 ≡ 0). omega arith) refl
+
   pub reply-2 : badWidth m ≡ true → eliminationReply m cs k ≡ refusal 2
   unfolding eliminationReply eliminationTests
   reply-2 a = rw a

@@ -25,7 +25,8 @@ use Rattle.set_content.specs.Content.{SetContent, setWriteTests}
 use Rattle.set_writer.specs.Writing.{setWriteReply}
 use Rattle.signing.specs.Signing.{signTests, signReply}
 use Rattle.columns.specs.Listing.{listTests, listReply}
-use Rattle.elimination.specs.Elimination.{eliminationTests, eliminationReply}
+use Rattle.elimination.specs.Elimination.{eliminationReply}
+use Rattle.elimination.proofs.Theorems.{reply-not-16}
 use Rattle.expectation.specs.Expecting.{wordTests, expectTests, expectReply}
 use Rattle.planner.specs.Planning.{wordsOf, earlierTests, planTests, wordsReply, PlanParts, planReply}
 use Rattle.planner.proofs.Sixteen.{planReplyWithSixteen, plan-sixteen-out}
@@ -78,8 +79,7 @@ unfolding listReply listTests setTests
 listed-never set k = not-sixteen (listTests set k) _ refl
 
 pub eliminated-never : (m : ℕ) (cs : List ℕ) (k : ℕ) → eliminationReply m cs k ≡ refusal 16 → ⊥
-unfolding eliminationReply eliminationTests
-eliminated-never m cs k = not-sixteen (eliminationTests m cs k) _ refl
+eliminated-never = reply-not-16
 
 pub worded-never : (set : List ℕ) (k l : ℕ) → wordsReply set k l ≡ refusal 16 → ⊥
 unfolding wordsReply planTests earlierTests setTests

@@ -17,7 +17,7 @@ use lib.ListN.{length}
 use Rattle.word.specs.Reply.{Test, _when_, Reply, reply, replied, firstOf, lent}
 use Rattle.word.proofs.TestLaws.{first-of-out}
 use Rattle.combinations.specs.Combination.{rank, onlyEmpty}
-use Rattle.elimination.proofs.Sixteen.{sixteen, sixteen-never}
+use Rattle.elimination.proofs.Theorems.{sixteen-never}
 use Rattle.set_layout.specs.Layout.{widthOf}
 use Rattle.set_file.proofs.Laws.{accepted}
 use Rattle.signatures.specs.Sets.{columnsOf}
@@ -28,7 +28,7 @@ use Rattle.planner.proofs.NumberLaws.{later, earlier-set}
 abbrev pub planTestsWithSixteen : List ℕ → ℕ → ℕ → List Test
 planTestsWithSixteen set k l =
     earlierTests set k
-    ++ sixteen (widthOf set) (columnsOf set)
+    ++ 16 when ltb (widthOf set) (rank (columnsOf set))
     ∷ 17 when onlyEmpty (widthOf set) (columnsOf set)
     ∷ 18 when ltb l (length (wordsOf set))
     ∷ []
