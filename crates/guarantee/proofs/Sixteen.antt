@@ -3,11 +3,11 @@
 --
 --   after-sixteen-out     any call that begins with planning, and goes on with f, replies as it did with 16 among planning's numbers
 --   text-sixteen-out      .. and the plan printer's text is what it was, for any working places and word places
---   X-never               the call X never gives 16: the set reader, the row calls, the set writer, the clock, signing, listing columns,
+--   X-not-16              the call X never gives 16: the set reader, the row calls, the set writer, the clock, signing, listing columns,
 --                         the elimination, the words, the expected bits, planning, the plan writer, the plan reader, judging
---   made-never            .. nor does making the plan of a set
---   record-never          .. nor does judging a record by the plan of its set
---   text-never            .. and the text is never the line `refused 16`
+--   made-not-16           .. nor does making the plan of a set
+--   record-not-16         .. nor does judging a record by the plan of its set
+--   text-not-16           .. and the text is never the line `refused 16`
 -- Assumes nothing.
 use mathlib.Core.Path.{_≡_, refl, ap}
 use mathlib.Core.Bool.{true}
@@ -50,76 +50,76 @@ text-sixteen-out set k l = ap (λ (r : Reply PlanParts). textOf r set) (plan-six
 
 -- ---- no call gives it
 
-not-sixteen : {A : Type 0} (ts : List Test) (a : A) → without 16 ts ≡ true → replied (firstOf ts) a ≡ refusal 16 → ⊥
-not-sixteen ts a = never 16 ts a (λ (z : 16 ≡ 0). omega arith)
+without-16 : {A : Type 0} (ts : List Test) (a : A) → without 16 ts ≡ true → replied (firstOf ts) a ≡ refusal 16 → ⊥
+without-16 ts a = never 16 ts a (λ (z : 16 ≡ 0). omega arith)
 
-pub set-never : (set : List ℕ) → setReply set ≡ refusal 16 → ⊥
+pub set-not-16 : (set : List ℕ) → setReply set ≡ refusal 16 → ⊥
 unfolding setReply setTests
-set-never set = not-sixteen (setTests set) _ refl
+set-not-16 set = without-16 (setTests set) _ refl
 
 -- both row calls: the row stands at the place `at`
-pub row-never : (set : List ℕ) (t at : ℕ) → rowReply set t at ≡ refusal 16 → ⊥
+pub row-not-16 : (set : List ℕ) (t at : ℕ) → rowReply set t at ≡ refusal 16 → ⊥
 unfolding rowReply rowTests setTests
-row-never set t at = not-sixteen (rowTests set t) _ refl
+row-not-16 set t at = without-16 (rowTests set t) _ refl
 
-pub set-written-never : (c : SetContent) (room : ℕ) → setWriteReply c room ≡ refusal 16 → ⊥
+pub set-written-not-16 : (c : SetContent) (room : ℕ) → setWriteReply c room ≡ refusal 16 → ⊥
 unfolding setWriteReply setWriteTests
-set-written-never c room = not-sixteen (setWriteTests c room) _ refl
+set-written-not-16 c room = without-16 (setWriteTests c room) _ refl
 
-pub clocked-never : (register : Register) (ws row : List ℕ) → clockReply register ws row ≡ refusal 16 → ⊥
+pub clocked-not-16 : (register : Register) (ws row : List ℕ) → clockReply register ws row ≡ refusal 16 → ⊥
 unfolding clockReply clockTests
-clocked-never register ws row = not-sixteen (clockTests register ws row) _ refl
+clocked-not-16 register ws row = without-16 (clockTests register ws row) _ refl
 
-pub signed-never : (set r : List ℕ) → signReply set r ≡ refusal 16 → ⊥
+pub signed-not-16 : (set r : List ℕ) → signReply set r ≡ refusal 16 → ⊥
 unfolding signReply signTests setTests
-signed-never set r = not-sixteen (signTests set r) _ refl
+signed-not-16 set r = without-16 (signTests set r) _ refl
 
-pub listed-never : (set : List ℕ) (k : ℕ) → listReply set k ≡ refusal 16 → ⊥
+pub listed-not-16 : (set : List ℕ) (k : ℕ) → listReply set k ≡ refusal 16 → ⊥
 unfolding listReply listTests setTests
-listed-never set k = not-sixteen (listTests set k) _ refl
+listed-not-16 set k = without-16 (listTests set k) _ refl
 
-pub eliminated-never : (m : ℕ) (cs : List ℕ) (k : ℕ) → eliminationReply m cs k ≡ refusal 16 → ⊥
-eliminated-never = reply-not-16
+pub eliminated-not-16 : (m : ℕ) (cs : List ℕ) (k : ℕ) → eliminationReply m cs k ≡ refusal 16 → ⊥
+eliminated-not-16 = reply-not-16
 
-pub worded-never : (set : List ℕ) (k l : ℕ) → wordsReply set k l ≡ refusal 16 → ⊥
+pub worded-not-16 : (set : List ℕ) (k l : ℕ) → wordsReply set k l ≡ refusal 16 → ⊥
 unfolding wordsReply planTests earlierTests setTests
-worded-never set k l = not-sixteen (planTests set k l) _ refl
+worded-not-16 set k l = without-16 (planTests set k l) _ refl
 
-pub expected-never : (set ws : List ℕ) → expectReply set ws ≡ refusal 16 → ⊥
+pub expected-not-16 : (set ws : List ℕ) → expectReply set ws ≡ refusal 16 → ⊥
 unfolding expectReply expectTests wordTests setTests
-expected-never set ws = not-sixteen (expectTests set ws) _ refl
+expected-not-16 set ws = without-16 (expectTests set ws) _ refl
 
-pub planned-never : (set : List ℕ) (k l : ℕ) → planReply set k l ≡ refusal 16 → ⊥
+pub planned-not-16 : (set : List ℕ) (k l : ℕ) → planReply set k l ≡ refusal 16 → ⊥
 unfolding planReply planTests earlierTests setTests
-planned-never set k l = not-sixteen (planTests set k l) _ refl
+planned-not-16 set k l = without-16 (planTests set k l) _ refl
 
-pub plan-written-never : (c : PlanContent) (room : ℕ) → planWriteReply c room ≡ refusal 16 → ⊥
+pub plan-written-not-16 : (c : PlanContent) (room : ℕ) → planWriteReply c room ≡ refusal 16 → ⊥
 unfolding planWriteReply planWriteTests
-plan-written-never c room = not-sixteen (planWriteTests c room) _ refl
+plan-written-not-16 c room = without-16 (planWriteTests c room) _ refl
 
-pub plan-read-never : (plan : List ℕ) (room : ℕ) → planFileReply plan room ≡ refusal 16 → ⊥
+pub plan-read-not-16 : (plan : List ℕ) (room : ℕ) → planFileReply plan room ≡ refusal 16 → ⊥
 unfolding planFileReply planReadTests planFileTests
-plan-read-never plan room = not-sixteen (planReadTests plan room) _ refl
+plan-read-not-16 plan room = without-16 (planReadTests plan room) _ refl
 
-pub judged-never : (plan : List ℕ) (y : ℕ) → judgeReply plan y ≡ refusal 16 → ⊥
+pub judged-not-16 : (plan : List ℕ) (y : ℕ) → judgeReply plan y ≡ refusal 16 → ⊥
 unfolding judgeReply judgeTests planFileTests
-judged-never plan y = not-sixteen (judgeTests plan y) _ refl
+judged-not-16 plan y = without-16 (judgeTests plan y) _ refl
 
 -- ---- .. nor do the calls that are made of them
 
-pub made-never : (set : List ℕ) (k l room : ℕ) → madeReply set k l room ≡ refusal 16 → ⊥
+pub made-not-16 : (set : List ℕ) (k l room : ℕ) → madeReply set k l room ≡ refusal 16 → ⊥
 unfolding madeReply
-made-never set k l room h =
-    planned-never set k l
+made-not-16 set k l room h =
+    planned-not-16 set k l
     (after-number (planReply set k l) (λ p. planWriteReply (planContent (p .m) (wordsOf set) (p .expected)) room) 16
-    (λ p. plan-written-never (planContent (p .m) (wordsOf set) (p .expected)) room) h)
+    (λ p. plan-written-not-16 (planContent (p .m) (wordsOf set) (p .expected)) room) h)
 
-pub record-never : (set r : List ℕ) (k l room : ℕ) → recordReply set r k l room ≡ refusal 16 → ⊥
+pub record-not-16 : (set r : List ℕ) (k l room : ℕ) → recordReply set r k l room ≡ refusal 16 → ⊥
 unfolding recordReply signedReply
-record-never set r k l room h =
-    made-never set k l room
+record-not-16 set r k l room h =
+    made-not-16 set k l room
     (after-number (madeReply set k l room) (λ n. after (signReply set r) (λ y. judgeReply (planOf set) y)) 16
-    (λ n g. signed-never set r (after-number (signReply set r) (λ y. judgeReply (planOf set) y) 16 (judged-never (planOf set)) g)) h)
+    (λ n g. signed-not-16 set r (after-number (signReply set r) (λ y. judgeReply (planOf set) y) 16 (judged-not-16 (planOf set)) g)) h)
 
-pub text-never : (set : List ℕ) (k l : ℕ) → planText set k l ≡ refusedLine 16 → ⊥
-text-never set k l h = planned-never set k l (refused-text set k l 16 (omega arith) .0 h)
+pub text-not-16 : (set : List ℕ) (k l : ℕ) → planText set k l ≡ refusedLine 16 → ⊥
+text-not-16 set k l h = planned-not-16 set k l (refused-text set k l 16 (omega arith) .0 h)
