@@ -389,13 +389,14 @@ fn all_lists(m: u32, count: u32) -> impl Iterator<Item = Vec<u64>> {
     (0..1u64 << (m * count)).map(move |list| columns(list).collect())
 }
 
-/// Number 16 stood for more than m independent columns. There are none: in no list of columns of m bits, of any length around m, are
-/// more than m independent, and where m are the elimination gives 17, not a number for too many.
+/// Number 16 stood for more than m independent columns. There are none: in no list of up to 8 columns at m 1, and up to 5 at m 2 to 4, are
+/// more than m independent, and where m are the elimination gives 17, not a number for too many. At every width a few lists of rank m,
+/// with m columns and more, give 17 too.
 #[test]
 fn no_more_than_m_columns_are_independent() {
     let mut both = Both::new();
     let (mut full, mut more) = (0, 0);
-    for (m, longest) in [(1u32, 8), (2, 5), (3, 5), (4, 4)] {
+    for (m, longest) in [(1u32, 8), (2, 5), (3, 5), (4, 5)] {
         for columns in (0..=longest).flat_map(|count| all_lists(m, count)) {
             let rank = rank_by_trial(&columns);
             both.at = format!("m {m}, {columns:?}");
@@ -408,7 +409,7 @@ fn no_more_than_m_columns_are_independent() {
         }
     }
     assert!(
-        full > 45_000 && more > 29_000,
+        full > 600_000 && more > 600_000,
         "{full} lists of full rank, {more} of them with more columns than that"
     );
     for m in 1..=64 {
