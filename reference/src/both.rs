@@ -100,7 +100,7 @@ pub struct Both {
     pub at: String,
 }
 
-/// At the end of every test that compares: of all calls that it made of the library, none gave the number that was taken out.
+/// At the end of every test that compares by it: of all calls that it made of the library, none gave the number that was taken out.
 impl Drop for Both {
     fn drop(&mut self) {
         let given = self.given(TAKEN_OUT);

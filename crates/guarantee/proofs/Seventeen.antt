@@ -78,13 +78,18 @@ judged-never : (plan : List ℕ) (y : ℕ) → judgeReply plan y ≡ refusal 17 
 unfolding judgeReply judgeTests planFileTests
 judged-never plan y = never 17 (judgeTests plan y) _ (λ (z : 17 ≡ 0). omega arith) refl
 
+-- signing a record and judging it gives no number that neither of them gives
+pub signed-judged-never : (n : ℕ) (set r plan : List ℕ) → (signReply set r ≡ refusal n → ⊥) → ((y : ℕ) → judgeReply plan y ≡ refusal n → ⊥)
+    → signedReply set r plan ≡ refusal n → ⊥
+unfolding signedReply
+signed-judged-never n set r plan signs judges h = signs (after-number (signReply set r) (λ y. judgeReply plan y) n judges h)
+
 later-never : (set r : List ℕ) (room : ℕ) (p : PlanParts)
     → after (planWriteReply (planContent (p .m) (wordsOf set) (p .expected)) room) (λ n. signedReply set r (planOf set)) ≡ refusal 17 → ⊥
-unfolding signedReply
 later-never set r room p h =
     written-never (planContent (p .m) (wordsOf set) (p .expected)) room
-    (after-number (planWriteReply (planContent (p .m) (wordsOf set) (p .expected)) room) (λ n. after (signReply set r) (λ y. judgeReply (planOf set) y)) 17
-    (λ n g. signed-never set r (after-number (signReply set r) (λ y. judgeReply (planOf set) y) 17 (judged-never (planOf set)) g)) h)
+    (after-number (planWriteReply (planContent (p .m) (wordsOf set) (p .expected)) room) (λ n. signedReply set r (planOf set)) 17
+    (λ n. signed-judged-never 17 set r (planOf set) (signed-never set r) (judged-never (planOf set))) h)
 
 pub record-seventeen : (set r : List ℕ) (k l room : ℕ)
     → (recordReply set r k l room ≡ refusal 17 → (y : ℕ) → y < 2 ^ widthOf set → Explained set y)

@@ -38,6 +38,7 @@ use Rattle.plan_lines.specs.Lines.{refusedLine}
 use Rattle.plan_text.specs.PlanText.{textOf, planText}
 use Rattle.plan_text.proofs.RefusalLaws.{refused-text}
 use Rattle.guarantee.specs.AtWork.{madeReply, planOf, signedReply, recordReply}
+use Rattle.guarantee.proofs.Seventeen.{signed-judged-never}
 
 -- ---- with it and without it
 
@@ -115,11 +116,11 @@ made-not-16 set k l room h =
     (λ p. plan-written-not-16 (planContent (p .m) (wordsOf set) (p .expected)) room) h)
 
 pub record-not-16 : (set r : List ℕ) (k l room : ℕ) → recordReply set r k l room ≡ refusal 16 → ⊥
-unfolding recordReply signedReply
+unfolding recordReply
 record-not-16 set r k l room h =
     made-not-16 set k l room
-    (after-number (madeReply set k l room) (λ n. after (signReply set r) (λ y. judgeReply (planOf set) y)) 16
-    (λ n g. signed-not-16 set r (after-number (signReply set r) (λ y. judgeReply (planOf set) y) 16 (judged-not-16 (planOf set)) g)) h)
+    (after-number (madeReply set k l room) (λ n. signedReply set r (planOf set)) 16
+    (λ n. signed-judged-never 16 set r (planOf set) (signed-not-16 set r) (judged-not-16 (planOf set))) h)
 
 pub text-not-16 : (set : List ℕ) (k l : ℕ) → planText set k l ≡ refusedLine 16 → ⊥
 text-not-16 set k l h = planned-not-16 set k l (refused-text set k l 16 (omega arith) .0 h)
