@@ -89,6 +89,14 @@ pub mod raw {
 
     #[repr(C)]
     #[derive(Clone, Copy, Debug, PartialEq)]
+    pub struct CCutting {
+        pub refusal: u64,
+        pub runs: u64,
+        pub bits: u64,
+    }
+
+    #[repr(C)]
+    #[derive(Clone, Copy, Debug, PartialEq)]
     pub struct CJudged {
         pub refusal: u64,
         pub cancelled: u64,
@@ -165,6 +173,13 @@ pub mod raw {
             words: *mut u64,
             words_len: usize,
         ) -> CPlanned;
+        pub fn canceller_cut(
+            set: *const u8,
+            set_len: usize,
+            k: u64,
+            cuts: *mut u64,
+            cuts_len: usize,
+        ) -> CCutting;
         pub fn canceller_write_plan(
             m: u64,
             words: *const u64,
@@ -183,11 +198,12 @@ pub mod raw {
     }
 }
 
-/// Bytes of the longest set, plan and record, and the most unknown cells and words that there can be.
+/// Bytes of the longest set, plan and record, and the most unknown cells, slices and words that there can be.
 pub const SET_MAX: usize = 34_838;
 pub const PLAN_MAX: usize = 526;
 pub const RECORD_MAX: usize = 16_384;
 pub const UNKNOWNS_MAX: usize = 131_072;
+pub const SLICES_MAX: usize = 512;
 /// The places of the working list that planning is lent.
 pub const WORKING_PLACES: usize = 64;
 pub const WORDS_MAX: usize = 64;
@@ -368,6 +384,15 @@ pub fn plan(set: &[u8]) -> Reply<Plan> {
     let (room, places) = (working.len(), words.len());
     let planned = unsafe { raw::canceller_plan(set.as_ptr(), set.len(), k, room, w, places) };
     plan_of(planned, words)
+}
+
+/// The first slice of each run that the slices are cut into, each run leaving at least k words, and the control bits in all.
+pub fn cut(set: &[u8], k: u64) -> Reply<(Vec<u64>, u64)> {
+    let mut cuts = vec![0; SLICES_MAX];
+    let at = cuts.as_mut_ptr();
+    let cutting = unsafe { raw::canceller_cut(set.as_ptr(), set.len(), k, at, cuts.len()) };
+    cuts.truncate(cutting.runs as usize);
+    accepted(cutting.refusal, (cuts, cutting.bits))
 }
 
 /// The plan file.

@@ -12,18 +12,20 @@
  * No call has a precondition beyond C's own. No call keeps anything between calls; calls on different memory may run at once.
  *
  * The numbers, in the order in which they are looked for, but that 25 is looked for after 3:
- *    1 the set has fewer than 18 bytes                      13 the record has a spare bit set
- *    2 m isn't 1 to 64                                      14 fewer places than unknown cells; in planning: fewer than 64 places
- *    3 the tap word has bit 0 clear or a bit at or above m  15 a column has a bit at or above m
- *    4 the chain count is absent or isn't 1 to 256          17 no X-free combination but the empty one exists
- *    5 the set ends before the last spread word             18 the word list is shorter than q
- *    6 a spread word is zero or has a bit at or above m     19 the plan has fewer than 2 bytes, or its m isn't 1 to 64
- *    7 the slice count is absent or above 512               20 the word count is absent, 0 or above m, or a word is cut off
- *    8 a length isn't what the counts give                  21 the words aren't a reduced list for m
- *    9 a row has a spare bit set                            22 the second count, the length or a spare bit is wrong
- *   10 an unknown cell has its value bit set                23 a signature has a bit at or above m
- *   11 the slice number isn't below s                       24 the output is shorter than the file to be written
- *   12 the record's length isn't s times B                  25 the inversion word has a bit at or above m
+ *    1 the set has fewer than 18 bytes                      14 fewer places than unknown cells; in planning: fewer than 64 places
+ *    2 m isn't 1 to 64                                      15 a column has a bit at or above m
+ *    3 the tap word has bit 0 clear or a bit at or above m  17 no X-free combination but the empty one exists
+ *    4 the chain count is absent or isn't 1 to 256          18 the word list is shorter than q
+ *    5 the set ends before the last spread word             19 the plan has fewer than 2 bytes, or its m isn't 1 to 64
+ *    6 a spread word is zero or has a bit at or above m     20 the word count is absent, 0 or above m, or a word is cut off
+ *    7 the slice count is absent or above 512               21 the words aren't a reduced list for m
+ *    8 a length isn't what the counts give                  22 the second count, the length or a spare bit is wrong
+ *    9 a row has a spare bit set                            23 a signature has a bit at or above m
+ *   10 an unknown cell has its value bit set                24 the output is shorter than the file to be written
+ *   11 the slice number isn't below s                       25 the inversion word has a bit at or above m
+ *   12 the record's length isn't s times B                  26 k isn't 1 to m
+ *   13 the record has a spare bit set                       27 a slice alone leaves fewer than k words
+ *                                                           28 the cut list is shorter than the runs are many
  * There is no 16: it stood for more than m independent columns, which can't come up, and is given to nothing else.
  */
 #ifndef CANCELLER_H
@@ -36,7 +38,7 @@
 extern "C" {
 #endif
 
-#define CANCELLER_VERSION "3.0.1"
+#define CANCELLER_VERSION "3.1.0"
 
 #define CANCELLER_WIDTH_MAX 64
 #define CANCELLER_CHAINS_MAX 256
@@ -55,6 +57,7 @@ typedef struct { uint64_t refusal, rank, q; } canceller_eliminated;
 typedef struct { uint64_t refusal, m, q; } canceller_worded;
 typedef struct { uint64_t refusal, expected; } canceller_expected;
 typedef struct { uint64_t refusal, m, q, expected; } canceller_planned;
+typedef struct { uint64_t refusal, runs, bits; } canceller_cutting;
 typedef struct { uint64_t refusal, cancelled, failed, index; } canceller_judged; /* failed 0: passes, and index is 0; failed 1: fails at index */
 
 /* The set reader. Answers with m, the tap word, the inversion word, n, s and 256 spread words, zero from n on and all zero in a
@@ -109,6 +112,12 @@ canceller_expected   canceller_expect(const uint8_t *set, size_t set_len, const 
  * canceller_plan_words. A refusal writes nothing else. */
 canceller_planned    canceller_plan(const uint8_t *set, size_t set_len, uint64_t *working, size_t working_len,
                                     uint64_t *words, size_t words_len);
+
+/* Cutting: the slices cut into runs, each to be clocked from zero and judged as a set of its own, each leaving at least k words, and each
+ * the longest that does so from its start. The first slice of each run over the front of the cut list; CANCELLER_SLICES_MAX places always
+ * do. Answers with the number of runs and the control bits in all, m times k for each run. The marks alone decide: no cell's value bears
+ * on the answer. A set without slices has no runs. Meets the set's numbers, 26, 27 (any slice), 28. A refusal writes nothing. */
+canceller_cutting    canceller_cut(const uint8_t *set, size_t set_len, uint64_t k, uint64_t *cuts, size_t cuts_len);
 
 /* The plan writer. Answers with the length of the file, and writes it over the front of out.
  * Meets 19 (m), 20 (how many words), 21, 22 (an expected bit at or above q), 24. A refusal writes nothing. */

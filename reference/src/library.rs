@@ -28,7 +28,7 @@ macro_rules! answers {
     };
 }
 
-answers!(CSet CStretch CWritten CClocked CSigned CListed CEliminated CWorded CExpected CPlanned CJudged);
+answers!(CSet CStretch CWritten CClocked CSigned CListed CEliminated CWorded CExpected CPlanned CCutting CJudged);
 
 /// A call that is lent a set, a working list and a word list.
 pub type MakesWords<A> =

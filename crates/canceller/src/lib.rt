@@ -1,4 +1,4 @@
-// The C boundary (include/canceller.h): one function for each call of document 01, under its C name. A call makes the library's
+// The C boundary (include/canceller.h): one function for each call of documents 01 and 02, under its C name. A call makes the library's
 // call and hands its answer back as crossing's struct; it sees every crate whose call it makes, and nothing of the guarantee.
 ghost use mathlib.Core.Path.{_≡_};
 ghost use lib.ListN.{length};
@@ -12,14 +12,16 @@ ghost use Rattle.set_content.specs.Content.{setContent};
 ghost use Rattle.set_writer.specs.Writing.{setWriteReply, setBytes};
 ghost use Rattle.signing.specs.Signing.{signReply};
 ghost use Rattle.columns.specs.Listing.{listReply, columnsAfter};
+ghost use Rattle.cutter.specs.Cutting.{cutReply, cutsAfter};
 ghost use Rattle.plan_file.specs.Layout.{fileWords};
 ghost use Rattle.plan_file.specs.Reading.{planFileReply};
 ghost use Rattle.plan_writer.specs.Writing.{planContent, planBytes, planWriteReply};
 ghost use Rattle.expectation.specs.Expecting.{expectReply};
 ghost use Rattle.planner.specs.Planning.{wordsOf, workingLeft, wordsReply, planReply};
 ghost use Rattle.judge.specs.Verdict.{judgeReply};
-ghost use Rattle.crossing.specs.Boundary.{setOf, stretchOf, writtenOf, registerOf, clockedOf, signedOf, listedOf, eliminatedOf, wordedOf, expectedTo, plannedOf, readOf, judgedOf};
+ghost use Rattle.crossing.specs.Boundary.{setOf, stretchOf, writtenOf, registerOf, clockedOf, signedOf, listedOf, eliminatedOf, wordedOf, expectedTo, plannedOf, readOf, cuttingOf, judgedOf};
 use crossing::CClocked;
+use crossing::CCutting;
 use crossing::CEliminated;
 use crossing::CExpected;
 use crossing::CJudged;
@@ -153,6 +155,16 @@ pub extern "C" fn canceller_plan(set: &[u8], working: &mut [u64], words: &mut [u
     ensures words { λ _. ⌜ now (words .exit) ≡ lent (planReply (now (set .entry)) (length (now (working .entry))) (length (now (words .entry)))) (wordsOf (now (set .entry))) (now (words .entry)) ⌝ }
 {
     crossing::planned_of(planner::plan(set, working, words))
+}
+
+// Cutting: the runs of a set that leave at least k words each. Meets the set's numbers, 26, 27 and 28; the first slice of each run over
+// the front of the list.
+#[no_mangle]
+pub extern "C" fn canceller_cut(set: &[u8], k: u64, cuts: &mut [u64]) -> CCutting
+    ensures answer { λ r. ⌜ r ≡ cuttingOf (cutReply (now (set .entry)) k (length (now (cuts .entry)))) ⌝ }
+    ensures list { λ _. ⌜ now (cuts .exit) ≡ cutsAfter (now (set .entry)) k (now (cuts .entry)) ⌝ }
+{
+    crossing::cutting_of(cutter::cut(set, k, cuts))
 }
 
 // The plan writer. Meets 19, 20, 21, 22 and 24; the file over the front of `out`.

@@ -13,6 +13,7 @@
 --   expectedTo r      the expected bits of a list of words
 --   plannedOf r       planning's m, q and expected bits
 --   readOf r          the plan reader's, which crosses as planning's does
+--   cuttingOf r       cutting's number of runs and control bits
 --   judgedFor b o     judging's cancelled bits b and outcome o: failed is 0 where it passes, and 1 where it fails at index
 --   judgedOf r        judging's reply: its cancelled bits and outcome
 use mathlib.Core.List.{List}
@@ -22,6 +23,7 @@ use Rattle.set_file.specs.Reading.{SetParts}
 use Rattle.slice_rows.specs.Rows.{Stretch}
 use Rattle.elimination.specs.Elimination.{Counts}
 use Rattle.planner.specs.Planning.{WordParts, PlanParts}
+use Rattle.cutter.specs.Cutting.{CutParts}
 use Rattle.plan_file.specs.Checking.{PlanFileParts}
 use Rattle.judge.specs.Verdict.{Outcome, passes, failsAt, Finding}
 use Rattle.register.specs.declared.Register.{Register}
@@ -35,6 +37,7 @@ use Rattle.crossing.specs.declared.CEliminated.{CEliminated}
 use Rattle.crossing.specs.declared.CWorded.{CWorded}
 use Rattle.crossing.specs.declared.CExpected.{CExpected}
 use Rattle.crossing.specs.declared.CPlanned.{CPlanned}
+use Rattle.crossing.specs.declared.CCutting.{CCutting}
 use Rattle.crossing.specs.declared.CJudged.{CJudged}
 
 abbrev pub setOf : Reply SetParts → List ℕ → CSet
@@ -83,6 +86,10 @@ readOf (refusal k) = plannedOf (refusal k)
 abbrev pub expectedTo : Reply ℕ → CExpected
 expectedTo (answer e) = record { refusal = 0; expected = e }
 expectedTo (refusal k) = record { refusal = k; expected = 0 }
+
+abbrev pub cuttingOf : Reply CutParts → CCutting
+cuttingOf (answer p) = record { refusal = 0; runs = p .runs; bits = p .bits }
+cuttingOf (refusal k) = record { refusal = k; runs = 0; bits = 0 }
 
 abbrev pub judgedFor : ℕ → Outcome → CJudged
 judgedFor b passes = record { refusal = 0; cancelled = b; failed = 0; index = 0 }

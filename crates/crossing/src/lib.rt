@@ -12,10 +12,12 @@ ghost use Rattle.columns.specs.Listing.{saidListed};
 ghost use Rattle.plan_file.specs.Reading.{said as saidRead};
 ghost use Rattle.plan_writer.specs.Writing.{said as saidPlanWritten};
 ghost use Rattle.expectation.specs.Expecting.{saidExpected};
+ghost use Rattle.cutter.specs.Cutting.{saidCut};
 ghost use Rattle.planner.specs.Planning.{saidWorded, said as saidPlanned};
 ghost use Rattle.judge.specs.Verdict.{said as saidJudged};
-ghost use Rattle.crossing.specs.Boundary.{setOf, stretchOf, writtenOf, clockedOf, signedOf, listedOf, eliminatedOf, wordedOf, expectedTo, plannedOf, readOf, judgedOf};
+ghost use Rattle.crossing.specs.Boundary.{setOf, stretchOf, writtenOf, clockedOf, signedOf, listedOf, eliminatedOf, wordedOf, expectedTo, plannedOf, readOf, cuttingOf, judgedOf};
 use columns::Listed;
+use cutter::Cut;
 use elimination::Eliminated;
 use expectation::Expected;
 use judge::Judged;
@@ -97,6 +99,13 @@ pub struct CPlanned {
     pub m: u64,
     pub q: u64,
     pub expected: u64,
+}
+
+#[repr(C)]
+pub struct CCutting {
+    pub refusal: u64,
+    pub runs: u64,
+    pub bits: u64,
 }
 
 #[repr(C)]
@@ -310,6 +319,24 @@ pub fn read_of(read: PlanAnswer) -> CPlanned
     match read {
         PlanAnswer::Read { m, q, expected } => planned_of(Planned::Plan { m, q, expected }),
         PlanAnswer::Refused { number } => planned_of(Planned::Refused { number }),
+    }
+}
+
+// Cutting's answer.
+pub fn cutting_of(cut: Cut) -> CCutting
+    ensures { λ r. ⌜ r ≡ cuttingOf (saidCut cut) ⌝ }
+{
+    match cut {
+        Cut::Runs { runs, bits } => CCutting {
+            refusal: 0,
+            runs,
+            bits,
+        },
+        Cut::Refused { number } => CCutting {
+            refusal: number,
+            runs: 0,
+            bits: 0,
+        },
     }
 }
 

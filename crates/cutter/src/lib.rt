@@ -1,0 +1,170 @@
+// Cutting: the slices of a set cut into runs, each of which leaves at least k words, and the control bits of them all. It sees a taken set,
+// the marked words of a row and the elimination's step. It goes through the slices once: all columns of a run clocked together have the rank
+// that they had, so the chains' words are unclocked once for each slice, whatever run it falls in, and only the slice that doesn't fit
+// into a run is put to the words twice.
+ghost use mathlib.Core.Path.{_≡_};
+ghost use Prim.Native.Nat.{_*_, _≤_};
+ghost use lib.ListN.{length, take};
+ghost use Rattle.word.specs.Reply.{numberOf};
+ghost use Rattle.rows.specs.Row.{rowBytes};
+ghost use Rattle.set_layout.specs.Layout.{markAt, widthOf};
+ghost use Rattle.set_file.specs.Reading.{TakenFrom};
+ghost use Rattle.cutter.specs.Cutting.{badShare, cutReply, cutsAfter, saidCut};
+ghost use Rattle.cutter.specs.Turns.{Turned, saidSlices, Sliced};
+use rows::Rows;
+use set_file::SetAnswer;
+use set_file::Taken;
+
+// What cutting answers: the number of runs and the control bits in all, or the first number that applies.
+pub enum Cut {
+    Runs { runs: u64, bits: u64 },
+    Refused { number: u64 },
+}
+
+// What the slices come to: so many runs, or 27.
+enum Slices {
+    Cut { runs: usize },
+    Refused { number: u64 },
+}
+
+// What one slice comes to: so many words are left of the run, and 1 run more was opened or 0.
+struct Turn {
+    left: usize,
+    opened: usize,
+}
+
+// Number 26: whether k isn't 1 to m.
+fn is_bad_share(m: u64, k: u64) -> bool
+    ensures { λ r. ⌜ r ≡ badShare m k ⌝ }
+{
+    (k < 1) | (m < k)
+}
+
+// Where the marks of the unknown cells stand, in a set of n chains.
+fn unknown_rows(n: u16) -> Rows
+    ensures { λ r. ⌜ (r .at ≡ markAt n 0) × (r .stride ≡ 2 * rowBytes n) × (r .bytes ≡ rowBytes n) ⌝ }
+{
+    set_layout::mark_rows(n)
+}
+
+fn no_columns() -> [u64; 256]
+    ensures { λ r. ⌜ length r ≡ 256 ⌝ }
+{
+    [0u64; 256]
+}
+
+fn no_starts() -> [u64; 512]
+    ensures { λ r. ⌜ length r ≡ 512 ⌝ }
+{
+    [0u64; 512]
+}
+
+// The columns of one slice put to the words that the run so far leaves, the first `left` places of `held`; where that leaves fewer than k, to
+// the words of single bits, for the slice then opens a run.
+fn put_slice(held: &mut [u64], left: usize, columns: &[u64], width: usize, k: usize) -> Turn
+    requires { ⌜ (left ≤ 64) × (width ≤ 64) × (length (now held) ≡ 64) ⌝ }
+    ensures few { λ r. ⌜ r .left ≤ 64 ⌝ }
+    ensures one { λ r. ⌜ r .opened ≤ 1 ⌝ }
+    ensures turn { λ r. ⌜ Turned (now (columns .entry)) width k (take left (now (held .entry))) (now (held .exit)) r ⌝ }
+{
+    let joined = elimination::add_columns(&mut held[..left], columns);
+    if k <= joined {
+        return Turn {
+            left: joined,
+            opened: 0,
+        };
+    }
+    let units = elimination::unit_words();
+    elimination::write_front(held, &units);
+    let alone = elimination::add_columns(&mut held[..width], columns);
+    Turn {
+        left: alone,
+        opened: 1,
+    }
+}
+
+// The slices of a taken set, one after the other: the first slice of each run over the front of `starts`, and how many there are; or 27.
+fn cut_slices(taken: Taken, set: &[u8], k: usize, starts: &mut [u64]) -> Slices
+    requires { ⌜ length (now starts) ≡ 512 ⌝ }
+    ensures { λ r. ⌜ (TakenFrom (now (set .entry)) taken → 1 ≤ k → k ≤ widthOf (now (set .entry)) → Sliced (now (set .entry)) k (now (starts .exit)) r) ⌝ }
+{
+    let register = taken.register;
+    let width = register::width_limit(register.m) as usize;
+    let chains = register::chain_limit(taken.n);
+    let slices = register::slice_limit(taken.s);
+    let marks = unknown_rows(taken.n);
+    let spread = taken.spread;
+    let mut words = chains::all_words(spread);
+    let mut columns = no_columns();
+    let mut held = elimination::unit_words();
+    let mut left: usize = 0;
+    let mut runs: usize = 0;
+    let mut t: u16 = 0;
+    while t < slices {
+        let row = rows::row_of(set, marks, t);
+        let place = marked_words::list_row(&mut columns, &words[..chains], row);
+        let turn = put_slice(&mut held, left, &columns[place..], width, k);
+        left = turn.left;
+        if left < k {
+            return Slices::Refused { number: 27 };
+        }
+        starts[runs] = t as u64;
+        runs += turn.opened;
+        unclocking::unclock_words(register, &mut words[..chains]);
+        t += 1;
+    }
+    Slices::Cut { runs }
+}
+
+// The refusal's number; 0 of an answer.
+fn slices_number(slices: Slices) -> u64
+    ensures { λ r. ⌜ r ≡ numberOf (saidSlices slices) ⌝ }
+{
+    match slices {
+        Slices::Cut { runs: _ } => 0,
+        Slices::Refused { number } => number,
+    }
+}
+
+// Cutting of document 02. Answers with the number of runs and the control bits in all, m × k for each run, and writes the first slice of
+// each run over the front of `cuts`. Meets the set's numbers, then 26, 27 and 28. A refusal writes nothing. The set's values change nothing
+// of what it answers and writes (proofs/Theorems.antt, same-cut-reply, same-cuts-after).
+pub fn cut(set: &[u8], k: u64, cuts: &mut [u64]) -> Cut
+    ensures answer { λ r. ⌜ saidCut r ≡ cutReply (now (set .entry)) k (length (now (cuts .entry))) ⌝ }
+    ensures cuts { λ _. ⌜ now (cuts .exit) ≡ cutsAfter (now (set .entry)) k (now (cuts .entry)) ⌝ }
+{
+    let read = set_file::read_set(set);
+    let answer = read.answer;
+    let SetAnswer::Read { register, n, s } = answer else {
+        return Cut::Refused {
+            number: set_file::number_of(answer),
+        };
+    };
+    let m = register.m;
+    if is_bad_share(m, k) {
+        return Cut::Refused { number: 26 };
+    }
+    let spread = read.spread;
+    let taken = Taken {
+        register,
+        n,
+        s,
+        spread,
+    };
+    let mut starts = no_starts();
+    let slices = cut_slices(taken, set, k as usize, &mut starts);
+    let Slices::Cut { runs } = slices else {
+        return Cut::Refused {
+            number: slices_number(slices),
+        };
+    };
+    if cuts.len() < runs {
+        return Cut::Refused { number: 28 };
+    }
+    elimination::write_front(cuts, &starts[..runs]);
+    let count = runs as u64;
+    Cut::Runs {
+        runs: count,
+        bits: m * k * count,
+    }
+}
