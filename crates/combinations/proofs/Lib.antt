@@ -8,3 +8,4 @@ pub mod Reducing
 pub mod Passing
 pub mod Theorems
 pub mod Portions
+pub mod Ranks

@@ -49,13 +49,13 @@ module _ (k : Circuit) where
   unfolding later
   later-none w = refl
 
-  later-xor : (j a b : ℕ) → later k j (bitXor a b) ≡ bitXor (later k j a) (later k j b)
+  pub later-xor : (j a b : ℕ) → later k j (bitXor a b) ≡ bitXor (later k j a) (later k j b)
   unfolding later
   later-xor zero a b = refl
   later-xor (suc j) a b =
       ap (advanced (k .width) (k .taps)) (later-xor j a b) ∙ advanced-xor (k .width) (k .taps) (later k j a) (later k j b)
 
-  later-add : (i j w : ℕ) → later k (i + j) w ≡ later k j (later k i w)
+  pub later-add : (i j w : ℕ) → later k (i + j) w ≡ later k j (later k i w)
   unfolding later
   later-add i zero w = ap (λ (x : ℕ). later k x w) (add-zero i)
   later-add i (suc j) w = ap (λ (x : ℕ). later k x w) (add-suc i j) ∙ ap (advanced (k .width) (k .taps)) (later-add i j w)
