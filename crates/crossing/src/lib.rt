@@ -17,7 +17,7 @@ ghost use Rattle.planner.specs.Planning.{saidWorded, said as saidPlanned};
 ghost use Rattle.judge.specs.Verdict.{said as saidJudged};
 ghost use Rattle.crossing.specs.Boundary.{setOf, stretchOf, writtenOf, clockedOf, signedOf, listedOf, eliminatedOf, wordedOf, expectedTo, plannedOf, readOf, cuttingOf, judgedOf};
 use columns::Listed;
-use cutter::Cut;
+use cutter::Cutting;
 use elimination::Eliminated;
 use expectation::Expected;
 use judge::Judged;
@@ -323,16 +323,16 @@ pub fn read_of(read: PlanAnswer) -> CPlanned
 }
 
 // Cutting's answer.
-pub fn cutting_of(cut: Cut) -> CCutting
-    ensures { λ r. ⌜ r ≡ cuttingOf (saidCut cut) ⌝ }
+pub fn cutting_of(cutting: Cutting) -> CCutting
+    ensures { λ r. ⌜ r ≡ cuttingOf (saidCut cutting) ⌝ }
 {
-    match cut {
-        Cut::Runs { runs, bits } => CCutting {
+    match cutting {
+        Cutting::Runs { runs, bits } => CCutting {
             refusal: 0,
             runs,
             bits,
         },
-        Cut::Refused { number } => CCutting {
+        Cutting::Refused { number } => CCutting {
             refusal: number,
             runs: 0,
             bits: 0,

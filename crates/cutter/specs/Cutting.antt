@@ -30,8 +30,8 @@ use Rattle.set_file.specs.Reading.{setTests}
 use Rattle.signatures.specs.Given.{Given, columnsFor}
 use Rattle.signatures.specs.Sets.{given}
 use Rattle.cutter.specs.Greatest.{greatest}
-use Rattle.cutter.specs.declared.Cut.{Cut}
-use Rattle.cutter.specs.declared.Cut.the-variants.{Runs, Refused}
+use Rattle.cutter.specs.declared.Cutting.{Cutting}
+use Rattle.cutter.specs.declared.Cutting.the-variants.{Runs, Refused}
 
 abbrev pub alone : Given → ℕ → ℕ → Given
 alone g a b =
@@ -88,6 +88,6 @@ cutReply set k room = reply (cutTests set k room) (cutPartsOf set k)
 abbrev pub cutsAfter : List ℕ → ℕ → List ℕ → List ℕ
 cutsAfter set k l = lent (cutReply set k (length l)) (startsOf set k) l
 
-abbrev pub saidCut : Cut → Reply CutParts
+abbrev pub saidCut : Cutting → Reply CutParts
 saidCut (Runs n b) = answer (record { runs = n; bits = b })
 saidCut (Refused n) = refusal n

@@ -16,7 +16,7 @@ use set_file::SetAnswer;
 use set_file::Taken;
 
 // What cutting answers: the number of runs and the control bits in all, or the first number that applies.
-pub enum Cut {
+pub enum Cutting {
     Runs { runs: u64, bits: u64 },
     Refused { number: u64 },
 }
@@ -129,20 +129,20 @@ fn slices_number(slices: Slices) -> u64
 // Cutting of document 02. Answers with the number of runs and the control bits in all, m × k for each run, and writes the first slice of
 // each run over the front of `cuts`. Meets the set's numbers, then 26, 27 and 28. A refusal writes nothing. The set's values change nothing
 // of what it answers and writes (proofs/Theorems.antt, same-cut-reply, same-cuts-after).
-pub fn cut(set: &[u8], k: u64, cuts: &mut [u64]) -> Cut
+pub fn cut(set: &[u8], k: u64, cuts: &mut [u64]) -> Cutting
     ensures answer { λ r. ⌜ saidCut r ≡ cutReply (now (set .entry)) k (length (now (cuts .entry))) ⌝ }
     ensures cuts { λ _. ⌜ now (cuts .exit) ≡ cutsAfter (now (set .entry)) k (now (cuts .entry)) ⌝ }
 {
     let read = set_file::read_set(set);
     let answer = read.answer;
     let SetAnswer::Read { register, n, s } = answer else {
-        return Cut::Refused {
+        return Cutting::Refused {
             number: set_file::number_of(answer),
         };
     };
     let m = register.m;
     if is_bad_share(m, k) {
-        return Cut::Refused { number: 26 };
+        return Cutting::Refused { number: 26 };
     }
     let spread = read.spread;
     let taken = Taken {
@@ -154,16 +154,16 @@ pub fn cut(set: &[u8], k: u64, cuts: &mut [u64]) -> Cut
     let mut starts = no_starts();
     let slices = cut_slices(taken, set, k as usize, &mut starts);
     let Slices::Cut { runs } = slices else {
-        return Cut::Refused {
+        return Cutting::Refused {
             number: slices_number(slices),
         };
     };
     if cuts.len() < runs {
-        return Cut::Refused { number: 28 };
+        return Cutting::Refused { number: 28 };
     }
     elimination::write_front(cuts, &starts[..runs]);
     let count = runs as u64;
-    Cut::Runs {
+    Cutting::Runs {
         runs: count,
         bits: m * k * count,
     }

@@ -103,6 +103,15 @@ module _ (m t : ℕ) (some : 1 ≤ m) (odd : digit 0 t ≡ 1) (within : t < 2 ^ 
   unfolding unclocked
   unclocked-lt w h = xor-lt m (w / 2) (chosen (w % 2) (beforeOne m t)) (omega (arith, h)) (chosen-lt m (w % 2) (beforeOne m t) before-one-lt)
 
+unclocked-zero : (m t : ℕ) → unclocked m t 0 ≡ 0
+unfolding unclocked
+unclocked-zero m t = refl
+
+pub earlier-zero : (k : Circuit) (j : ℕ) → earlier k j 0 ≡ 0
+unfolding earlier
+earlier-zero k zero = refl
+earlier-zero k (suc j) = ap (unclocked (k .width) (k .taps)) (earlier-zero k j) ∙ unclocked-zero (k .width) (k .taps)
+
 module _ (k : Circuit) (some : 1 ≤ k .width) (odd : digit 0 (k .taps) ≡ 1) (within : k .taps < 2 ^ k .width) where
   pub earlier-lt : (j w : ℕ) → w < 2 ^ k .width → earlier k j w < 2 ^ k .width
   unfolding earlier

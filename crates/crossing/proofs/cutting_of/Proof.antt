@@ -5,17 +5,17 @@ use borrow.Author.Needs.{needs}
 use Rattle.crossing.proofs.cutting_of.Statement.{statement}
 use Rattle.crossing.proofs.cutting_of.Tie as tie
 
-enum-known-cut : tie.Need-enum-known-cut
-enum-known-cut c = search needs
+enum-known-cutting : tie.Need-enum-known-cutting
+enum-known-cutting c = search needs
 
-enum-known-cut-2 : tie.Need-enum-known-cut-2
-enum-known-cut-2 c = search needs
+enum-known-cutting-2 : tie.Need-enum-known-cutting-2
+enum-known-cutting-2 c = search needs
 
 returns : tie.Need-returns
-returns c = sym (ap (λ x. cuttingOf (saidCut x)) (c .before .cut .given .1))
+returns c = sym (ap (λ x. cuttingOf (saidCut x)) (c .before .cutting .given .1))
 
 returns-2 : tie.Need-returns-2
-returns-2 c = sym (ap (λ x. cuttingOf (saidCut x)) (c .before .cut2 .given .1))
+returns-2 c = sym (ap (λ x. cuttingOf (saidCut x)) (c .before .cutting2 .given .1))
 
 pub cutting-of-spec : {M : Type 1} → statement M
-cutting-of-spec = tie.close (tie.spec enum-known-cut enum-known-cut-2 returns returns-2)
+cutting-of-spec = tie.close (tie.spec enum-known-cutting enum-known-cutting-2 returns returns-2)
