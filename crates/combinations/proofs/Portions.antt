@@ -1,5 +1,6 @@
 -- Portions of columns, beside portion-after (Theorems.antt). For a width m:
 --
+--   without-columns  without a column the words are those of single bits
 --   order-alike      columns in another order, or more often, have the same reduced list
 --   portion-before   .. so the second portion may also be the one that stands before the first
 --   steps-stay       columns that take no word away leave the words as they are
@@ -20,12 +21,18 @@ use Rattle.word.proofs.SomeLaws.{any-of-append}
 use Rattle.word.proofs.BoolLaws.{iff-eq, true-not-false, or-cases, or-true-left, or-true-right}
 use Rattle.combinations.specs.Combination.{xFree, member}
 use Rattle.combinations.specs.Reduced.{reducedList}
-use Rattle.combinations.specs.Step.{step, steps}
+use Rattle.combinations.specs.Step.{step, steps, units}
 use Rattle.combinations.proofs.XFree.{x-free-cons, x-free-head, x-free-tail}
 use Rattle.combinations.proofs.StepLaws.{step-same, step-less}
 use Rattle.combinations.proofs.Tops.{tops-unique, span-below}
 use Rattle.combinations.proofs.Listed.{listed-tops, listed-span}
-use Rattle.combinations.proofs.Theorems.{portion-after}
+use Rattle.combinations.proofs.Theorems.{kept-list, portion-after}
+
+-- ---- no columns
+
+pub without-columns : (m : ℕ) → units m ≡ reducedList m []
+unfolding steps
+without-columns m = sym (kept-list m [])
 
 -- ---- the order
 

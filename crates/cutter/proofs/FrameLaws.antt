@@ -76,9 +76,13 @@ module _ (g : Given) where
   frames a zero = []
   frames a (suc n) = frames a n ++ framed (a + n)
 
-  pub frames-one : (a : ℕ) → frames a 1 ≡ framed a
+  pub frames-none : (a : ℕ) → frames a 0 ≡ []
   unfolding frames
-  frames-one a = ap framed (add-zero a)
+  frames-none a = refl
+
+  pub frames-suc : (a n : ℕ) → frames a (suc n) ≡ frames a n ++ framed (a + n)
+  unfolding frames
+  frames-suc a n = refl
 
   pub frames-more : (a n j : ℕ) → frames a (n + j) ≡ frames a n ++ frames (a + n) j
   unfolding frames

@@ -9,8 +9,7 @@ use lib.Seq.{take-at, take-all, length-take-le}
 use Rattle.word.specs.Zeros.{zeros, filled}
 use Rattle.combinations.specs.Reduced.{reducedList}
 use Rattle.combinations.specs.Step.{steps, units}
-use Rattle.combinations.proofs.Theorems.{kept-list}
-use Rattle.combinations.proofs.Portions.{portion-before, steps-most}
+use Rattle.combinations.proofs.Portions.{without-columns, portion-before, steps-most}
 use Rattle.parity_table.specs.Table.{ParityTable, tableRun}
 use Rattle.parity_table.proofs.SkipLaws.{table-run-from, next-skipped}
 use Rattle.combinations.proofs.StepLaws.{steps-none}
@@ -89,11 +88,6 @@ module _ (k : Circuit) (s : ℕ) (u : Response) (m : ℕ) (ps : List ℕ) where
       in (sym (length-take-le left l h) ∙ ap length all, all)
 
 -- ---- the start
-
--- without a column the words are those of single bits
-without-columns : (m : ℕ) → units m ≡ reducedList m []
-unfolding steps
-without-columns m = sym (kept-list m [])
 
 module _ (k : Circuit) (s : ℕ) (u : Response) (m : ℕ) (ps ws h : List ℕ) (slices : s ≤ 512) (few : chains k ≤ 256) (narrow : k .width ≤ 64)
     (words : ws ≡ k .spread) (units-there : h ≡ units m) where
