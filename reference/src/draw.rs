@@ -443,17 +443,19 @@ pub fn expectation(both: &mut Both, r: &mut Random) {
     both.expect(&set, &words).ok();
 }
 
-/// Cutting of a set that may be bad, with a cut list of any length. Most k are 1 to m.
+/// Cutting of a set that may be bad, with a cut list of any length. Most k are 1 to m, and most sets have an unknown cell in one slice
+/// and another, so that they are cut.
 pub fn cutting(both: &mut Both, r: &mut Random) -> Reply<Cutting> {
-    let content = small_content(r, 12, 6, 8);
-    let mut set = file_of(&content);
-    if r.one_in(8) {
+    let (m, n, s) = (1 + r.below(12), 1 + r.below(6), r.below(12));
+    let of = r.pick(&[1, 1, 2, 4]) + n / 2;
+    let mut set = file_of(&content(r, m, n, s, 1, of));
+    if r.one_in(16) {
         set = damaged_set(r, &set);
     }
-    let (m, within) = (content.m, 1 + r.below(content.m as usize) as u64);
-    let any = r.word();
-    let k = r.pick(&[within, within, within, 1, 1, 1, m, m + 1, 0, any]);
-    both.cut(&set, k, r.below(9))
+    let (width, within, any) = (m as u64, 1 + r.below(m) as u64, r.word());
+    let bad = r.pick(&[0, width + 1, any]);
+    let k = r.pick(&[within, within, within, within, 1, 1, width, bad]);
+    both.cut(&set, k, r.below(12))
 }
 
 /// A word more or less, another word, another order or another length.
