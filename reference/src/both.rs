@@ -5,6 +5,7 @@
 use crate::fence::{Fenced, SIDES};
 use crate::library::*;
 use crate::random::Random;
+use crate::second::cutting::{cut, Cutting};
 use crate::second::elimination::eliminate;
 use crate::second::plan::{judge, read_plan_into, write_plan, Judged, Plan};
 use crate::second::planning::{expect, plan, plan_words, Planning};
@@ -13,7 +14,7 @@ use crate::second::{word_of, Reply};
 use std::collections::BTreeMap;
 
 /// Each call with the numbers that it can meet, in the order in which it looks for them.
-pub const MEETS: [(&str, &[u64]); 14] = [
+pub const MEETS: [(&str, &[u64]); 15] = [
     ("read_set", &[1, 2, 3, 25, 4, 5, 6, 7, 8, 9, 10]),
     ("value_row", &[1, 2, 3, 25, 4, 5, 6, 7, 8, 9, 10, 11]),
     ("mark_row", &[1, 2, 3, 25, 4, 5, 6, 7, 8, 9, 10, 11]),
@@ -28,6 +29,7 @@ pub const MEETS: [(&str, &[u64]); 14] = [
     ),
     ("expect", &[1, 2, 3, 25, 4, 5, 6, 7, 8, 9, 10, 20, 21]),
     ("plan", &[1, 2, 3, 25, 4, 5, 6, 7, 8, 9, 10, 14, 17, 18]),
+    ("cut", &[1, 2, 3, 25, 4, 5, 6, 7, 8, 9, 10, 26, 27, 28]),
     ("write_plan", &[19, 20, 21, 22, 24]),
     ("read_plan", &[19, 20, 21, 22, 18]),
     ("judge", &[19, 20, 21, 22, 23]),
@@ -452,6 +454,29 @@ impl Both {
         let want = planned_answer(&reply);
         self.makes_words("plan", set, rooms, left, want, canceller_plan);
         reply
+    }
+
+    /// Cutting, with a cut list of `room` places.
+    pub fn cut(&mut self, set: &[u8], k: u64, room: usize) -> Reply<Cutting> {
+        let reply = cut(set, k, room);
+        self.cut_is(set, k, room, &reply);
+        reply
+    }
+
+    /// The library's cutting held to a reply that the test knows in another way, for sets in which the second implementation would
+    /// try ends for too long.
+    pub fn cut_is(&mut self, set: &[u8], k: u64, room: usize, reply: &Reply<Cutting>) {
+        let want = answer(reply, |cutting| CCutting {
+            refusal: 0,
+            runs: cutting.cuts.len() as u64,
+            bits: cutting.bits,
+        });
+        let list = front(reply, |cutting| &cutting.cuts);
+        let lend = [Lend::Bytes(set), Lend::List(room, list)];
+        self.compare("cut", &lend, want, |lent| {
+            let ((set, set_len), (cuts, cuts_len)) = (lent[0].bytes(), lent[1].list());
+            unsafe { canceller_cut(set, set_len, k, cuts, cuts_len) }
+        });
     }
 
     /// The plan writer, with an output of `room` bytes.

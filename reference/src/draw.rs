@@ -2,6 +2,7 @@
 
 use crate::both::Both;
 use crate::random::*;
+use crate::second::cutting::Cutting;
 use crate::second::layout::*;
 use crate::second::plan::{write_plan, Plan};
 use crate::second::planning::WORKING;
@@ -44,6 +45,7 @@ pub fn calls(both: &mut Both, seed: u64) {
         elimination(both, r);
         lent_lists(both, r);
         expectation(both, r);
+        cutting(both, r).ok();
         plan_content(both, r);
         bad_plan(both, r);
     }
@@ -58,6 +60,11 @@ pub fn good_content(both: &mut Both, r: &mut Random, content: &Content) {
         assert_eq!(wrote.is_ok(), room >= length, "{}", both.at);
     }
     every_call(both, &files);
+    // in more slices the second implementation tries ends for too long
+    if content.s < 10 {
+        let k = r.below(content.m as usize + 2) as u64;
+        cut_lists(both, &files.set, k);
+    }
     let row = rows(r, content.spread.len(), 1, 1, 2);
     let state = r.within(content.m as usize);
     let (m, taps, inversion) = (content.m, content.taps, content.inversion);
@@ -65,7 +72,29 @@ pub fn good_content(both: &mut Both, r: &mut Random, content: &Content) {
     assert!(clocked.is_ok(), "{}", both.at);
 }
 
-/// Every call on a good set and a record: with enough room, and with lists around what is needed.
+/// Cutting of a good set: with room enough, and with lists around what is needed.
+fn cut_lists(both: &mut Both, set: &[u8], k: u64) {
+    let cutting = match both.cut(set, k, 512) {
+        Ok(cutting) => cutting,
+        // 26 and 27 come before 28
+        Err(number) => {
+            let again = both.cut(set, k, 0);
+            return assert_eq!(again, Err(number), "{}", both.at);
+        }
+    };
+    let runs = cutting.cuts.len();
+    for room in [runs, runs + 3, runs.saturating_sub(1), 0] {
+        let again = both.cut(set, k, room);
+        let want = if room < runs {
+            Err(28)
+        } else {
+            Ok(cutting.clone())
+        };
+        assert_eq!(again, want, "{}", both.at);
+    }
+}
+
+/// Every call but cutting on a good set and a record: with enough room, and with lists around what is needed.
 pub fn every_call(both: &mut Both, files: &Files) {
     let Files {
         set,
@@ -148,6 +177,9 @@ pub fn set_calls(both: &mut Both, set: &[u8], record: &[u8], unknowns: usize) {
     planning(both, set, WORKING, 64).ok();
     for words in [&[1][..], &[], &[2, 1]] {
         both.expect(set, words).ok();
+    }
+    for (k, room) in [(1, 4), (0, 0)] {
+        both.cut(set, k, room).ok();
     }
 }
 
@@ -409,6 +441,21 @@ pub fn expectation(both: &mut Both, r: &mut Random) {
         change_words(r, m, &mut words);
     }
     both.expect(&set, &words).ok();
+}
+
+/// Cutting of a set that may be bad, with a cut list of any length. Most k are 1 to m, and most sets have an unknown cell in one slice
+/// and another, so that they are cut.
+pub fn cutting(both: &mut Both, r: &mut Random) -> Reply<Cutting> {
+    let (m, n, s) = (1 + r.below(12), 1 + r.below(6), r.below(12));
+    let of = r.pick(&[1, 1, 2, 4]) + n / 2;
+    let mut set = file_of(&content(r, m, n, s, 1, of));
+    if r.one_in(16) {
+        set = damaged_set(r, &set);
+    }
+    let (width, within, any) = (m as u64, 1 + r.below(m) as u64, r.word());
+    let bad = r.pick(&[0, width + 1, any]);
+    let k = r.pick(&[within, within, within, within, 1, 1, width, bad]);
+    both.cut(&set, k, r.below(12))
 }
 
 /// A word more or less, another word, another order or another length.

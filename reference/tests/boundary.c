@@ -52,6 +52,10 @@ FIELD(canceller_planned, refusal, 0);
 FIELD(canceller_planned, m, 1);
 FIELD(canceller_planned, q, 2);
 FIELD(canceller_planned, expected, 3);
+SIZE(canceller_cutting, 3);
+FIELD(canceller_cutting, refusal, 0);
+FIELD(canceller_cutting, runs, 1);
+FIELD(canceller_cutting, bits, 2);
 SIZE(canceller_judged, 4);
 FIELD(canceller_judged, refusal, 0);
 FIELD(canceller_judged, cancelled, 1);
@@ -238,12 +242,39 @@ static void plans(void) {
     printf("judged\n");
 }
 
+/* Cutting, on the sample and on the sample whose slice 1 has chain 0's cell unknown. */
+static void cuttings(void) {
+    uint64_t cuts[3] = {7, 7, 7};
+    MUST(canceller_cut(set, 42, 0, cuts, 3).refusal == 26);
+    MUST(canceller_cut(set, 42, 4, cuts, 3).refusal == 26);
+    MUST(canceller_cut(set, 42, 3, NULL, 0).refusal == 27);
+    canceller_cutting cutting = canceller_cut(set, 42, 2, NULL, 0);
+    MUST(cutting.refusal == 28 && cutting.runs == 0 && cutting.bits == 0);
+    MUST(cuts[0] == 7 && cuts[1] == 7 && cuts[2] == 7);
+    canceller_cutting whole = canceller_cut(set, 42, 2, cuts, 1);
+    MUST(whole.refusal == 0 && whole.runs == 1 && whole.bits == 6);
+    MUST(cuts[0] == 0 && cuts[1] == 7 && cuts[2] == 7);
+
+    uint8_t marked[42];
+    memcpy(marked, set, 42);
+    marked[40] = 0;
+    marked[41] = 1;
+    cuts[0] = 7;
+    MUST(canceller_cut(marked, 42, 2, cuts, 1).refusal == 28 && cuts[0] == 7);
+    cutting = canceller_cut(marked, 42, 2, cuts, 3);
+    MUST(cutting.refusal == 0 && cutting.runs == 2 && cutting.bits == 12);
+    MUST(cuts[0] == 0 && cuts[1] == 1 && cuts[2] == 7);
+    MUST(canceller_cut(NULL, 0, 1, NULL, 0).refusal == 1);
+    printf("cut: %d run, %d bits; %d runs, %d bits\n", (int)whole.runs, (int)whole.bits, (int)cutting.runs, (int)cutting.bits);
+}
+
 int main(void) {
     sets();
     responses();
     eliminations();
     words_and_bits();
     plans();
+    cuttings();
     inverted();
     return 0;
 }

@@ -1,7 +1,7 @@
 //! The C header: compiled as C and as C++ and called on the sample, and held to the Rust declarations and to what the static
-//! library exports. And the Rust wrapper's functions for planning's two calls.
+//! library exports. And the Rust wrapper's functions for planning's two calls and for cutting.
 
-use reference::library::canceller::{expect, plan_words, Refusal};
+use reference::library::canceller::{cut, expect, plan_words, Refusal};
 use reference::repository::{repository, sample, text};
 use std::collections::BTreeMap;
 use std::path::Path;
@@ -32,7 +32,7 @@ fn run(compiler: &str, language: [&str; 2], name: &str) -> String {
 
 const LINES: &str = "set written: 42 bytes\nset read\nrows found\nclocked\nsigned: 3 and 0\ncolumn: 3\neliminated\n\
                      words: 3 4, expected 0, revised 1\nplanned: words 3 4, expected 0\n\
-                     plan written and read: 23 bytes\njudged\ninverted: signed 5, expected 3\n";
+                     plan written and read: 23 bytes\njudged\ncut: 1 run, 6 bits; 2 runs, 12 bits\ninverted: signed 5, expected 3\n";
 
 #[test]
 fn a_c_program_calls_every_function_on_the_sample() {
@@ -59,6 +59,26 @@ fn the_rust_wrapper_gives_the_words_and_the_expected_bits_of_the_sample() {
         assert_eq!(expect(&set, words), expected, "{words:?}");
     }
     assert_eq!(expect(&none, &[1]), Ok(0));
+}
+
+#[test]
+fn the_rust_wrapper_cuts_the_sample() {
+    let (set, none) = (sample("sample.set"), sample("no-words.set"));
+    for (k, cutting) in [
+        (0, Err(Refusal(26))),
+        (1, Ok((vec![0], 3))),
+        (2, Ok((vec![0], 6))),
+        (3, Err(Refusal(27))),
+        (4, Err(Refusal(26))),
+    ] {
+        assert_eq!(cut(&set, k), cutting, "k {k}");
+    }
+    assert_eq!(cut(&none, 1), Err(Refusal(27)));
+    assert_eq!(cut(&sample("slices-0.set"), 3), Ok((vec![], 0)));
+    // slice 1 with an unknown cell too: two runs leave 2 words each, one run leaves 1
+    let marked = [&set[..40], &[0, 1]].concat();
+    assert_eq!(cut(&marked, 2), Ok((vec![0, 1], 12)));
+    assert_eq!(cut(&marked, 1), Ok((vec![0], 3)));
 }
 
 /// A declared thing: the fields of a struct, or a function's parameters with its answer last. Each is a name and a type, written
@@ -168,7 +188,7 @@ fn the_header_and_the_rust_declarations_say_the_same() {
     assert_eq!(functions, rust_functions);
     let parameters: usize = functions.values().map(Vec::len).sum();
     assert!(
-        structs.len() >= 11 && functions.len() >= 14 && parameters >= 70,
+        structs.len() >= 12 && functions.len() >= 15 && parameters >= 76,
         "{structs:?} {functions:?}"
     );
 }

@@ -47,6 +47,10 @@ fn refused_by_all(both: &mut Both, what: &str, set: &[u8], n: u64) {
     for words in [&[1][..], &[], &[1; 65], &[2, 1], &[0]] {
         assert_eq!(number(both.expect(set, words)), n, "{what}, {words:?}");
     }
+    // a good k and bad ones, with and without a list: the set's numbers come before 26 to 28
+    for (k, room) in [(1, 512), (1, 0), (0, 512), (65, 0), (u64::MAX, 0)] {
+        assert_eq!(number(both.cut(set, k, room)), n, "{what}, k {k}");
+    }
 }
 
 #[test]
@@ -260,6 +264,38 @@ fn the_expected_bits() {
         both.at = format!("{name}, words {words:?}");
         let expected = both.expect(&sample(name), words);
         assert_eq!(number(expected), n, "{}", both.at);
+    }
+}
+
+#[test]
+fn cutting() {
+    let mut both = Both::new();
+    // a set, k, the places of the cut list, and the number
+    let lines = [
+        // m is 3, and slice 0 has one unknown cell
+        ("sample.set", 1, 1, 0),
+        ("sample.set", 2, 1, 0),
+        ("sample.set", 0, 1, 26),
+        ("sample.set", 4, 1, 26),
+        ("sample.set", 3, 1, 27),
+        ("sample.set", 2, 0, 28),
+        // .. and everything behind it bad too
+        ("sample.set", 4, 0, 26),
+        ("sample.set", 3, 0, 27),
+        // m is 1, and no word is left
+        ("no-words.set", 0, 0, 26),
+        ("no-words.set", 2, 0, 26),
+        ("no-words.set", 1, 0, 27),
+        ("no-words.set", 1, 9, 27),
+        // m is 3, and there are no runs
+        ("slices-0.set", 3, 0, 0),
+        ("slices-0.set", 4, 0, 26),
+        ("slices-0.set", 0, 0, 26),
+    ];
+    for (name, k, room, n) in lines {
+        both.at = format!("{name}, k {k}, {room} places");
+        let cut = both.cut(&sample(name), k, room);
+        assert_eq!(number(cut), n, "{}", both.at);
     }
 }
 
