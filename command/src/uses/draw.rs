@@ -278,8 +278,9 @@ impl Picture {
                  d=\"M{x} {y}v-8h{across}v8\"/>"
             ));
             if i > 0 {
-                let (x, y) = (number(at(first)), number(top - RUNS));
-                write!(between, "M{x} {y}v{}", number(RUNS + down)).expect("a string grows");
+                // from over the brackets on, and not through the numbers
+                let (x, y) = (number(at(first)), number(top - 15.0));
+                write!(between, "M{x} {y}v{}", number(15.0 + down)).expect("a string grows");
             }
         }
         svg.put(format_args!("<path id=\"cuts\" d=\"{between}\"/></g>"));
