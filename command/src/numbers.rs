@@ -68,6 +68,12 @@ pub fn grouped(number: u64) -> String {
     text
 }
 
+/// So many of something, whose name takes an s where they aren't one.
+pub fn many(count: u64, what: &str) -> String {
+    let plural = if count == 1 { "" } else { "s" };
+    format!("{count} {what}{plural}")
+}
+
 /// What was found where something else was expected, short and printable.
 pub fn found(text: &[u8]) -> String {
     const MOST: usize = 24;

@@ -1,7 +1,7 @@
 //! What the refusal numbers mean, and what to do. A test holds this table to README.md's.
 
 /// Each number, why a call declines with it, and what to do.
-const ALL: [(u64, &str, &str); 24] = [
+const ALL: [(u64, &str, &str); 27] = [
     (1, "the set has fewer than 18 bytes", "the file is empty or cut off"),
     (2, "m isn't 1 to 64", "mend the register's width"),
     (3, "the tap word has bit 0 clear or a bit at or above m", "mend the taps: bit 0 is always set"),
@@ -26,6 +26,9 @@ const ALL: [(u64, &str, &str); 24] = [
     (23, "a signature has a bit at or above m", "the signature is of another register"),
     (24, "the output is shorter than the file to be written", "lend more bytes: 34,838 for a set, 526 for a plan always do"),
     (25, "the inversion word has a bit at or above m", "mend the inversion word: all its bits are below m. A set of version 1 has no inversion word: make it again"),
+    (26, "k isn't 1 to m", "ask for at least one word, and for no more than the register has bits"),
+    (27, "a slice alone leaves fewer than k words", "ask for fewer words; or fewer unknown cells in that slice, or a wider register"),
+    (28, "the cut list is shorter than the runs are many", "lend more places: 512 always do"),
 ];
 
 /// The number of a set that has no words: every signature is explained.

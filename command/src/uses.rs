@@ -1,6 +1,7 @@
 //! The uses. A new one is a module here with its `USE`, and a line in `ALL`.
 
 mod columns;
+mod cut;
 mod draw;
 mod expect;
 mod explain;
@@ -37,12 +38,13 @@ pub struct Use {
 }
 
 /// Every use, in the order in which the help lists them.
-pub const ALL: [&Use; 12] = [
+pub const ALL: [&Use; 13] = [
     &pack::USE,
     &show::USE,
     &plan::USE,
     &expect::USE,
     &words::USE,
+    &cut::USE,
     &sign::USE,
     &judge::USE,
     &draw::USE,

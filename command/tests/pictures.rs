@@ -200,6 +200,190 @@ fn the_largest_response() {
     }
 }
 
+/// A run as a picture shows it.
+#[derive(Debug, PartialEq)]
+struct Run {
+    first: u64,
+    last: u64,
+    words: u64,
+}
+
+/// The numbers in a path or a transform, in their order.
+fn figures(text: &str) -> Vec<f64> {
+    let no_figure = |c: char| !(c.is_ascii_digit() || c == '.' || c == '-');
+    let parts = text.split(no_figure).filter(|part| !part.is_empty());
+    parts.map(|part| part.parse().expect(text)).collect()
+}
+
+/// The runs that a picture shows, held against where they are drawn: a bracket over the slices of each, and between two a line from
+/// over the brackets down to the end of the response.
+fn runs_shown(picture: &Element) -> Vec<Run> {
+    let placed = figures(picture.by_id("cells").attribute("transform"));
+    let [left, top, wide, high] = placed[..] else {
+        panic!("{placed:?}");
+    };
+    let frame = |e: &&Element| e.name == "rect" && e.attributes.get("y") == Some(&top.to_string());
+    let all = picture.all();
+    let frame: Vec<&Element> = all.iter().copied().filter(frame).collect();
+    assert_eq!(frame.len(), 1, "one frame");
+    let down: f64 = frame[0].attribute("height").parse().unwrap();
+    assert!(high <= down, "a chain at least");
+    let is_near = |a: f64, b: f64| (a - b).abs() <= 0.05;
+    let mut runs: Vec<Run> = Vec::new();
+    let mut starts = Vec::new();
+    let is_run = |e: &&&Element| e.attributes.get("class").is_some_and(|c| c == "run");
+    for (i, e) in all.iter().filter(is_run).enumerate() {
+        let number = |name: &str| e.attribute(name).parse::<u64>().unwrap();
+        assert_eq!(number("data-run"), i as u64);
+        let run = Run {
+            first: number("data-first"),
+            last: number("data-last"),
+            words: number("data-words"),
+        };
+        let [x, y, up, across, back] = figures(e.attribute("d"))[..] else {
+            panic!("{}", e.attribute("d"));
+        };
+        assert!(y < top && up < 0.0 && back == -up, "over the response");
+        let (starts_at, ends_at) = (
+            left + run.first as f64 * wide,
+            left + (run.last + 1) as f64 * wide,
+        );
+        let gap = x - starts_at;
+        assert!((0.0..=wide / 4.0).contains(&gap), "{run:?}");
+        assert!(is_near(x + across + gap, ends_at), "{run:?}");
+        if i > 0 {
+            starts.push(starts_at);
+        }
+        runs.push(run);
+    }
+    let lines = figures(picture.by_id("cuts").attribute("d"));
+    assert_eq!(lines.len(), 3 * starts.len(), "a line between two runs");
+    for (line, x) in lines.chunks(3).zip(starts) {
+        let (over, long) = (top - line[1], line[2]);
+        assert!(is_near(line[0], x), "{line:?} at {x}");
+        assert!(over > 8.0 && is_near(long - over, down), "{line:?}");
+    }
+    runs
+}
+
+/// Holds the picture of a set that is cut for k against the lines of `cut`, and against the picture without it.
+fn holds_cut(folder: &Folder, file: &[u8], k: &str) -> (Element, Vec<Run>) {
+    folder.put("a.set", file);
+    let svg = folder.done(&["draw", "a.set", "--cut", k]);
+    let (cut, plain) = (
+        xml::parse(&svg),
+        xml::parse(&folder.done(&["draw", "a.set"])),
+    );
+    let printed = folder.done(&["cut", "a.set", k]);
+    let mut runs = Vec::new();
+    for line in printed.lines().filter(|line| line.starts_with("run ")) {
+        let words: Vec<&str> = line.split(' ').collect();
+        let number = |at: usize| words[at].parse().unwrap();
+        let (first, last, words) = (number(3), number(5), number(7));
+        runs.push(Run { first, last, words });
+    }
+    assert_eq!(runs_shown(&cut), runs, "k {k}");
+    let (_, bits) = printed.split_once(" = ").unwrap();
+    let bits = bits.split(' ').next().unwrap();
+    let group = cut.by_id("runs");
+    assert_eq!(
+        (group.attribute("data-k"), group.attribute("data-bits")),
+        (k, bits)
+    );
+    // what else is shown stays: the cells, the words and every text
+    for id in ["zero", "one", "unknown"] {
+        let path = |picture: &Element| picture.by_id(id).attribute("d").to_string();
+        assert_eq!(path(&cut), path(&plain), "{id}");
+    }
+    assert_eq!(words_shown(&cut), words_shown(&plain));
+    let texts = cut.texts();
+    assert!(plain.texts().iter().all(|text| texts.contains(text)));
+    (cut, runs)
+}
+
+#[test]
+fn a_cut_response_shows_its_runs() {
+    let folder = Folder::new("runs_drawn");
+    let (picture, runs) = holds_cut(&folder, &sample("runs.set"), "2");
+    let firsts: Vec<u64> = runs.iter().map(|run| run.first).collect();
+    assert_eq!(firsts, [0, 4, 7]);
+    let texts = picture.texts();
+    let heading = "cut for K 2: 3 runs, 24 control bits".to_string();
+    assert!(texts.contains(&heading), "{texts:?}");
+    // the numbers of the runs, in their row, each over the middle of its run: slices of 28 from 64 on
+    let all = picture.all();
+    let row = all
+        .iter()
+        .find(|e| e.text == "run")
+        .expect("the row's name")
+        .attribute("y");
+    let in_row = |e: &&&Element| e.attributes.get("y").is_some_and(|y| y == row);
+    let numbers: Vec<(&str, &str)> = all
+        .iter()
+        .filter(in_row)
+        .filter(|e| e.name == "text" && e.text != "run")
+        .map(|e| (e.text.as_str(), e.attribute("x")))
+        .collect();
+    assert_eq!(numbers, [("0", "120"), ("1", "218"), ("2", "274")]);
+    let (picture, runs) = holds_cut(&folder, &sample("slices-0.set"), "3");
+    assert!(runs.is_empty());
+    let heading = "cut for K 3: 0 runs, 0 control bits".to_string();
+    assert!(picture.texts().contains(&heading));
+}
+
+#[test]
+fn without_the_option_no_run_is_drawn() {
+    let folder = Folder::new("no_runs_drawn");
+    folder.put("a.set", sample("runs.set"));
+    let picture = folder.done(&["draw", "a.set"]);
+    assert!(!picture.contains("id=\"runs\"") && !picture.contains("cut for"));
+    folder.done(&["draw", "a.set", "--cut", "2", "-o", "a.svg"]);
+    assert!(folder.text("a.svg").contains("id=\"runs\""));
+}
+
+#[test]
+fn random_responses_that_are_cut() {
+    let folder = Folder::new("random_runs_drawn");
+    let mut several = 0;
+    for seed in 0..40 {
+        let mut r = Random::new(seed);
+        let file = file_of(&content(&mut r, 8, 12, 40, 1, 60));
+        folder.put("a.set", &file);
+        let k = r.pick(&["1", "3", "5", "6"]);
+        if folder.run(&["cut", "a.set", k]).status == 0 {
+            several += usize::from(holds_cut(&folder, &file, k).1.len() > 1);
+        }
+    }
+    assert!(several >= 15, "{several} with several runs are too few");
+}
+
+/// Where the runs are too narrow for their numbers some are left out, and those that are there don't run into each other.
+#[test]
+fn the_numbers_of_many_runs_stay_apart() {
+    let folder = Folder::new("many_runs_drawn");
+    let text = "width 64\ntaps 27\nchains 1\nspread 0 1\nslices 512\n";
+    folder.put("a.txt", format!("{text}{}", "X\n".repeat(512)));
+    folder.done(&["pack", "a.txt", "-o", "b.set"]);
+    let (picture, runs) = holds_cut(&folder, &folder.get("b.set"), "63");
+    assert_eq!(runs.len(), 512);
+    let heading = "cut for K 63: 512 runs, 2,064,384 control bits".to_string();
+    assert!(picture.texts().contains(&heading));
+    let all = picture.all();
+    let row = all.iter().find(|e| e.text == "run").unwrap().attribute("y");
+    let mut free = 0.0;
+    let mut numbers = 0;
+    for e in all.iter().filter(|e| e.name == "text" && e.text != "run") {
+        if e.attribute("y") == row {
+            let x: f64 = e.attribute("x").parse().unwrap();
+            let half = e.text.len() as f64 * 7.224 / 2.0;
+            assert!(x - half >= free, "{} at {x}", e.text);
+            free = x + half;
+            numbers += 1;
+        }
+    }
+    assert!((20..512).contains(&numbers), "{numbers} numbers");
+}
+
 /// What a map shows: the kind of each die by its place.
 fn dies_shown(map: &Element, left: i32, top: i32) -> BTreeMap<(i32, i32), String> {
     let mut dies = BTreeMap::new();

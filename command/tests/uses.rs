@@ -28,14 +28,16 @@ fn every_use_on_the_sample() {
     assert_eq!(folder.get("sample.set"), sample("sample.set"));
     let second = second_plan(&sample("sample.set")).unwrap();
     assert_eq!(folder.get("sample.plan"), write_plan(&second, 526).unwrap());
-    let prints: [(&[&str], &str); 16] = [
+    let prints: [(&[&str], &str); 22] = [
         (&["show", "sample.set"], "show.txt"),
         (&["plan", "sample.set"], "plan.txt"),
         (&["words", "sample.plan"], "words.txt"),
+        (&["cut", "sample.set", "2"], "cut.txt"),
         (&["columns", "sample.set"], "columns.txt"),
         (&["draw", "sample.set"], "draw.svg"),
         (&["explain", "17"], "explain-17.txt"),
         (&["explain", "25"], "explain-25.txt"),
+        (&["explain", "27"], "explain-27.txt"),
         (&["help", "explain"], "help-explain.txt"),
         (&["--help"], "help.txt"),
         (&["help"], "help.txt"),
@@ -45,6 +47,10 @@ fn every_use_on_the_sample() {
         (&["help", "pack"], "help-pack.txt"),
         (&["help", "expect"], "help-expect.txt"),
         (&["expect", "-h"], "help-expect.txt"),
+        (&["help", "cut"], "help-cut.txt"),
+        (&["cut", "--help"], "help-cut.txt"),
+        (&["help", "draw"], "help-draw.txt"),
+        (&["draw", "-h"], "help-draw.txt"),
     ];
     for (words, name) in prints {
         assert_eq!(folder.done(words), stored(name), "{words:?}");
@@ -108,7 +114,7 @@ fn the_plans_of_all_samples() {
         }
         count += 1;
     }
-    assert_eq!(count, 29, "stored samples");
+    assert_eq!(count, 30, "stored samples");
 }
 
 /// The command lends planning 64 working places and the plan printer lends 4,096: that changes nothing, however many cells are unknown.
@@ -173,8 +179,9 @@ fn changed_sample(at: usize, bytes: &[u8]) -> Vec<u8> {
     set
 }
 
-/// The numbers 1 to 10, 12, 13, 17, 19 to 23 and 25, each by a use that meets it, and those of a set by every use that reads one. The
-/// command lends room enough that 14, 18 and 24 can't come up, asks for no slice that isn't there (11), and hands no columns over (15).
+/// The numbers 1 to 10, 12, 13, 17, 19 to 23 and 25 to 27, each by a use that meets it, and those of a set by every use that reads one.
+/// The command lends room enough that 14, 18, 24 and 28 can't come up, asks for no slice that isn't there (11), and hands no columns
+/// over (15).
 #[test]
 fn every_refusal_number() {
     let folder = with_sample("refusals");
@@ -228,6 +235,13 @@ fn every_refusal_number() {
         refused(&["show", "bad.set"], "bad.set", number);
         refused(&["columns", "bad.set"], "bad.set", number);
         refused(&["draw", "bad.set"], "bad.set", number);
+        // the set's numbers come before 26
+        refused(&["draw", "bad.set", "--cut", "0"], "bad.set", number);
+        refused(&["cut", "bad.set", "0"], "bad.set", number);
+    }
+    for (k, number) in [("0", 26), ("4", 26), ("3", 27)] {
+        refused(&["cut", "sample.set", k], "sample.set", number);
+        refused(&["draw", "sample.set", "--cut", k], "sample.set", number);
     }
     for (record, number) in [(&[1u8][..], 12), (&[1, 1, 1], 12), (&[4, 0], 13)] {
         folder.put("bad.record", record);
@@ -267,7 +281,7 @@ fn every_refusal_number() {
     refused(&["judge", "sample.plan", "8"], "signature 8", 23);
     met.sort_unstable();
     met.dedup();
-    let met_by_a_use = (1..=10).chain([12, 13, 17]).chain(19..=23).chain([25]);
+    let met_by_a_use = (1..=10).chain([12, 13, 17]).chain(19..=23).chain(25..=27);
     assert_eq!(met, met_by_a_use.collect::<Vec<u64>>());
 }
 
@@ -406,16 +420,21 @@ fn numbers_of_the_header() -> Vec<u64> {
     let header = text("include/canceller.h");
     let (_, list) = header.split_once("is looked for after 3:\n").unwrap();
     let (list, _) = list.split_once(" * There is no 16: ").unwrap();
-    let entry = |line: &str, at: usize| line[at..at + 2].trim().parse().expect("an entry's number");
+    let entry = |line: &str, at: usize| line[at..at + 2].trim().to_string();
     let column = |at| list.lines().map(move |line| entry(line, at));
-    COLUMNS.into_iter().flat_map(column).collect()
+    // the first column may be shorter than the second
+    let entries = COLUMNS.into_iter().flat_map(column);
+    let numbers = entries.filter(|entry| !entry.is_empty());
+    numbers
+        .map(|entry| entry.parse().expect("an entry's number"))
+        .collect()
 }
 
 /// The numbers of the refusals: 16 is a gap, and nothing is renumbered to fill it.
 #[test]
 fn explain_says_what_the_readme_and_the_header_list() {
     let folder = Folder::new("explain");
-    let numbers: Vec<u64> = (1..=25).filter(|&n| n != 16).collect();
+    let numbers: Vec<u64> = (1..=28).filter(|&n| n != 16).collect();
     for &number in &numbers {
         let (why, advice) = row_of_readme(number);
         let told = folder.done(&["explain", &number.to_string()]);
@@ -427,17 +446,17 @@ fn explain_says_what_the_readme_and_the_header_list() {
     let first = row_of_readme(17).0;
     assert_eq!(first, "no X-free combination but the empty one exists");
     assert_eq!(row_of_readme(15).0, "a column has a bit at or above m");
-    for bad in ["0", "26", "x", "18446744073709551615"] {
+    for bad in ["0", "29", "x", "18446744073709551615"] {
         let ran = folder.run(&["explain", bad]);
         let message =
-            format!("canceller: explain: expected a number from 1 to 25 but 16, found '{bad}'\n");
+            format!("canceller: explain: expected a number from 1 to 28 but 16, found '{bad}'\n");
         assert_eq!((ran.status, ran.err), (3, message));
     }
     let gap = folder.run(&["explain", "16"]);
     let message =
         "canceller: explain: no call gives 16: more than m independent columns can't come up\n";
     assert_eq!((gap.status, gap.err.as_str()), (3, message));
-    assert_eq!((told_in_readme(16), told_in_readme(26)), (None, None));
+    assert_eq!((told_in_readme(16), told_in_readme(29)), (None, None));
     assert!(text("README.md")
         .contains("\nThere is no 16. It stood for more than m independent columns"));
     assert_eq!(numbers_of_the_header(), numbers);
@@ -473,8 +492,8 @@ fn the_manual_page_has_every_use() {
     let manual = manual.split_whitespace().collect::<Vec<&str>>().join(" ");
     let mut count = 0;
     for name in [
-        "pack", "show", "plan", "expect", "words", "sign", "judge", "draw", "columns", "explain",
-        "help", "version",
+        "pack", "show", "plan", "expect", "words", "cut", "sign", "judge", "draw", "columns",
+        "explain", "help", "version",
     ] {
         let help = folder.done(&["help", name]);
         for form in help.lines().filter_map(|line| line.strip_prefix("usage: ")) {
@@ -482,7 +501,7 @@ fn the_manual_page_has_every_use() {
             count += 1;
         }
     }
-    assert_eq!(count, 14, "forms");
+    assert_eq!(count, 15, "forms");
 }
 
 #[test]
@@ -498,7 +517,7 @@ fn the_help_fits_a_screen() {
 #[test]
 fn wrong_usage() {
     let folder = with_sample("usage");
-    let cases: [(&[&str], &str); 21] = [
+    let cases: [(&[&str], &str); 30] = [
         (&["jugde"], "no use 'jugde': did you mean 'canceller judge'?"),
         (&["colums", "x"], "no use 'colums': did you mean 'canceller columns'?"),
         (&["frobnicate"], "no use 'frobnicate': 'canceller --help' lists the uses"),
@@ -512,6 +531,15 @@ fn wrong_usage() {
         (&["expect", "sample.plan"], "expect: something is missing"),
         (&["expect", "sample.plan", "sample.set", "c"], "expect: 'c' is one too many"),
         (&["expect", "-", "-"], "expect: standard input can't be both the plan and the set"),
+        (&["ctu", "a", "2"], "no use 'ctu': did you mean 'canceller cut'?"),
+        (&["cut"], "cut: something is missing"),
+        (&["cut", "sample.set"], "cut: something is missing"),
+        (&["cut", "sample.set", "2", "3"], "cut: '3' is one too many"),
+        (&["cut", "sample.set", "two"], "cut: expected K, a number from 0 to 2^64 - 1, decimal or 0x.., found 'two'"),
+        (&["cut", "none.set", "18446744073709551616"], "cut: expected K, a number from 0 to 2^64 - 1, decimal or 0x.., found '18446744073709551616'"),
+        (&["cut", "sample.set", "-1"], "cut: no option -1"),
+        (&["draw", "sample.set", "--cut"], "draw: --cut needs a value"),
+        (&["draw", "sample.set", "--cut", "-1"], "draw: expected K, a number from 0 to 2^64 - 1, decimal or 0x.., found '-1'"),
         (&["sign", "-", "-"], "sign: standard input can't be both the set and the record"),
         (&["judge", "sample.plan"], "judge: no signature is given"),
         (&["judge", "sample.plan", "1", "--csv", "a"], "judge: signatures and --csv don't go together"),

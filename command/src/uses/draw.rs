@@ -1,33 +1,42 @@
 //! The response of a set as a picture, with its words under it.
 
+use super::cut::{least_words, Cutting};
 use super::{Input, Use};
 use crate::arguments::Given;
 use crate::canceller::{self, Plan, Refusal, Reply, Set, SET_MAX};
 use crate::ending::{Outcome, Status};
+use crate::numbers::{grouped, many};
 use crate::refusals::NO_WORDS;
 use crate::svg::{number, ticks, Svg, LETTER};
 use crate::text_form::{cells_of, Cell};
-use crate::{bits, files, numbers};
+use crate::{bits, files};
 use std::fmt::Write;
 
 pub const USE: Use = Use {
     name: "draw",
-    forms: &["draw FILE.set [-o FILE.svg]"],
+    forms: &["draw FILE.set [--cut K] [-o FILE.svg]"],
     does: "draw the response and its words as SVG",
     more: "\
 Slices go across and chains down. A cell that is 0 is empty, one that is 1 is filled, and an unknown one is crossed. Under the
 response stand the rank, q and each word as a row of register bits, M1 (bit 0) first. A set for which no words exist (refusal
 17) is drawn too, and the picture says so.
 
-Example: canceller draw sample.set -o sample.svg",
-    options: &["-o"],
+With --cut K the picture shows the runs of 'canceller cut FILE.set K' too: a bracket with the run's number over the slices of
+each, a line between two runs, and how many runs and control bits there are. The words under the response are still those of
+the whole of it.
+
+Example: canceller draw sample.set -o sample.svg
+         canceller draw runs.set --cut 2 -o runs.svg",
+    options: &["--cut", "-o"],
     operands: 1..=1,
     run,
 };
 
 fn run(given: &Given) -> Outcome {
+    let k = given.option("--cut").map(|k| least_words(&USE, k));
+    let k = k.transpose()?;
     let set = Input::read(&given.operands[0], SET_MAX)?;
-    let picture = set.ask(|file| Picture::of(file, &set.name))?.drawn();
+    let picture = set.ask(|file| Picture::of(file, &set.name, k))?.drawn();
     files::write(given.option("-o"), picture.as_bytes())?;
     Ok(Status::Done)
 }
@@ -39,6 +48,8 @@ struct Picture {
     slices: Vec<Vec<Cell>>,
     /// None where there are no words.
     plan: Option<Plan>,
+    /// None where no runs are asked for.
+    cutting: Option<Cutting>,
 }
 
 /// The kinds of cells: what they are called, and how they are filled. Unknown cells are the darkest, so that few of them are seen
@@ -56,9 +67,11 @@ const ROOM: f64 = 6.0;
 const BAR: f64 = 80.0;
 const LEFT: f64 = 64.0;
 const TOP: f64 = 88.0;
+/// The height of the runs' brackets and numbers, between the axis of the slices and the response.
+const RUNS: f64 = 32.0;
 
 impl Picture {
-    fn of(file: &[u8], name: &str) -> Reply<Picture> {
+    fn of(file: &[u8], name: &str, k: Option<u64>) -> Reply<Picture> {
         let set = canceller::read_set(file)?;
         let plan = match canceller::plan(file) {
             Ok(plan) => Some(plan),
@@ -70,6 +83,7 @@ impl Picture {
             slices: cells_of(file, &set)?,
             set,
             plan,
+            cutting: k.map(|k| Cutting::of(file, k)).transpose()?,
         })
     }
 
@@ -80,6 +94,17 @@ impl Picture {
             side(1280.0, self.slices.len()),
             side(800.0, self.set.spread.len()),
         )
+    }
+
+    /// The room between the axis of the slices and the response: that of the runs.
+    fn runs_high(&self) -> f64 {
+        self.cutting.as_ref().map_or(0.0, |_| RUNS)
+    }
+
+    /// Where the response starts: runs take a heading more, and their room.
+    fn top(&self) -> f64 {
+        let heading = self.cutting.as_ref().map_or(0.0, |_| LINE);
+        TOP + heading + self.runs_high()
     }
 
     fn words(&self) -> &[u64] {
@@ -100,16 +125,17 @@ impl Picture {
         let across = wide * self.slices.len() as f64;
         let down = high * self.set.spread.len() as f64;
         let headings = self.headings();
+        let cut = self.cutting.as_ref().map(cut_heading);
         let bars = if wide.min(high) < ROOM {
             BAR + 24.0
         } else {
             0.0
         };
-        let under = TOP + down + 28.0 + bars;
+        let under = self.top() + down + 28.0 + bars;
         let words_top = under + 4.0 * LINE + 44.0;
         let height = words_top + self.words().len() as f64 * LINE + MARGIN;
         let letters = |text: &String| text.chars().count() as f64 * LETTER;
-        let longest = headings.iter().map(letters).fold(0.0, f64::max);
+        let longest = headings.iter().chain(&cut).map(letters).fold(0.0, f64::max);
         let width = (LEFT + across + bars)
             .max(self.words_width())
             .max(MARGIN + longest)
@@ -123,9 +149,15 @@ impl Picture {
         ));
         svg.text(MARGIN, 28.0, &headings[0]);
         svg.text(MARGIN, 28.0 + LINE, &headings[1]);
+        if let Some(cut) = &cut {
+            svg.text(MARGIN, 28.0 + 2.0 * LINE, cut);
+        }
         self.draw_axes(&mut svg, wide, high);
         self.draw_cells(&mut svg, wide, high);
         self.draw_lines(&mut svg, wide, high);
+        if let Some(cutting) = &self.cutting {
+            self.draw_runs(&mut svg, cutting, wide, down);
+        }
         if wide.min(high) < ROOM {
             self.draw_bars(&mut svg, wide, high);
         }
@@ -137,9 +169,8 @@ impl Picture {
 
     /// The two lines over the response, and the one over the words.
     fn headings(&self) -> [String; 3] {
-        let (set, s) = (&self.set, self.slices.len());
-        let many = |n: usize, what: &str| format!("{n} {what}{}", if n == 1 { "" } else { "s" });
-        let unknown = self.count(Cell::Unknown);
+        let (set, n) = (&self.set, self.set.spread.len() as u64);
+        let unknown = self.count(Cell::Unknown) as u64;
         // what no word is left for has full rank: q is m less the rank
         let q = self.words().len();
         let rank = set.m - q as u64;
@@ -157,8 +188,8 @@ impl Picture {
                 "m {}, taps {}, {inversion}{}, {}",
                 set.m,
                 set.taps,
-                many(set.spread.len(), "chain"),
-                many(s, "slice")
+                many(n, "chain"),
+                many(set.s, "slice")
             ),
             format!(
                 "{}, rank {rank}, q {q}{none}",
@@ -173,23 +204,24 @@ impl Picture {
     }
 
     fn draw_axes(&self, svg: &mut Svg, wide: f64, high: f64) {
-        svg.text(LEFT, TOP - 22.0, "slice");
+        let (top, over) = (self.top(), self.top() - self.runs_high());
+        svg.text(LEFT, over - 22.0, "slice");
         for slice in ticks(0, self.slices.len() as i64 - 1, wide, 26.0) {
             let x = LEFT + (slice as f64 + 0.5) * wide;
-            svg.anchored(x, TOP - 6.0, "middle", &slice.to_string());
+            svg.anchored(x, over - 6.0, "middle", &slice.to_string());
         }
-        svg.anchored(LEFT - 8.0, TOP - 6.0, "end", "chain");
+        svg.anchored(LEFT - 8.0, top - 6.0, "end", "chain");
         for chain in ticks(0, self.set.spread.len() as i64 - 1, high, 16.0) {
-            let y = TOP + (chain as f64 + 0.5) * high + 4.0;
+            let y = top + (chain as f64 + 0.5) * high + 4.0;
             svg.anchored(LEFT - 8.0, y, "end", &chain.to_string());
         }
     }
 
     /// A path for each kind, with a square for each cell whose corner is its slice and its chain.
     fn draw_cells(&self, svg: &mut Svg, wide: f64, high: f64) {
-        let (wide, high) = (number(wide), number(high));
+        let (wide, high, top) = (number(wide), number(high), self.top());
         svg.put(format_args!(
-            "<g id=\"cells\" transform=\"translate({LEFT} {TOP}) scale({wide} {high})\">"
+            "<g id=\"cells\" transform=\"translate({LEFT} {top}) scale({wide} {high})\">"
         ));
         for (kind, name, _, fill) in KINDS {
             let mut path = String::new();
@@ -208,23 +240,69 @@ impl Picture {
 
     /// Lines between the cells, where there is room for them, and a frame.
     fn draw_lines(&self, svg: &mut Svg, wide: f64, high: f64) {
-        let (s, n) = (self.slices.len(), self.set.spread.len());
+        let (s, n, top) = (self.slices.len(), self.set.spread.len(), self.top());
         let (across, down) = (number(wide * s as f64), number(high * n as f64));
         let mut path = String::new();
         for slice in (1..s).filter(|_| wide >= ROOM) {
             let x = number(LEFT + slice as f64 * wide);
-            write!(path, "M{x} {TOP}v{down}").expect("a string grows");
+            write!(path, "M{x} {top}v{down}").expect("a string grows");
         }
         for chain in (1..n).filter(|_| high >= ROOM) {
-            let y = number(TOP + chain as f64 * high);
+            let y = number(top + chain as f64 * high);
             write!(path, "M{LEFT} {y}h{across}").expect("a string grows");
         }
         svg.put(format_args!(
             "<path d=\"{path}\" stroke=\"#888888\" stroke-width=\"0.5\" fill=\"none\"/>"
         ));
         svg.put(format_args!(
-            "<rect x=\"{LEFT}\" y=\"{TOP}\" width=\"{across}\" height=\"{down}\" fill=\"none\" stroke=\"#000000\"/>"
+            "<rect x=\"{LEFT}\" y=\"{top}\" width=\"{across}\" height=\"{down}\" fill=\"none\" stroke=\"#000000\"/>"
         ));
+    }
+
+    /// Over each run a bracket with its number, where there is room for it, and between two runs a line down through the response.
+    fn draw_runs(&self, svg: &mut Svg, cutting: &Cutting, wide: f64, down: f64) {
+        let (top, k, bits) = (self.top(), cutting.k, cutting.bits);
+        let at = |slice: u64| LEFT + slice as f64 * wide;
+        svg.put(format_args!(
+            "<g id=\"runs\" data-k=\"{k}\" data-bits=\"{bits}\" stroke=\"#1f3b57\" stroke-width=\"{}\" fill=\"none\">",
+            number((wide / 4.0).clamp(0.5, 2.0))
+        ));
+        let mut between = String::new();
+        for (i, run) in cutting.runs.iter().enumerate() {
+            let (first, last, words) = (run.first, run.last, run.words);
+            let gap = (wide / 8.0).min(2.0);
+            let (left, right) = (at(first) + gap, at(last + 1) - gap);
+            let (x, y, across) = (number(left), number(top - 4.0), number(right - left));
+            svg.put(format_args!(
+                "<path class=\"run\" data-run=\"{i}\" data-first=\"{first}\" data-last=\"{last}\" data-words=\"{words}\" \
+                 d=\"M{x} {y}v-8h{across}v8\"/>"
+            ));
+            if i > 0 {
+                // from over the brackets on, and not through the numbers
+                let (x, y) = (number(at(first)), number(top - 15.0));
+                write!(between, "M{x} {y}v{}", number(15.0 + down)).expect("a string grows");
+            }
+        }
+        svg.put(format_args!("<path id=\"cuts\" d=\"{between}\"/></g>"));
+        self.draw_run_numbers(svg, cutting, wide);
+    }
+
+    fn draw_run_numbers(&self, svg: &mut Svg, cutting: &Cutting, wide: f64) {
+        let y = self.top() - 18.0;
+        if !cutting.runs.is_empty() {
+            svg.anchored(LEFT - 8.0, y, "end", "run");
+        }
+        let mut free = LEFT;
+        for (i, run) in cutting.runs.iter().enumerate() {
+            let text = i.to_string();
+            let long = text.len() as f64 * LETTER;
+            let x = LEFT + (run.first + run.last + 1) as f64 / 2.0 * wide;
+            // the first is always there; a number that would run into the one before it is left out
+            if i == 0 || x - long / 2.0 >= free {
+                svg.anchored(x, y, "middle", &text);
+                free = x + long / 2.0 + LETTER;
+            }
+        }
     }
 
     /// How many unknown cells each slice has, and each chain.
@@ -247,9 +325,10 @@ impl Picture {
     /// A bar under each slice and behind each chain that has unknown cells, as long as they are many.
     fn draw_bars(&self, svg: &mut Svg, wide: f64, high: f64) {
         let (by_slice, by_chain) = self.unknowns();
+        let top = self.top();
         let (right, bottom) = (
             LEFT + wide * by_slice.len() as f64 + 8.0,
-            TOP + high * by_chain.len() as f64 + 8.0,
+            top + high * by_chain.len() as f64 + 8.0,
         );
         let most = |counts: &[usize]| counts.iter().copied().max().unwrap_or(0).max(1);
         let long = |count: usize, most: usize| number((BAR * count as f64 / most as f64).max(2.0));
@@ -264,7 +343,7 @@ impl Picture {
             write!(path, "M{x} {y}h{w}v{h}h-{w}z").expect("a string grows");
         }
         for (chain, count) in some(&by_chain) {
-            let (x, y) = (number(right), number(TOP + chain as f64 * high));
+            let (x, y) = (number(right), number(top + chain as f64 * high));
             let (w, h) = (long(count, most(&by_chain)), number(high));
             write!(path, "M{x} {y}h{w}v{h}h-{w}z").expect("a string grows");
         }
@@ -275,8 +354,8 @@ impl Picture {
         svg.anchored(LEFT - 8.0, bottom + 12.0, "end", "X");
         let under = format!("X in each slice: {}", up_to(&by_slice));
         svg.text(LEFT, bottom + BAR + 14.0, &under);
-        svg.text(right, TOP - 22.0, "X in each");
-        svg.text(right, TOP - 6.0, &format!("chain: {}", up_to(&by_chain)));
+        svg.text(right, top - 22.0, "X in each");
+        svg.text(right, top - 6.0, &format!("chain: {}", up_to(&by_chain)));
     }
 
     fn draw_legend(&self, svg: &mut Svg, top: f64) {
@@ -287,7 +366,7 @@ impl Picture {
                  stroke=\"#000000\" stroke-width=\".06\"/></g>",
                 number(y - 11.0)
             ));
-            let count = numbers::grouped(self.count(kind) as u64);
+            let count = grouped(self.count(kind) as u64);
             let cells = if count == "1" { "cell" } else { "cells" };
             svg.text(MARGIN + 22.0, y, &format!("{what}: {count} {cells}"));
         }
@@ -355,4 +434,12 @@ impl Picture {
             svg.text(behind, y, &text);
         }
     }
+}
+
+/// The line over the response that says what it is cut into.
+fn cut_heading(cutting: &Cutting) -> String {
+    let runs = many(cutting.runs.len() as u64, "run");
+    let bits = grouped(cutting.bits);
+    let control = if cutting.bits == 1 { "bit" } else { "bits" };
+    format!("cut for K {}: {runs}, {bits} control {control}", cutting.k)
 }
