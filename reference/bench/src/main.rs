@@ -3,8 +3,8 @@
 //! of how listing and planning grow, drawn as a picture.
 //!
 //! `bench` prints the tables, `bench PICTURE` also writes the picture. `bench --count CALL SIDE TIMES` makes one call so many times
-//! and nothing else, for counting instructions; SIDE is `ours`, `rust`, `plain` or the name of another way. `bench --against OTHER` times these calls beside those of
-//! another folder's bench, whose program OTHER is (`against.rs`).
+//! and nothing else, for counting instructions; SIDE is `ours`, `rust`, `plain` or the name of another way. `bench --against OTHER`
+//! times these calls beside those of another folder's bench, whose program OTHER is (`against.rs`).
 
 mod against;
 mod growth;
