@@ -20,7 +20,7 @@ use row::{Row, Side};
 use std::hint::black_box;
 
 /// The calls whose instructions are counted, each with one input.
-const COUNTED: [(&str, fn() -> Row); 26] = [
+const COUNTED: [(&str, fn() -> Row); 27] = [
     ("read_set", rows::reader),
     ("value_row", || rows::stretch(false)),
     ("write_set", rows::set_writer),
@@ -42,6 +42,7 @@ const COUNTED: [(&str, fn() -> Row); 26] = [
     ("cut-4096", || rows::cutting(512, 4_096, 64, 8, 1)),
     ("cut-48-one-run", || rows::cutting(512, 48, 48, 8, 1)),
     ("cut-512-one-run", || rows::cutting(512, 512, 40, 8, 1)),
+    ("cut-4096-one-run", || rows::cutting(512, 4_096, 40, 8, 1)),
     ("eliminate-63", || rows::elimination(63, 63, 1)),
     ("eliminate-131072", || rows::elimination(131_072, 40, 1)),
     ("read_plan", rows::plan_reader),
