@@ -39,6 +39,7 @@ BELOW = {
     "canceller_plan_words": ["planner::plan_words"],
     "canceller_expect": ["expectation::expect"],
     "canceller_plan": ["planner::plan"],
+    "canceller_cut": ["cutter::cut"],
     "canceller_write_plan": ["plan_writer::write_plan"],
     "canceller_read_plan": ["plan_file::read_plan", "plan_file::check_plan"],
     "canceller_judge": ["judge::judge"],
@@ -103,14 +104,16 @@ class Set:
     def unknowns(self):
         return sum(bin(x).count("1") for _, x in self.slices)
 
-    def columns(self):
-        """The columns of the unknown cells, from the last slice to the first."""
+    def slice_columns(self):
+        """The columns of each slice's unknown cells, from the last slice to the first."""
         words = list(self.spread)
         for _, marks in reversed(self.slices):
-            for c in range(self.n):
-                if marks >> c & 1:
-                    yield words[c]
+            yield [words[c] for c in range(self.n) if marks >> c & 1]
             words = [clocked(self.m, self.taps, w) for w in words]
+
+    def columns(self):
+        """The columns of the unknown cells, from the last slice to the first."""
+        return (w for columns in self.slice_columns() for w in columns)
 
     def left(self):
         """How many words a plan of this set has: m less the rank of its columns."""
@@ -898,6 +901,56 @@ class Batch:
                self.pick([one.n, self.pick(CHAINS), self.pick(NUMBERS)]), self.pick([one.s, self.pick(SLICES), self.pick(MANY_SLICES)])]
         self.call("expectation::expected_bits", odd + taken[5:], a=data, v=self.pick([spread, self.junk_words(256)]), u=self.pick(lists))
 
+    # ---- cutting
+
+    def cuttings(self, count):
+        """Sets cut into runs, and words a clock earlier."""
+        sets = [sample()] + [self.any_set() for _ in range(count)]
+        for m in (1, 2, 3, 4, 5, 8, 63, 64):
+            sets += [self.any_set(m, self.pick(CHAINS), s, kind) for s in (0, 1, 2, 40) for kind in ("one", "few", "half")]
+        # many runs, and runs of many slices
+        for m, n, s, kind in ((64, 1, 512, "half"), (64, 2, 512, "few"), (3, 2, 511, "few"), (9, 7, 300, "few"), (33, 9, 200, "few"),
+                              (64, 65, 40, "few"), (17, 1, 512, "all"), (64, 256, 512, "one")):
+            sets.append(self.any_set(m, n, s, kind))
+        sets += [self.low_rank(self.pick([64, 36, 9]), self.pick([5, 9, 17]), self.pick([20, 60, 100])) for _ in range(4)]
+        sets += [self.first_slice(self.pick([64, 9]), self.pick([3, 70]), 9, 0), self.single_cells(64, 20, 30, 15)]
+        # one unknown cell to a slice, from some slice on or up to one
+        for m, n, s in ((3, 2, 12), (8, 5, 30), (64, 17, 200)):
+            one, at = self.any_set(m, n, s, "one"), self.random.randrange(1, s)
+            marks = [1 << self.random.randrange(n) for _ in range(s)]
+            for kept in ([0] * at + marks[at:], marks[:at] + [0] * (s - at)):
+                sets.append(Set(m, one.taps, one.inversion, one.spread, [(self.bits(n) & ~x, x) for x in kept]))
+        for one in sets:
+            self.cut(one)
+        # a slice that alone leaves too few words: the first, the last or another
+        for m, n, s in ((1, 1, 3), (3, 5, 4), (8, 9, 20), (64, 70, 9)):
+            for t in {0, s - 1, self.random.randrange(s)}:
+                one = self.any_set(m, n, s, "one")
+                slices = [(v, x) if i != t else (0, low_row(n)) for i, (v, x) in enumerate(one.slices)]
+                self.cut(Set(m, one.taps, one.inversion, [1 << c % m for c in range(n)], slices))
+        for n, s in ((self.pick([3, 9]), 2), (8, 1), (self.pick([1, 3, 8, 9, 17]), self.pick([0, 1, 2, 3]))):
+            one = self.any_set(n=n, s=s)
+            for data in self.damaged(one):
+                self.call("canceller_cut", [self.pick([0, 1, 1, one.m, one.m + 1])], a=data, v=self.junk_words(self.pick([0, s, 512])))
+        for _ in range(count):
+            m = self.pick(WIDTHS)
+            for register in ([m, self.taps(m)], [m, self.bits(64)], [self.pick([0, 65, *NUMBERS]), self.pick([0, 1, ALL, self.bits(64)])]):
+                words = [self.pick([self.bits(m), self.word(m), self.bits(64), 0]) for _ in range(self.pick([0, 1, 2, 3, 20, 256]))]
+                self.call("unclocking::unclock_words", register + [self.inversion(m), self.bits(64)], v=words)
+
+    def cut(self, one):
+        """A set cut for k 0, 1, 8, m, m + 1 and others, among them the most words that every slice leaves, and one more; with cut lists
+        that just suffice, that are too short and that are longer. Other values change nothing."""
+        m, data, slices = one.m, one.data(), list(one.slice_columns())[::-1]
+        least = m - max(map(rank_of, slices), default=0)
+        for k in {0, 1, 2, 8, m - 1, m, m + 1, least - 1, least, least + 1, self.random.randint(1, m), self.pick(NUMBERS)} - {-1}:
+            runs = runs_of(m, slices, k) if 1 <= k <= m else 0
+            for room in {runs, max(0, runs - 1), self.near(runs), self.pick([0, 1, one.s, 512, 600])}:
+                self.call("canceller_cut", [k], a=data, v=self.junk_words(room))
+            if runs:
+                other = one.revised([self.bits(one.n) for _ in one.slices])
+                self.call("canceller_cut", [k], a=other.data(), v=self.junk_words(runs))
+
     @staticmethod
     def parities(words):
         return lambda y: sum((bin(w & y).count("1") % 2) << i for i, w in enumerate(words))
@@ -1037,10 +1090,10 @@ class Batch:
         """Answers and refusals as they cross to C, and the number of each."""
         names = ["crossing::" + x for x in ("set_of", "stretch_of", "set_written_of", "plan_written_of", "clocked_of", "signed_of",
                                             "listed_of", "eliminated_of", "worded_of", "expected_of", "planned_of", "read_of",
-                                            "judged_of")]
+                                            "judged_of", "cutting_of")]
         names += [x + "::number_of" for x in ("planner", "set_words", "elimination", "set_file", "plan_file")]
         for name in names:
-            for number in (0, 0, 0, 1, 17, 24, 25, self.random.randrange(1, 26), ALL):
+            for number in (0, 0, 0, 1, 17, 24, 25, 28, self.random.randrange(1, 29), ALL):
                 data = [self.pick([self.bits(64), self.pick(NUMBERS)]) for _ in range(6)]
                 if name == "crossing::judged_of":
                     data[0] = self.random.randrange(2)
@@ -1224,14 +1277,32 @@ def lowest(w):
     return (w & -w).bit_length() - 1
 
 
-def rank_of(columns):
-    basis = {}
+def with_columns(basis, columns):
+    """A basis, each of its words at its highest bit, with what these columns add to it."""
+    basis = dict(basis)
     for w in columns:
         while w and highest(w) in basis:
             w ^= basis[highest(w)]
         if w:
             basis[highest(w)] = w
-    return len(basis)
+    return basis
+
+
+def rank_of(columns):
+    return len(with_columns({}, columns))
+
+
+def runs_of(m, slices, k):
+    """How many runs slices with these columns are cut into, each leaving at least k words; 0 where one slice leaves fewer. The columns
+    are clocked to the end of the set: a run's have the rank that they have at its own end."""
+    runs, basis = 0, {}
+    for columns in slices:
+        basis = with_columns(basis, columns)
+        if not runs or m - len(basis) < k:
+            runs, basis = runs + 1, with_columns({}, columns)
+        if m - len(basis) < k:
+            return 0
+    return runs
 
 
 def even_with(words, m=64, end=highest):
@@ -1290,4 +1361,5 @@ def calls_of(number):
     batch.layouts(40)
     batch.answers()
     batch.two_calls(25)
+    batch.cuttings(30)
     return batch.calls

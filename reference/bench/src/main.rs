@@ -3,8 +3,8 @@
 //! of how listing and planning grow, drawn as a picture.
 //!
 //! `bench` prints the tables, `bench PICTURE` also writes the picture. `bench --count CALL SIDE TIMES` makes one call so many times
-//! and nothing else, for counting instructions; SIDE is `ours` or `rust`. `bench --against OTHER` times these calls beside those of
-//! another folder's bench, whose program OTHER is (`against.rs`).
+//! and nothing else, for counting instructions; SIDE is `ours`, `rust`, `plain` or the name of another way. `bench --against OTHER`
+//! times these calls beside those of another folder's bench, whose program OTHER is (`against.rs`).
 
 mod against;
 mod growth;
@@ -20,7 +20,7 @@ use row::{Row, Side};
 use std::hint::black_box;
 
 /// The calls whose instructions are counted, each with one input.
-const COUNTED: [(&str, fn() -> Row); 22] = [
+const COUNTED: [(&str, fn() -> Row); 27] = [
     ("read_set", rows::reader),
     ("value_row", || rows::stretch(false)),
     ("write_set", rows::set_writer),
@@ -38,6 +38,11 @@ const COUNTED: [(&str, fn() -> Row); 22] = [
     ("plan-80000", || rows::planning(512, 80_000, 63, 1)),
     ("plan-131072", || rows::planning(512, 131_072, 40, 1)),
     ("plan-full", || rows::planning(512, 131_072, 64, 1)),
+    ("cut-512", || rows::cutting(512, 512, 64, 8, 1)),
+    ("cut-4096", || rows::cutting(512, 4_096, 64, 8, 1)),
+    ("cut-48-one-run", || rows::cutting(512, 48, 48, 8, 1)),
+    ("cut-512-one-run", || rows::cutting(512, 512, 40, 8, 1)),
+    ("cut-4096-one-run", || rows::cutting(512, 4_096, 40, 8, 1)),
     ("eliminate-63", || rows::elimination(63, 63, 1)),
     ("eliminate-131072", || rows::elimination(131_072, 40, 1)),
     ("read_plan", rows::plan_reader),
@@ -57,18 +62,23 @@ fn row_of(call: &str) -> Row {
     row()
 }
 
+fn name_of(side: &Side) -> &'static str {
+    match side {
+        Side::Ours => "ours",
+        Side::Same => "rust",
+        Side::Plain => "plain",
+        Side::Other(name) | Side::Parts(name) => name,
+    }
+}
+
 fn counted(words: &[&str]) {
     let [call, side, times] = words else {
         return println!("{}", names().join("\n"));
     };
-    let side = match *side {
-        "ours" => Side::Ours,
-        _ => Side::Same,
-    };
     let times: usize = times.parse().expect("TIMES is a number");
     let row = row_of(call);
     for (of, mut make) in row.sides {
-        if of == side {
+        if name_of(&of) == *side {
             (0..times).for_each(|i| drop(black_box(make(i % row.inputs, false))));
         }
     }

@@ -19,6 +19,11 @@ pub fn expect(set: &[u8], words: &[u64]) -> CExpected {
     unsafe { canceller_expect(set.as_ptr(), set.len(), words.as_ptr(), words.len()) }
 }
 
+pub fn cut(set: &[u8], k: u64, cuts: &mut [u64]) -> CCutting {
+    let (c, c_len) = (cuts.as_mut_ptr(), cuts.len());
+    unsafe { canceller_cut(set.as_ptr(), set.len(), k, c, c_len) }
+}
+
 pub fn list_columns(set: &[u8], columns: &mut [u64]) -> CListed {
     let (c, c_len) = (columns.as_mut_ptr(), columns.len());
     unsafe { canceller_list_columns(set.as_ptr(), set.len(), c, c_len) }

@@ -1,5 +1,7 @@
 //! The straightforward algorithms on machine words, to measure against: cell by cell, column by column, bit by bit.
 
+use std::ops::Range;
+
 /// A set that was checked: its numbers, and its rows where they stand.
 pub struct PlainSet<'a> {
     pub m: u32,
@@ -132,14 +134,14 @@ impl PlainSet<'_> {
         bit(&self.rows[2 * self.b * t + self.b..], c)
     }
 
-    /// The columns, each clocked to the end.
-    pub fn columns(&self) -> Vec<u64> {
+    /// The columns of a run of slices, each clocked to its end.
+    fn run_columns(&self, slices: Range<usize>) -> Vec<u64> {
         let mut columns = Vec::new();
-        for t in 0..self.s {
+        for t in slices.clone() {
             for c in 0..self.spread.len() {
                 if self.unknown(t, c) {
                     let mut state = self.spread[c];
-                    for _ in t + 1..self.s {
+                    for _ in t + 1..slices.end {
                         state = self.clocked(state);
                     }
                     columns.push(state);
@@ -147,6 +149,30 @@ impl PlainSet<'_> {
             }
         }
         columns
+    }
+
+    /// The columns, each clocked to the end.
+    pub fn columns(&self) -> Vec<u64> {
+        self.run_columns(0..self.s)
+    }
+
+    /// The first slice of each run, by the words of each run that is tried.
+    pub fn cut(&self, k: usize) -> Result<Vec<u64>, u64> {
+        let leaves = |slices: Range<usize>| {
+            let words = eliminate(self.m, &self.run_columns(slices));
+            k <= words.map_or(0, |words| words.len())
+        };
+        let mut starts = Vec::new();
+        let mut start = 0;
+        while start < self.s {
+            if !leaves(start..start + 1) {
+                return Err(27);
+            }
+            starts.push(start as u64);
+            let longer = (start + 2..=self.s).take_while(|&end| leaves(start..end));
+            start = longer.last().unwrap_or(start + 1);
+        }
+        Ok(starts)
     }
 
     /// The columns by a backward sweep: every chain's word advanced by one clock for each slice.

@@ -2,6 +2,7 @@
 
 use crate::others::kernels;
 use crate::row::{put, Row, Side};
+use crate::same::cutting::{cut, restart_and_cut};
 use crate::same::elimination::eliminate;
 use crate::same::response::*;
 use crate::same::set::{clock, mark_row, read_set, value_row, write_set};
@@ -74,6 +75,13 @@ pub fn listing(s: usize, unknowns: usize, rank: usize, inputs: usize) -> Row {
         })
 }
 
+fn of_rank(unknowns: usize, rank: usize) -> String {
+    match rank {
+        64 => format!("{unknowns} unknowns of full rank"),
+        _ => format!("{unknowns} unknowns of rank {rank}"),
+    }
+}
+
 /// What planning, the plan reader and the call that makes words answer with, q second, and the words.
 fn of_plan(answer: &[u64], words: &[u64]) -> Vec<u64> {
     [answer, &words[..answer[1] as usize]].concat()
@@ -111,12 +119,8 @@ fn making_words<A: Answer + 'static, const N: usize>(
             put(ask, p.err().unwrap_or(0), || of_plan(&p.unwrap(), &words))
         }
     };
-    let size = match rank {
-        64 => format!("{unknowns} unknowns of full rank"),
-        _ => format!("{unknowns} unknowns of rank {rank}"),
-    };
     let (one, numbers) = ours;
-    let row = Row::new(call, size, inputs)
+    let row = Row::new(call, of_rank(unknowns, rank), inputs)
         .side(Side::Ours, move |i, ask| {
             let p = black_box(one(&sets[i], &mut working, &mut words));
             put(ask, p.refusal(), || of_plan(&numbers(p), &words))
@@ -185,6 +189,45 @@ pub fn wording(s: usize, unknowns: usize, rank: usize, inputs: usize) -> Row {
         let (q, refusal) = listed_words(&sets[i], &mut columns, &mut others);
         put(ask, refusal, || of_plan(&[64, q], &others))
     })
+}
+
+/// Cutting sets of s slices into runs that leave at least k words: the runs, the control bits and the cuts. Asked is, over 512 slices with
+/// k 8, a thirtieth of what restarting each run takes for 512 unknown cells, half of it for 4,096, and a two-hundredth where one run takes
+/// all slices; and at most 1.25 times the same in Rust.
+pub fn cutting(s: usize, unknowns: usize, rank: usize, k: u64, inputs: usize) -> Row {
+    let sets = sets(7, s, unknowns, rank, inputs);
+    let of_cut =
+        |runs: u64, bits: u64, cuts: &[u64]| [&[runs, bits], &cuts[..runs as usize]].concat();
+    let in_rust = |call: fn(&[u8], u64, &mut [u64]) -> Result<[u64; 2], u64>| {
+        let mut cuts = [0; 512];
+        move |i: usize, ask: bool| {
+            let c = black_box(call(&sets[i], k, &mut cuts));
+            put(ask, c.err().unwrap_or(0), || {
+                let [runs, bits] = c.unwrap();
+                of_cut(runs, bits, &cuts)
+            })
+        }
+    };
+    let mut cuts = [0; 512];
+    Row::new(
+        "cutting",
+        format!("{}, k {k}", of_rank(unknowns, rank)),
+        inputs,
+    )
+    .side(Side::Ours, move |i, ask| {
+        let c = black_box(ours::cut(&sets[i], k, &mut cuts));
+        put(ask, c.refusal, || of_cut(c.runs, c.bits, &cuts))
+    })
+    .side(Side::Same, in_rust(cut))
+    .side(Side::Plain, move |i, ask| {
+        let cuts = black_box(plain::read_set(&sets[i]).unwrap().cut(k as usize));
+        put(ask, *cuts.as_ref().err().unwrap_or(&0), || {
+            let cuts = cuts.unwrap();
+            let runs = cuts.len() as u64;
+            of_cut(runs, 64 * k * runs, &cuts)
+        })
+    })
+    .side(Side::Other("restarting each run"), in_rust(restart_and_cut))
 }
 
 /// A set of the largest shape with 63 unknown cells, and a record.
@@ -476,6 +519,9 @@ const PLANNINGS: [(usize, usize); 22] = [
     (131_072, 64),
 ];
 
+/// The unknown cells and ranks of cutting, k 8: several runs, and one that takes all slices.
+const CUTTINGS: [(usize, usize); 5] = [(512, 64), (4_096, 64), (48, 48), (512, 40), (4_096, 40)];
+
 pub const ELIMINATIONS: [(usize, usize); 7] = [
     (16, 16),
     (63, 63),
@@ -511,6 +557,9 @@ pub fn print_all() {
     for (unknowns, rank) in PLANNINGS {
         wording(512, unknowns, rank, inputs_for(unknowns)).print();
     }
+    for (unknowns, rank) in CUTTINGS {
+        cutting(512, unknowns, rank, 8, inputs_for(unknowns)).print();
+    }
     for row in OTHERS {
         row().print();
     }
@@ -544,6 +593,24 @@ mod tests {
             agree(elimination(count, rank, 4), "an answer");
         }
         agree(elimination(9_000, 64, 4), "refusal 17");
+    }
+
+    #[test]
+    fn all_sides_of_cutting_agree() {
+        for (unknowns, rank) in [
+            (1, 1),
+            (40, 40),
+            (300, 64),
+            (300, 20),
+            (1_024, 64),
+            (1_024, 20),
+        ] {
+            for k in [1, 8, 20] {
+                agree(cutting(40, unknowns, rank, k, 4), "an answer");
+            }
+            agree(cutting(40, unknowns, rank, 64, 4), "refusal 27");
+        }
+        agree(cutting(9, 1_500, 64, 8, 4), "refusal 27");
     }
 
     #[test]

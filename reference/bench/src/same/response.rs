@@ -6,6 +6,7 @@ use super::plan::{is_bad_word_count, is_reduced};
 use super::set::{head_length, next_state, read_set, Read};
 use super::words::fill_words;
 use super::*;
+use std::ops::Range;
 
 /// The XORs of the spread words of each half byte of a row.
 fn half_bytes(spread: &[u64]) -> [u64; 1024] {
@@ -89,7 +90,7 @@ pub fn list_word(columns: &mut [u64], words: &[u64], mut marks: u64) -> usize {
 }
 
 /// The words of a row's marked chains over the end of the list, by words of 64 marks; how many places stand before them.
-fn list_row(columns: &mut [u64], words: &[u64], row: &[u8]) -> usize {
+pub fn list_row(columns: &mut [u64], words: &[u64], row: &[u8]) -> usize {
     let mut place = columns.len();
     for i in (0..words.len().div_ceil(64)).rev() {
         let marks = marks_at(row, i, words.len());
@@ -105,15 +106,23 @@ pub fn advance_words(read: Read, words: &mut [u64]) {
     }
 }
 
-/// From the last slice on, all chains' words advanced by one clock for each.
-fn fill_swept(set: &[u8], read: Read, spread: &[u64; 256], columns: &mut [u64]) {
+/// The columns of a run of slices over the end of the list, from the last slice on, all chains' words advanced by one clock for each; how
+/// many places stand before them.
+pub fn fill_swept(
+    set: &[u8],
+    read: Read,
+    spread: &[u64; 256],
+    slices: Range<usize>,
+    columns: &mut [u64],
+) -> usize {
     let mut all = *spread;
     let words = &mut all[..read.n];
     let mut place = columns.len();
-    for t in (0..read.s).rev() {
+    for t in slices.rev() {
         place = list_row(&mut columns[..place], words, mark_row(set, read.n, t));
         advance_words(read, words);
     }
+    place
 }
 
 /// The word 1 after 0 to 575 clocks.
@@ -153,7 +162,7 @@ fn fill_sparse(set: &[u8], read: Read, spread: &[u64; 256], columns: &mut [u64])
 /// Up to 512 columns are made one by one; for more, all the chains' words are advanced together.
 fn fill_columns(set: &[u8], read: Read, spread: &[u64; 256], columns: &mut [u64]) {
     if columns.len() > 512 || bad_spread(read.m, &spread[..read.n]) {
-        fill_swept(set, read, spread, columns)
+        fill_swept(set, read, spread, 0..read.s, columns);
     } else {
         fill_sparse(set, read, spread, columns)
     }

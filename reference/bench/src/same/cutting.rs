@@ -1,0 +1,115 @@
+//! Cutting: the slices in runs, by one pass over them; and by restarting each run, which makes a run's columns anew for each end tried.
+
+use super::elimination::{reduce, unit_words};
+use super::response::{fill_swept, list_row, mark_row};
+use super::set::{read_set, Read};
+
+/// Puts for each word what it was one clock earlier.
+fn unclock_words(read: Read, words: &mut [u64]) {
+    let one = read.taps >> 1 ^ 1 << (read.m - 1);
+    for w in words {
+        *w = *w >> 1 ^ (one & (*w & 1).wrapping_neg());
+    }
+}
+
+/// A slice's columns put to the words that its run leaves; where that leaves fewer than k, to the words of single bits, for the slice
+/// opens a run. How many words are left, and whether it opened one.
+fn put_slice(
+    held: &mut [u64; 64],
+    left: usize,
+    columns: &[u64],
+    width: usize,
+    k: usize,
+) -> (usize, bool) {
+    let joined = reduce(&mut held[..left], columns);
+    if k <= joined {
+        return (joined, false);
+    }
+    *held = unit_words();
+    (reduce(&mut held[..width], columns), true)
+}
+
+/// The first slice of each run over the front of `starts`, and how many there are.
+type CutSlices = fn(&[u8], Read, &[u64; 256], usize, &mut [u64; 512]) -> Result<usize, u64>;
+
+/// By one pass: all columns of a run clocked together have the rank that they had, so each chain's word is unclocked once for each slice.
+fn cut_slices(
+    set: &[u8],
+    read: Read,
+    spread: &[u64; 256],
+    k: usize,
+    starts: &mut [u64; 512],
+) -> Result<usize, u64> {
+    let mut all = *spread;
+    let words = &mut all[..read.n];
+    let mut columns = [0; 256];
+    let mut held = unit_words();
+    let (mut left, mut runs) = (0, 0);
+    for t in 0..read.s {
+        let place = list_row(&mut columns, words, mark_row(set, read.n, t));
+        let turn = put_slice(&mut held, left, &columns[place..], read.m as usize, k);
+        left = turn.0;
+        if left < k {
+            return Err(27);
+        }
+        if turn.1 {
+            starts[runs] = t as u64;
+            runs += 1;
+        }
+        unclock_words(read, words);
+    }
+    Ok(runs)
+}
+
+/// By restarting: the columns of a run are swept from its last slice to its first, and all of them eliminated, for each end tried.
+fn restart_slices(
+    set: &[u8],
+    read: Read,
+    spread: &[u64; 256],
+    k: usize,
+    starts: &mut [u64; 512],
+) -> Result<usize, u64> {
+    let mut columns = vec![0; read.n * read.s];
+    let mut leaves = |start: usize, end: usize| {
+        let place = fill_swept(set, read, spread, start..end, &mut columns);
+        k <= reduce(&mut unit_words()[..read.m as usize], &columns[place..])
+    };
+    let (mut start, mut runs) = (0, 0);
+    while start < read.s {
+        let mut end = start;
+        while end < read.s && leaves(start, end + 1) {
+            end += 1;
+        }
+        if end == start {
+            return Err(27);
+        }
+        starts[runs] = start as u64;
+        runs += 1;
+        start = end;
+    }
+    Ok(runs)
+}
+
+fn cut_by(slices: CutSlices, set: &[u8], k: u64, cuts: &mut [u64]) -> Result<[u64; 2], u64> {
+    let (read, spread) = read_set(set)?;
+    if k < 1 || read.m < k {
+        return Err(26);
+    }
+    let mut starts = [0; 512];
+    let runs = slices(set, read, &spread, k as usize, &mut starts)?;
+    if cuts.len() < runs {
+        return Err(28);
+    }
+    cuts[..runs].copy_from_slice(&starts[..runs]);
+    Ok([runs as u64, read.m * k * runs as u64])
+}
+
+/// The first slice of each run over the front of the list; the number of runs, and the control bits in all.
+pub fn cut(set: &[u8], k: u64, cuts: &mut [u64]) -> Result<[u64; 2], u64> {
+    cut_by(cut_slices, set, k, cuts)
+}
+
+/// .. by restarting each run.
+pub fn restart_and_cut(set: &[u8], k: u64, cuts: &mut [u64]) -> Result<[u64; 2], u64> {
+    cut_by(restart_slices, set, k, cuts)
+}
