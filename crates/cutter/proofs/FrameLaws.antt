@@ -72,6 +72,10 @@ module _ (g : Given) where
   pub framed : ℕ → List ℕ
   framed t = markedWords (earlierWords (g .wiring) t (g .wiring .spread)) (g .marks t) (chains (g .wiring))
 
+  pub framed-words : (t : ℕ) → framed t ≡ markedWords (earlierWords (g .wiring) t (g .wiring .spread)) (g .marks t) (chains (g .wiring))
+  unfolding framed
+  framed-words t = refl
+
   pub frames : ℕ → ℕ → List ℕ
   frames a zero = []
   frames a (suc n) = frames a n ++ framed (a + n)

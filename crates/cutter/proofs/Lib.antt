@@ -1,2 +1,5 @@
 pub mod FrameLaws
 pub mod RunLaws
+pub mod TurnLaws
+pub mod SameLaws
+pub mod SliceLaws

@@ -6,7 +6,7 @@
 --   CutTo          what is known after t slices
 --   cut-starts, cut-turns, cut-short, cut-ends
 -- Assumes nothing.
-use mathlib.Core.Path.{_≡_, refl, sym, ap, ap₂, _∙_}
+use mathlib.Core.Path.{_≡_, refl, sym, ap, ap₂, _∙_, subst}
 use mathlib.Core.Bool.{Bool, true, false, cond}
 use mathlib.Core.Logic.{⊎-elim}
 use mathlib.Core.List.{List, [], _∷_, _++_, append-assoc}
@@ -127,8 +127,11 @@ module _ (g : Given) (sound : Sound (g .wiring)) (k : ℕ) (some : 1 ≤ k) wher
       ap (λ (n : ℕ). anyBelow n (λ i. ltb (wordsLeft g i (suc i)) k)) (add-one t)
       ∙ or-false _ _ so-far (le-ltb (wordsLeft g t (suc t)) k h)
 
-  module _ (t runs left : ℕ) (h l h′ cs : List ℕ) (r : Turn) (inside : t < g .slices) (room : runs < length l) (ec : cs ≡ framed g t)
-      (turned : Turned cs m k (take left h) h′ r) where
+  module _ (t runs left w : ℕ) (h l h′ cs : List ℕ) (r : Turn) (inside : t < g .slices) (room : runs < length l) (ec : cs ≡ framed g t)
+      (ew : w ≡ m) (turn : Turned cs w k (take left h) h′ r) where
+    turned : Turned cs m k (take left h) h′ r
+    turned = subst (λ (x : ℕ). Turned cs x k (take left h) h′ r) ew turn
+
     -- the slice joins the run from a on
     joins : (a j : ℕ) (ds : List ℕ) → a < t → g .slices ≤ j + a → startsFor g k ≡ ds ++ startsFrom g k j a → take runs l ≡ ds ++ a ∷ []
         → take left h ≡ heldWords g a t → k ≤ length (steps cs (take left h)) → r .opened ≡ 0 → r .left ≡ length (steps cs (take left h))

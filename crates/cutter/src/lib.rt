@@ -1,16 +1,20 @@
 // Cutting: the slices of a set cut into runs, each of which leaves at least k words, and the control bits of them all. It sees a taken set,
 // the marked words of a row and the elimination's step. It goes through the slices once: all columns of a run clocked together have the rank
-// that they had, so the chains' words are unclocked once for each slice, whatever run it falls in, and only the slice that doesn't fit
-// into a run is put to the words twice.
+// that they had, so each slice's columns are the chains' words unclocked once for each slice before it, whatever run it falls in, and only
+// the slice that doesn't fit into a run is put to the words twice. The chains' words are unclocked 8 times together, and for the slices
+// between only those of marked cells.
 ghost use mathlib.Core.Path.{_≡_};
-ghost use Prim.Native.Nat.{_*_, _≤_};
+ghost use mathlib.Core.List.{List, map};
+ghost use Prim.Native.Nat.{ℕ, _+_, _*_, _≤_};
 ghost use lib.ListN.{length, take};
 ghost use Rattle.word.specs.Reply.{numberOf};
 ghost use Rattle.rows.specs.Row.{rowBytes};
 ghost use Rattle.set_layout.specs.Layout.{markAt, widthOf};
+ghost use Rattle.register.specs.Circuit.{Circuit};
 ghost use Rattle.set_file.specs.Reading.{TakenFrom};
+ghost use Rattle.unclocking.specs.Unclocked.{earlier, EightBack};
 ghost use Rattle.cutter.specs.Cutting.{badShare, cutReply, cutsAfter, saidCut};
-ghost use Rattle.cutter.specs.Turns.{Turned, saidSlices, Sliced};
+ghost use Rattle.cutter.specs.Turns.{eights, Turned, saidSlices, Sliced};
 use rows::Rows;
 use set_file::SetAnswer;
 use set_file::Taken;
@@ -83,6 +87,15 @@ fn put_slice(held: &mut [u64], left: usize, columns: &[u64], width: usize, k: us
     }
 }
 
+// The chains' words behind slice t, from those before it: as many clocks of them are undone as there are slices before them, in eights.
+fn pass_slice(table: &[u64; 256], t: u16, words: &mut [u64])
+    ensures { λ _. ⌜ ((k : Circuit) (spread : List ℕ) → EightBack k (now (table .entry)) → now (words .entry) ≡ map (earlier k (eights t)) spread → now (words .exit) ≡ map (earlier k (eights (t + 1))) spread) ⌝ }
+{
+    if t % 8 == 7 {
+        unclocking::unclock_eight(table, words);
+    }
+}
+
 // The slices of a taken set, one after the other: the first slice of each run over the front of `starts`, and how many there are; or 27.
 fn cut_slices(taken: Taken, set: &[u8], k: usize, starts: &mut [u64]) -> Slices
     requires { ⌜ length (now starts) ≡ 512 ⌝ }
@@ -95,6 +108,7 @@ fn cut_slices(taken: Taken, set: &[u8], k: usize, starts: &mut [u64]) -> Slices
     let marks = unknown_rows(taken.n);
     let spread = taken.spread;
     let mut words = chains::all_words(spread);
+    let table = unclocking::eight_back(register);
     let mut columns = no_columns();
     let mut held = elimination::unit_words();
     let mut left: usize = 0;
@@ -103,6 +117,7 @@ fn cut_slices(taken: Taken, set: &[u8], k: usize, starts: &mut [u64]) -> Slices
     while t < slices {
         let row = rows::row_of(set, marks, t);
         let place = marked_words::list_row(&mut columns, &words[..chains], row);
+        unclocking::unclock_words(register, t % 8, &mut columns[place..]);
         let turn = put_slice(&mut held, left, &columns[place..], width, k);
         left = turn.left;
         if left < k {
@@ -110,7 +125,7 @@ fn cut_slices(taken: Taken, set: &[u8], k: usize, starts: &mut [u64]) -> Slices
         }
         starts[runs] = t as u64;
         runs += turn.opened;
-        unclocking::unclock_words(register, &mut words[..chains]);
+        pass_slice(&table, t, &mut words[..chains]);
         t += 1;
     }
     Slices::Cut { runs }

@@ -5,8 +5,12 @@
 --   beforeOne m t      the state that a clock takes to 1, in a register of width m and tap word t
 --   unclocked m t w    the state that a clock takes to w
 --   earlier k j w      the word w before j clocks of the circuit k with all cells 0 and no inversion
-use Prim.Native.Nat.{ℕ, zero, suc, _-_, _/_, _%_, _^_}
+--   EightBack k l      the list l has for each byte what it was 8 clocks earlier
+use mathlib.Core.Path.{_≡_}
+use mathlib.Core.List.{List}
+use Prim.Native.Nat.{ℕ, zero, suc, _-_, _/_, _%_, _^_, _<_}
 use lib.Bits.{bitXor}
+use lib.ListN.{getD}
 use Rattle.chains.specs.Driven.{chosen}
 use Rattle.register.specs.Circuit.{Circuit}
 
@@ -19,3 +23,6 @@ unclocked m t w = bitXor (w / 2) (chosen (w % 2) (beforeOne m t))
 unfoldable pub earlier : Circuit → ℕ → ℕ → ℕ
 earlier k zero w = w
 earlier k (suc j) w = unclocked (k .width) (k .taps) (earlier k j w)
+
+abbrev pub EightBack : Circuit → List ℕ → Type 0
+EightBack k l = (x : ℕ) → x < 256 → getD l x 0 ≡ earlier k 8 x

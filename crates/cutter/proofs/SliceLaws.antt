@@ -1,0 +1,133 @@
+-- The pass over a set's slices: the words of a slice as they are listed, and what the pass over all slices comes to. Assumes nothing.
+use mathlib.Core.Path.{_≡_, refl, sym, ap, ap₂, _∙_, subst}
+use mathlib.Core.Bool.{Bool, true, false, cond}
+use mathlib.Core.List.{List, [], _∷_, _++_, map, map-map}
+use Prim.Native.Nat.{ℕ, zero, suc, _+_, _-_, _*_, _≤_, _<_, min}
+use native.Mathlib.Numerals.{add-one}
+use native.Mathlib.Omega.{arith}
+use lib.ListN.{length, take, drop, getD, length-append, length-map, length-drop}
+use lib.Seq.{take-all, drop-at, length-take-le}
+use Rattle.word.specs.Reply.{_when_, Reply, answer, refusal, reply}
+use Rattle.word.proofs.TestLaws.{replied-answer}
+use Rattle.numbers.specs.Joined.{joined}
+use Rattle.numbers.proofs.PartLaws.{take-limit}
+use Rattle.rows.specs.Row.{Cells, cell, rowBytes}
+use Rattle.rows.specs.Lists.{rowOf, cellsOf}
+use Rattle.rows.specs.Marks.{listed, markedWords}
+use Rattle.rows.specs.declared.Rows.{Rows}
+use Rattle.register.specs.Circuit.{Circuit, circuit, chains}
+use Rattle.register.specs.declared.Register.{Register}
+use Rattle.set_layout.specs.Layout.{circuitOf, chainsOf, slicesOf, markAt, markRow, marks, widthOf}
+use Rattle.set_layout.proofs.SliceLaws.{mark-rows-row}
+use Rattle.set_file.specs.Reading.{takenCircuit, TakenFrom}
+use Rattle.set_file.specs.declared.Taken.{Taken}
+use Rattle.set_file.proofs.Laws.{Accepted, accepted}
+use Rattle.signatures.specs.Signature.{Response}
+use Rattle.signatures.specs.Given.{Given, RevisedFrom}
+use Rattle.signatures.specs.Sets.{given}
+use Rattle.marked_words.specs.Back.{back}
+use Rattle.marked_words.proofs.BackLaws.{back-fits, back-length}
+use Rattle.unclocking.specs.Unclocked.{unclocked, earlier}
+use Rattle.cutter.specs.Cutting.{shortSlice, startsFor, startsOf}
+use Rattle.cutter.specs.Turns.{saidSlices, Sliced}
+use Rattle.cutter.specs.declared.Slices.{Slices}
+use Rattle.cutter.proofs.FrameLaws.{Sound, earlierWords, framed, framed-words}
+use Rattle.cutter.proofs.RunLaws.{CutTo, cut-ends}
+use Rattle.cutter.proofs.SameLaws.{same-starts, same-short, sound-set}
+
+-- ---- the chains' words
+
+pub earlier-words-none : (k : Circuit) (ws : List ℕ) → ws ≡ earlierWords k 0 ws
+unfolding earlier
+earlier-words-none k [] = refl
+earlier-words-none k (w ∷ ws) = ap (λ (l : List ℕ). w ∷ l) (earlier-words-none k ws)
+
+pub earlier-words-more : (k : Circuit) (j : ℕ) (ws vs : List ℕ) → vs ≡ earlierWords k j ws → map (unclocked (k .width) (k .taps)) vs ≡ earlierWords k (j + 1) ws
+unfolding earlier
+earlier-words-more k j ws vs e =
+    ap (map (unclocked (k .width) (k .taps))) e ∙ map-map (unclocked (k .width) (k .taps)) (earlier k j) ws
+    ∙ ap (λ (n : ℕ). earlierWords k n ws) (sym (add-one j))
+
+-- ---- a slice's words, listed at the end of a list
+
+marked-most : (ws : List ℕ) (x : Cells) (n : ℕ) → length (markedWords ws x n) ≤ n
+unfolding joined
+marked-most ws x zero = omega arith
+marked-most ws x (suc n) =
+    omega (arith, length-append (markedWords ws x n) (listed (x n) (getD ws n 0)), marked-most ws x n, one (x n))
+  where
+    one : (d : ℕ) → length (listed d (getD ws n 0)) ≤ 1
+    one zero = omega arith
+    one (suc d) = omega arith
+
+pub listed-framed : (g : Given) (t : ℕ) (ws row l l′ : List ℕ) (place : ℕ) → ws ≡ earlierWords (g .wiring) t (g .wiring .spread) → cell row ≡ g .marks t
+    → length ws ≤ length l → place ≡ length l - length (markedWords ws (cell row) (length ws)) → l′ ≡ back (markedWords ws (cell row) (length ws)) l
+    → take (length l′ - place) (drop place l′) ≡ framed g t
+listed-framed g t ws row l l′ place ew er fits ep el =
+    let vs = markedWords ws (cell row) (length ws) in
+    let few : length vs ≤ length l = omega (arith, marked-most ws (cell row) (length ws)) in
+    let here : place ≡ length (take place l) = sym (length-take-le place l (omega arith)) in
+    let laid : l′ ≡ take place l ++ vs = el ∙ back-fits vs l few ∙ ap (λ (n : ℕ). take n l ++ vs) (sym ep) in
+    let tail : drop place l′ ≡ vs = ap (drop place) laid ∙ drop-at (take place l) vs place (sym here) in
+    let all : take (length l′ - place) (drop place l′) ≡ drop place l′ = take-all (length l′ - place) (drop place l′) (omega (arith, length-drop place l′)) in
+    all ∙ tail
+    ∙ ap₂ (λ (x : List ℕ) (y : Cells). markedWords x y (length x)) ew er
+    ∙ ap (markedWords (earlierWords (g .wiring) t (g .wiring .spread)) (g .marks t)) (length-map (g .wiring .spread) (earlier (g .wiring) t))
+    ∙ sym (framed-words g t)
+
+-- ---- the set that the pass is over
+
+-- what the pass sees: a register and chains, a number of slices, rows of marks in a list
+abbrev pub seen : Register → List ℕ → ℕ → List ℕ → Rows → Given
+seen r ws s l rows =
+    record { wiring = circuit (min (r .m) 64) (r .taps) (r .inversion) ws; slices = s; values = λ t c. 0; marks = cellsOf l rows }
+
+module _ (set : List ℕ) (k : Taken) (taken : TakenFrom set k) (rows : Rows)
+    (e : (rows .at ≡ markAt (k .n) 0) × (rows .stride ≡ 2 * rowBytes (k .n)) × (rows .bytes ≡ rowBytes (k .n)))
+    (words : List ℕ) (chains slices : ℕ) (ew : (words ≡ k .spread) × (length words ≡ 256)) (ec : chains ≡ min (k .n) 256) (es : slices ≡ min (k .s) 512) where
+  whole : Accepted set
+  whole = accepted set (taken .none)
+
+  own-chains : take chains words ≡ take (k .n) (k .spread)
+  own-chains = take-limit words (k .n) chains (ec ∙ ap (min (k .n)) (sym (ew .1))) ∙ ap (take (k .n)) (ew .0)
+
+  own-circuit : seen (k .register) (take chains words) slices set rows .wiring ≡ circuitOf set
+  own-circuit = ap (circuit (min (k .register .m) 64) (k .register .taps) (k .register .inversion)) own-chains ∙ taken .circuit
+
+  pub seen-sound : Sound (seen (k .register) (take chains words) slices set rows .wiring)
+  seen-sound = subst Sound (sym own-circuit) (sound-set set whole)
+
+  pub seen-revised : RevisedFrom (seen (k .register) (take chains words) slices set rows) (given set)
+  seen-revised = record {
+    wiring = own-circuit;
+    slices = omega (arith, taken .slices, whole .slices);
+    marks = λ t c l d. ap (λ (row : List ℕ). cell row c) (mark-rows-row set (k .n) rows (taken .chains) e t);
+  }
+
+  -- ---- what the pass comes to
+
+  no-answer : (n : ℕ) → refusal 27 ≡ answer n → ⊥
+  no-answer n h = omega (arith, replied-answer 27 0 n h .0)
+
+  pub sliced-short : (κ : ℕ) (l : List ℕ) → shortSlice (seen (k .register) (take chains words) slices set rows) κ ≡ true → Sliced set κ l (Slices.Refused 27)
+  sliced-short κ l short =
+      let applies : shortSlice (given set) κ ≡ true = sym (same-short _ _ seen-revised κ) ∙ short in
+      record {
+        reply = sym (rw applies refl);
+        starts = λ n h. absurd (no-answer n h);
+        few = λ n h. absurd (no-answer n h);
+      }
+
+  pub sliced-all : (κ t runs left : ℕ) (h l : List ℕ) → 1 ≤ κ → t ≡ slices → runs ≤ 512 → length l ≡ 512
+      → CutTo (seen (k .register) (take chains words) slices set rows) κ t runs left h l → Sliced set κ l (Slices.Cut runs)
+  unfolding startsOf
+  sliced-all κ t runs left h l some et few long so-far =
+      let ends = cut-ends _ seen-sound κ some t runs left h l et so-far in
+      let none : shortSlice (given set) κ ≡ false = sym (same-short _ _ seen-revised κ) ∙ ends .0 in
+      let list : take runs l ≡ startsOf set κ = ends .1 ∙ same-starts _ _ seen-revised κ in
+      let count : runs ≡ length (startsOf set κ) = sym (length-take-le runs l (omega arith)) ∙ ap length list in
+      record {
+        reply = ap answer count ∙ sym (rw none refl);
+        starts = λ n h. ap (λ (i : ℕ). take i l) (replied-answer 0 runs n h .1) ∙ list;
+        few = λ n h. omega (arith, replied-answer 0 runs n h .1);
+      }
