@@ -38,7 +38,8 @@ use Rattle.unclocking.specs.Unclocked.{earlier}
 use Rattle.unclocking.proofs.UnclockLaws.{earlier-zero, earlier-lt, later-earlier, later-one-to-one}
 use Rattle.swept_columns.proofs.FillLaws.{laterWords, later-words-get, first-words}
 use Rattle.sparse_columns.proofs.SparseLaws.{map-chosen}
-use Rattle.cutter.specs.Cutting.{alone, wordsLeft}
+use Rattle.cutter.specs.Cutting.{wordsLeft}
+use Rattle.cutter.specs.Turns.{wordsAt}
 
 -- a register whose clock loses no state, and chains within it
 pub record Sound (k : Circuit) : Type 0 where
@@ -51,7 +52,7 @@ pub record Sound (k : Circuit) : Type 0 where
 abbrev pub earlierWords : Circuit → ℕ → List ℕ → List ℕ
 earlierWords k j ws = map (earlier k j) ws
 
-earlier-words-get : (k : Circuit) (j : ℕ) (ws : List ℕ) (c : ℕ) → getD (earlierWords k j ws) c 0 ≡ earlier k j (getD ws c 0)
+pub earlier-words-get : (k : Circuit) (j : ℕ) (ws : List ℕ) (c : ℕ) → getD (earlierWords k j ws) c 0 ≡ earlier k j (getD ws c 0)
 earlier-words-get k j ws c = ap (getD (map (earlier k j) ws) c) (sym (earlier-zero k j)) ∙ List·getD-map (earlier k j) ws c 0
 
 -- ---- words of marked cells
@@ -70,9 +71,9 @@ marked-within m ws x (suc n) h =
 module _ (g : Given) where
   -- the marked cells' words of slice t
   pub framed : ℕ → List ℕ
-  framed t = markedWords (earlierWords (g .wiring) t (g .wiring .spread)) (g .marks t) (chains (g .wiring))
+  framed t = wordsAt (g .wiring) t (g .marks t)
 
-  pub framed-words : (t : ℕ) → framed t ≡ markedWords (earlierWords (g .wiring) t (g .wiring .spread)) (g .marks t) (chains (g .wiring))
+  pub framed-words : (t : ℕ) → framed t ≡ wordsAt (g .wiring) t (g .marks t)
   unfolding framed
   framed-words t = refl
 

@@ -178,6 +178,13 @@ unfolding earlier
 earlier-same m t v ws zero w = refl
 earlier-same m t v ws (suc j) w = ap (unclocked m t) (earlier-same m t v ws j w)
 
+pub earlier-words-same : (m t v : ℕ) (ws : List ℕ) (j : ℕ) (l : List ℕ) → map (earlier (circuit m t 0 []) j) l ≡ map (earlier (circuit m t v ws) j) l
+earlier-words-same m t v ws j [] = refl
+earlier-words-same m t v ws j (w ∷ l) = ap₂ _∷_ (earlier-same m t v ws j w) (earlier-words-same m t v ws j l)
+
+pub eight-back-same : (m t v : ℕ) (ws l : List ℕ) → EightBack (circuit m t 0 []) l → EightBack (circuit m t v ws) l
+eight-back-same m t v ws l right x h = right x h ∙ earlier-same m t v ws 8 x
+
 -- one clock more in the loop over them, where `one` is what a clock takes to 1
 pub earlier-turns : (m t one i w x x′ : ℕ) → one ≡ beforeOne m t → x ≡ earlier (circuit m t 0 []) i w → x′ ≡ bitXor (x / 2) (chosen (x % 2) one)
     → x′ ≡ earlier (circuit m t 0 []) (i + 1) w

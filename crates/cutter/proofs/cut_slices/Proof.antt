@@ -1,5 +1,5 @@
 -- `cut_slices` meets its contract. The loop's invariant: the runs of the first `t` slices stand at the front of `starts`, the words that
--- the last of them leaves at the front of `held`, and the chains' words are unclocked `t` times.
+-- the last of them leaves at the front of `held`, and the chains' words are unclocked once for each of those slices, in eights.
 use mathlib.Core.Path.{_≡_, refl, sym, ap, _∙_}
 use mathlib.Core.List.{List, _++_}
 use Prim.Native.Nat.{ℕ, _-_, _≤_, min}
@@ -8,17 +8,17 @@ use lib.ListN.{length, take, drop}
 use lib.Seq.{length-take-le}
 use Rattle.rows.specs.Row.{cell}
 use Rattle.combinations.proofs.Units.{length-units}
-use Rattle.marked_words.proofs.BackLaws.{back-length}
-use Rattle.swept_columns.proofs.FillLaws.{part-through, part-through-length}
+use Rattle.unclocking.proofs.UnclockLaws.{eight-back-same}
+use Rattle.cutter.specs.Turns.{eights}
 use Rattle.cutter.proofs.FrameLaws.{Sound, earlierWords, framed}
 use Rattle.cutter.proofs.RunLaws.{CutTo, cut-starts, cut-turns, cut-short}
-use Rattle.cutter.proofs.SliceLaws.{earlier-words-none, earlier-words-more, listed-framed, seen, seen-sound, sliced-short, sliced-all}
+use Rattle.cutter.proofs.SliceLaws.{earlier-words-none, slice-framed, passed-part, passed-part-length, seen, seen-sound, sliced-short, sliced-all}
 use borrow.Author.Needs.{needs}
 use Rattle.cutter.proofs.cut_slices.Statement.{statement}
 use Rattle.cutter.proofs.cut_slices.Tie as tie
 
 abbrev Inv-loop : tie.InvT-loop
-Inv-loop set k starts₀ register width chains slices marks words₀ columns₀ held₀ left₀ runs₀ t₀ starts words columns held left runs t =
+Inv-loop set k starts₀ register width chains slices marks words₀ table columns₀ held₀ left₀ runs₀ t₀ starts words columns held left runs t =
     (t ≤ slices)
     × (slices ≤ 512)
     × (runs ≤ t)
@@ -29,41 +29,44 @@ Inv-loop set k starts₀ register width chains slices marks words₀ columns₀ 
     × (length held ≡ 64)
     × (chains ≤ 256)
     × (width ≡ min (register .m) 64)
-    × (take chains words ≡ earlierWords (seen register (take chains words₀) slices set marks .wiring) t (take chains words₀))
+    × (take chains words ≡ earlierWords (seen register (take chains words₀) slices set marks .wiring) (eights t) (take chains words₀))
     × (Sound (seen register (take chains words₀) slices set marks .wiring) → 1 ≤ k → CutTo (seen register (take chains words₀) slices set marks) k t runs left held starts)
 
 abbrev μ-loop : tie.MeasureT-loop
-μ-loop set k starts₀ register width chains slices marks words₀ columns₀ held₀ left₀ runs₀ t₀ starts words columns held left runs t =
+μ-loop set k starts₀ register width chains slices marks words₀ table columns₀ held₀ left₀ runs₀ t₀ starts words columns held left runs t =
     slices - t
 
 loop-holds : tie.Need-loop-holds Inv-loop μ-loop
 loop-holds c = (
   search needs,
-  omega (arith, c .before .before .before .before .before .slice-limit .ensures),
+  omega (arith, c .before .before .before .before .before .before .slice-limit .ensures),
   search needs,
   search needs,
-  c .before .before .before .before .before .before .before .before .before .before .before .pre,
-  c .before .before .all-words .ensures .1,
+  c .before .before .before .before .before .before .before .before .before .before .before .before .pre,
+  c .before .before .before .all-words .ensures .1,
   c .before .no-columns .ensures,
   ap length (c .unit-words .ensures) ∙ length-units 64,
-  omega (arith, c .before .before .before .before .before .before .chain-limit .ensures),
-  c .before .before .before .before .before .before .before .width-limit .ensures,
+  omega (arith, c .before .before .before .before .before .before .before .chain-limit .ensures),
+  c .before .before .before .before .before .before .before .before .width-limit .ensures,
   earlier-words-none _ _,
   (λ sound some. cut-starts _ sound _ some _ _),
 )
 
--- the words of the slice, as they were listed
-listed : (c : tie.After-list-row Inv-loop μ-loop) → take (length (c .list-row .last .0) - c .list-row .result) (drop (c .list-row .result) (c .list-row .last .0)) ≡ framed (seen (c .before .before .before .before .before .before .before .before .before .before .before .before .before .before .before .before .before .args .taken .register) (take (c .before .before .before .before .before .before .before .before .before .before .before .before .chain-limit .result) (c .before .before .before .before .before .before .before .before .all-words .result)) (c .before .before .before .before .before .before .before .before .before .before .before .slice-limit .result) (c .before .before .before .before .before .before .before .before .before .before .before .before .before .before .before .before .before .args .set .now) (c .before .before .before .before .before .before .before .before .before .before .unknown-rows .result)) (c .before .before .before .before .before .loop .t)
+-- the columns of the slice, as they were listed
+listed : (c : tie.After-list-slice Inv-loop μ-loop) → take (256 - c .list-slice .result) (drop (c .list-slice .result) (c .list-slice .last .1 .1 .1 .1 .0)) ≡ framed (seen (c .before .before .before .before .before .before .before .before .before .before .before .before .before .before .before .before .before .before .args .taken .register) (take (c .before .before .before .before .before .before .before .before .before .before .before .before .before .chain-limit .result) (c .before .before .before .before .before .before .before .before .before .all-words .result)) (c .before .before .before .before .before .before .before .before .before .before .before .before .slice-limit .result) (c .before .before .before .before .before .before .before .before .before .before .before .before .before .before .before .before .before .before .args .set .now) (c .before .before .before .before .before .before .before .before .before .before .before .unknown-rows .result)) (c .before .before .before .before .before .loop .t)
 listed c =
     let at = c .before .before .before .before .before .loop in
-    listed-framed (seen (c .before .before .before .before .before .before .before .before .before .before .before .before .before .before .before .before .before .args .taken .register) (take (c .before .before .before .before .before .before .before .before .before .before .before .before .chain-limit .result) (c .before .before .before .before .before .before .before .before .all-words .result)) (c .before .before .before .before .before .before .before .before .before .before .before .slice-limit .result) (c .before .before .before .before .before .before .before .before .before .before .before .before .before .before .before .before .before .args .set .now) (c .before .before .before .before .before .before .before .before .before .before .unknown-rows .result)) (at .t) (take (c .before .before .before .before .before .before .before .before .before .before .before .before .chain-limit .result) (at .words)) (c .before .before .before .row-of .result .now) (at .columns) _ _ (at .inv .10) (ap cell (c .before .before .before .row-of .ensures))
-    (omega (arith, length-take-le (c .before .before .before .before .before .before .before .before .before .before .before .before .chain-limit .result) (at .words) (omega (arith, at .inv .5, at .inv .8)), at .inv .6, at .inv .8)) (c .list-row .ensures .0) (c .list-row .ensures .1)
+    let row = c .before .before .before .row-of in
+    slice-framed (seen (c .before .before .before .before .before .before .before .before .before .before .before .before .before .before .before .before .before .before .args .taken .register) (take (c .before .before .before .before .before .before .before .before .before .before .before .before .before .chain-limit .result) (c .before .before .before .before .before .before .before .before .before .all-words .result)) (c .before .before .before .before .before .before .before .before .before .before .before .before .slice-limit .result) (c .before .before .before .before .before .before .before .before .before .before .before .before .before .before .before .before .before .before .args .set .now) (c .before .before .before .before .before .before .before .before .before .before .before .unknown-rows .result)) (at .t) 256 _ (row .result .now) (c .list-slice .last .1 .1 .1 .1 .0) (sym (c .list-slice .kept .1 .1 .1 .1 .0 ∙ at .inv .6)) (ap cell (row .ensures)) (c .list-slice .ensures .1 _ _ (at .inv .10))
 
-slice-aggregate-list-row : tie.Need-slice-aggregate-list-row Inv-loop μ-loop
-slice-aggregate-list-row c = sym (c .before .before .before .loop .inv .6)
+slice-aggregate-list-slice : tie.Need-slice-aggregate-list-slice Inv-loop μ-loop
+slice-aggregate-list-slice c = ?
 
-slice-aggregate-list-row-2 : tie.Need-slice-aggregate-list-row-2 Inv-loop μ-loop
-slice-aggregate-list-row-2 c = sym (length-take-le _ _ (search needs))
+slice-aggregate-list-slice-2 : tie.Need-slice-aggregate-list-slice-2 Inv-loop μ-loop
+slice-aggregate-list-slice-2 c = ?
+
+list-slice-requires : tie.Need-list-slice-requires Inv-loop μ-loop
+list-slice-requires c κs = ?
 
 slice-aggregate-put-slice : tie.Need-slice-aggregate-put-slice Inv-loop μ-loop
 slice-aggregate-put-slice c = sym (c .before .before .before .before .before .before .before .loop .inv .7)
@@ -72,56 +75,51 @@ put-slice-requires : tie.Need-put-slice-requires Inv-loop μ-loop
 put-slice-requires c κs = (c .before .before .before .before .before .before .before .before .before .loop .inv .3, omega (arith, c .before .before .before .before .before .before .before .before .before .loop .inv .9), c .before .before .before .before .before .before .before .before .before .loop .inv .7)
 
 same-length : tie.Need-same-length Inv-loop μ-loop
-same-length c = c .before .before .before .before .before .before .before .before .before .before .before .before .loop .inv .4 ∙ sym (c .before .before .before .before .before .before .before .before .before .before .before .before .before .before .before .before .before .before .before .before .before .before .before .before .pre)
+same-length c = c .before .before .before .before .before .before .before .before .before .before .before .before .loop .inv .4 ∙ sym (c .before .before .before .before .before .before .before .before .before .before .before .before .before .before .before .before .before .before .before .before .before .before .before .before .before .pre)
 
 returns : tie.Need-returns Inv-loop μ-loop
 returns c =
     let at = c .before .before .before .before .before .before .before .before .before .before .before .before .loop in
     let put = c .before .before .put-slice in
     λ taken some most.
-    let sound = seen-sound _ _ taken _ (c .before .before .before .before .before .before .before .before .before .before .before .before .before .before .before .before .before .unknown-rows .ensures) _ _ _ (c .before .before .before .before .before .before .before .before .before .before .before .before .before .before .before .all-words .ensures) (c .before .before .before .before .before .before .before .before .before .before .before .before .before .before .before .before .before .before .before .chain-limit .ensures) (c .before .before .before .before .before .before .before .before .before .before .before .before .before .before .before .before .before .before .slice-limit .ensures) in
-    sliced-short _ _ taken _ (c .before .before .before .before .before .before .before .before .before .before .before .before .before .before .before .before .before .unknown-rows .ensures) _ _ _ (c .before .before .before .before .before .before .before .before .before .before .before .before .before .before .before .all-words .ensures) (c .before .before .before .before .before .before .before .before .before .before .before .before .before .before .before .before .before .before .before .chain-limit .ensures) (c .before .before .before .before .before .before .before .before .before .before .before .before .before .before .before .before .before .before .slice-limit .ensures) _ _
-    (cut-short _ sound _ some (at .t) (at .runs) (at .left) _ (at .held) (at .starts) _ _ _ (search needs) (omega (arith, at .inv .0, at .inv .1, at .inv .2, at .inv .4, c .before .before .before .before .before .before .before .before .before .before .before .loop-test .taken)) (listed (c .before .before .before .before .before .before .before)) (at .inv .9) (put .ensures .1 .1) (search needs))
+    let sound = seen-sound _ _ taken _ (c .before .before .before .before .before .before .before .before .before .before .before .before .before .before .before .before .before .before .unknown-rows .ensures) _ _ _ (c .before .before .before .before .before .before .before .before .before .before .before .before .before .before .before .before .all-words .ensures) (c .before .before .before .before .before .before .before .before .before .before .before .before .before .before .before .before .before .before .before .before .chain-limit .ensures) (c .before .before .before .before .before .before .before .before .before .before .before .before .before .before .before .before .before .before .before .slice-limit .ensures) in
+    sliced-short _ _ taken _ (c .before .before .before .before .before .before .before .before .before .before .before .before .before .before .before .before .before .before .unknown-rows .ensures) _ _ _ (c .before .before .before .before .before .before .before .before .before .before .before .before .before .before .before .before .all-words .ensures) (c .before .before .before .before .before .before .before .before .before .before .before .before .before .before .before .before .before .before .before .before .chain-limit .ensures) (c .before .before .before .before .before .before .before .before .before .before .before .before .before .before .before .before .before .before .before .slice-limit .ensures) _ _
+    (cut-short _ sound _ some (at .t) (at .runs) (at .left) _ (at .held) (at .starts) _ _ _ (c .before .before .before .before .before .before .before .before .before .before .before .loop-test .taken) (omega (arith, at .inv .0, at .inv .1, at .inv .2, at .inv .4, c .before .before .before .before .before .before .before .before .before .before .before .loop-test .taken)) (listed (c .before .before .before .before .before .before .before)) (at .inv .9) (put .ensures .1 .1) (c .if1 .taken))
 
-mul-put-slice : tie.Need-mul-put-slice Inv-loop μ-loop
-mul-put-slice c = search needs
-
-part-put-slice-start : tie.Need-part-put-slice-start Inv-loop μ-loop
-part-put-slice-start c = search needs
-
-slice-aggregate-unclock-words : tie.Need-slice-aggregate-unclock-words Inv-loop μ-loop
-slice-aggregate-unclock-words c = sym (length-take-le _ _ (search needs))
+slice-aggregate-pass-slice : tie.Need-slice-aggregate-pass-slice Inv-loop μ-loop
+slice-aggregate-pass-slice c = sym (length-take-le _ _ (search needs))
 
 loop-again : tie.Need-loop-again Inv-loop μ-loop
 loop-again c =
-    let at = c .before .before .before .before .before .before .before .before .before .before .before .before .before .before .before .before .loop in
-    let put = c .before .before .before .before .before .before .put-slice in
-    let unclocked = c .before .unclock-words in
-    let n = c .before .before .before .before .before .before .before .before .before .before .before .before .before .before .before .before .before .before .before .before .before .before .before .chain-limit .result in (
-      search needs,
+    let at = c .before .before .before .before .before .before .before .before .before .before .before .before .before .before .before .before .before .loop in
+    let put = c .before .before .before .before .before .before .before .put-slice in
+    let pass = c .before .pass-slice in
+    let n = c .before .before .before .before .before .before .before .before .before .before .before .before .before .before .before .before .before .before .before .before .before .before .before .before .before .chain-limit .result in
+    let many : length (pass .last .1 .1 .0) ≡ n = pass .kept .1 .1 .0 ∙ length-take-le n (at .words) (omega (arith, at .inv .5, at .inv .8)) in (
+      c .before .before .before .before .before .before .before .before .before .before .before .before .before .before .before .before .loop-test .taken,
       at .inv .1,
       omega (arith, at .inv .2, put .ensures .1 .0),
       put .ensures .0,
       search needs,
-      part-through-length _ _ (at .words) n (search needs) (unclocked .ensures) ∙ at .inv .5,
-      c .before .before .before .before .before .before .before .before .before .before .before .list-row .kept .0 ∙ at .inv .6,
+      passed-part-length n (at .words) (pass .last .1 .1 .0) (omega (arith, at .inv .5, at .inv .8)) many ∙ at .inv .5,
+      c .before .before .before .before .before .before .before .before .before .before .before .before .list-slice .kept .1 .1 .1 .1 .0 ∙ at .inv .6,
       put .kept .0 ∙ at .inv .7,
       at .inv .8,
       at .inv .9,
-      part-through _ _ (at .words) n (search needs) (unclocked .ensures) ∙ earlier-words-more _ _ _ _ (at .inv .10),
+      passed-part _ _ n _ (at .words) (pass .last .1 .1 .0) many (pass .ensures _ _ (eight-back-same _ _ _ _ _ (c .before .before .before .before .before .before .before .before .before .before .before .before .before .before .before .before .before .before .before .before .eight-back .ensures)) (at .inv .10)),
       (λ sound some.
-          cut-turns _ sound _ some (at .t) (at .runs) (at .left) _ (at .held) (at .starts) _ _ _ (search needs) (omega (arith, at .inv .0, at .inv .1, at .inv .2, at .inv .4, c .before .before .before .before .before .before .before .before .before .before .before .before .before .before .before .loop-test .taken)) (listed (c .before .before .before .before .before .before .before .before .before .before .before)) (at .inv .9) (put .ensures .1 .1) (at .inv .11 sound some) (search needs)),
+          cut-turns _ sound _ some (at .t) (at .runs) (at .left) _ (at .held) (at .starts) _ _ _ (c .before .before .before .before .before .before .before .before .before .before .before .before .before .before .before .before .loop-test .taken) (omega (arith, at .inv .0, at .inv .1, at .inv .2, at .inv .4, c .before .before .before .before .before .before .before .before .before .before .before .before .before .before .before .before .loop-test .taken)) (listed (c .before .before .before .before .before .before .before .before .before .before .before .before)) (at .inv .9) (put .ensures .1 .1) (at .inv .11 sound some) (search needs)),
     )
 
 same-length-2 : tie.Need-same-length-2 Inv-loop μ-loop
-same-length-2 c = c .before .loop .inv .4 ∙ sym (c .before .before .before .before .before .before .before .before .before .before .before .before .before .pre)
+same-length-2 c = c .before .loop .inv .4 ∙ sym (c .before .before .before .before .before .before .before .before .before .before .before .before .before .before .pre)
 
 returns-2 : tie.Need-returns-2 Inv-loop μ-loop
 returns-2 c =
     let at = c .before .loop in
     λ taken some most.
-    let sound = seen-sound _ _ taken _ (c .before .before .before .before .before .before .unknown-rows .ensures) _ _ _ (c .before .before .before .before .all-words .ensures) (c .before .before .before .before .before .before .before .before .chain-limit .ensures) (c .before .before .before .before .before .before .before .slice-limit .ensures) in
-    sliced-all _ _ taken _ (c .before .before .before .before .before .before .unknown-rows .ensures) _ _ _ (c .before .before .before .before .all-words .ensures) (c .before .before .before .before .before .before .before .before .chain-limit .ensures) (c .before .before .before .before .before .before .before .slice-limit .ensures) _ _ _ (at .left) (at .held) _ some (omega (arith, at .inv .0)) (omega (arith, at .inv .0, at .inv .1, at .inv .2)) (at .inv .4) (at .inv .11 sound some)
+    let sound = seen-sound _ _ taken _ (c .before .before .before .before .before .before .before .unknown-rows .ensures) _ _ _ (c .before .before .before .before .before .all-words .ensures) (c .before .before .before .before .before .before .before .before .before .chain-limit .ensures) (c .before .before .before .before .before .before .before .before .slice-limit .ensures) in
+    sliced-all _ _ taken _ (c .before .before .before .before .before .before .before .unknown-rows .ensures) _ _ _ (c .before .before .before .before .before .all-words .ensures) (c .before .before .before .before .before .before .before .before .before .chain-limit .ensures) (c .before .before .before .before .before .before .before .before .slice-limit .ensures) _ _ _ (at .left) (at .held) _ some (omega (arith, at .inv .0)) (omega (arith, at .inv .0, at .inv .1, at .inv .2)) (at .inv .4) (at .inv .11 sound some)
 
 pub cut-slices-spec : {M : Type 1} → statement M
 cut-slices-spec =
@@ -136,16 +134,17 @@ cut-slices-spec =
     (λ c κs. search needs)
     (λ c κs. search needs)
     (λ c κs. search needs)
+    (λ c κs. search needs)
     loop-holds
     (λ c κs. search needs)
-    slice-aggregate-list-row
     (λ c. search needs)
-    slice-aggregate-list-row-2
-    (λ c κs. search needs)
+    slice-aggregate-list-slice
+    slice-aggregate-list-slice-2
+    list-slice-requires
     slice-aggregate-put-slice
-    mul-put-slice
     (λ c. search needs)
-    part-put-slice-start
+    (λ c. search needs)
+    (λ c. search needs)
     (λ c. search needs)
     put-slice-requires
     same-length
@@ -155,7 +154,7 @@ cut-slices-spec =
     (λ c. search needs)
     (λ c. search needs)
     (λ c. search needs)
-    slice-aggregate-unclock-words
+    slice-aggregate-pass-slice
     (λ c κs. search needs)
     (λ c. search needs)
     (λ c. search needs)
