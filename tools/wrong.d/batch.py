@@ -904,7 +904,7 @@ class Batch:
     # ---- cutting
 
     def cuttings(self, count):
-        """Sets cut into runs, and words a clock earlier."""
+        """Sets cut into runs."""
         sets = [sample()] + [self.any_set() for _ in range(count)]
         for m in (1, 2, 3, 4, 5, 8, 63, 64):
             sets += [self.any_set(m, self.pick(CHAINS), s, kind) for s in (0, 1, 2, 40) for kind in ("one", "few", "half")]
@@ -914,6 +914,9 @@ class Batch:
             sets.append(self.any_set(m, n, s, kind))
         sets += [self.low_rank(self.pick([64, 36, 9]), self.pick([5, 9, 17]), self.pick([20, 60, 100])) for _ in range(4)]
         sets += [self.first_slice(self.pick([64, 9]), self.pick([3, 70]), 9, 0), self.single_cells(64, 20, 30, 15)]
+        # few independent columns, reached from every byte of the words eight clocks at once: a word that is unclocked wrong is a column more
+        for m, n, s in ((64, 256, 512), (64, 256, 100), (63, 100, 41), (17, 60, 64), (9, 40, 30), (5, 9, 17), (3, 4, 20)):
+            sets.append(self.meeting(m, n, s))
         # one unknown cell to a slice, from some slice on or up to one
         for m, n, s in ((3, 2, 12), (8, 5, 30), (64, 17, 200)):
             one, at = self.any_set(m, n, s, "one"), self.random.randrange(1, s)
@@ -932,24 +935,54 @@ class Batch:
             one = self.any_set(n=n, s=s)
             for data in self.damaged(one):
                 self.call("canceller_cut", [self.pick([0, 1, 1, one.m, one.m + 1])], a=data, v=self.junk_words(self.pick([0, s, 512])))
-        for _ in range(count):
-            m = self.pick(WIDTHS)
-            for register in ([m, self.taps(m)], [m, self.bits(64)], [self.pick([0, 65, *NUMBERS]), self.pick([0, 1, ALL, self.bits(64)])]):
-                words = [self.pick([self.bits(m), self.word(m), self.bits(64), 0]) for _ in range(self.pick([0, 1, 2, 3, 20, 256]))]
-                self.call("unclocking::unclock_words", register + [self.inversion(m), self.bits(64)], v=words)
+
+    def meeting(self, m, n, s):
+        """Chains that are each unknown in one slice, with words of which few are independent by the end: any taps."""
+        taps, ends = self.taps(m), [self.word(m) for _ in range(max(1, m // 5))]
+        spread, slices = [], [0] * s
+        for c in range(n):
+            t, w = self.random.randrange(s), self.pick(ends) ^ self.pick([0, *ends])
+            for _ in range(s - 1 - t):
+                w = unclocked(m, taps, w)
+            spread.append(w or 1)
+            slices[t] |= (w != 0) << c
+        return Set(m, taps, self.inversion(m), spread, [(self.bits(n) & ~x, x) for x in slices])
 
     def cut(self, one):
-        """A set cut for k 0, 1, 8, m, m + 1 and others, among them the most words that every slice leaves, and one more; with cut lists
-        that just suffice, that are too short and that are longer. Other values change nothing."""
+        """A set cut for k 0, 1, 8, m, m + 1 and others, among them the most words that every slice leaves, those that all slices together
+        leave, and one more of each; with cut lists that just suffice, that are too short and that are longer. Other values change
+        nothing."""
         m, data, slices = one.m, one.data(), list(one.slice_columns())[::-1]
-        least = m - max(map(rank_of, slices), default=0)
-        for k in {0, 1, 2, 8, m - 1, m, m + 1, least - 1, least, least + 1, self.random.randint(1, m), self.pick(NUMBERS)} - {-1}:
+        least, whole = m - max(map(rank_of, slices), default=0), one.left()
+        for k in {0, 1, 2, 8, m - 1, m, m + 1, least - 1, least, least + 1, whole, whole + 1, self.random.randint(1, m),
+                  self.pick(NUMBERS)} - {-1}:
             runs = runs_of(m, slices, k) if 1 <= k <= m else 0
             for room in {runs, max(0, runs - 1), self.near(runs), self.pick([0, 1, one.s, 512, 600])}:
                 self.call("canceller_cut", [k], a=data, v=self.junk_words(room))
             if runs:
                 other = one.revised([self.bits(one.n) for _ in one.slices])
                 self.call("canceller_cut", [k], a=other.data(), v=self.junk_words(runs))
+
+    def unclockings(self, count):
+        """Words some clocks earlier, and 8 clocks earlier by a table: every byte is the lowest one of some word."""
+        for m in [1, 3, 64, 65, 0] + [self.pick(WIDTHS, WIDTHS, NUMBERS) for _ in range(count)]:
+            width = max(1, min(m, 64))
+            for taps in (self.taps(width), self.bits(width) | 1, self.pick([0, ALL, self.bits(64)])):
+                register = [m, taps, self.inversion(width), self.bits(64)]
+                for clocks in (0, 1, 7, 8, 9, self.pick(range(2, 7)), self.pick([15, 16, 63, 64, 65, 255, 256, 257])):
+                    words = [self.pick([self.word(width), self.bits(width), self.bits(64), 0]) for _ in range(self.pick([0, 1, 2, 3, 20]))]
+                    self.call("unclocking::unclock_words", register + [clocks], v=words)
+                self.call("unclocking::unclock_words", register + [self.pick([511, 512, 513, 32768, 65535])], v=self.junk_words(2))
+                self.call("unclocking::unclock_words", register + [self.pick(range(9))], v=self.lowest_bytes())
+                self.call("unclocking::eight_back", register, v=self.junk_words(256))
+        for _ in range(count):
+            words = self.pick([[], [ALL], [0, 255, 256, 1 << 63, 255 << 56], self.lowest_bytes(), self.junk_words(self.pick([1, 3, 17, 600]))])
+            self.call("unclocking::unclock_eight", u=self.junk_words(256), v=words)
+        self.call("unclocking::unclock_eight", u=self.junk_words(256), v=self.lowest_bytes())
+
+    def lowest_bytes(self):
+        """256 words, no two with the same lowest byte."""
+        return [self.pick([0, self.bits(56)]) << 8 | byte for byte in self.random.sample(range(256), 256)]
 
     @staticmethod
     def parities(words):
@@ -1233,6 +1266,11 @@ def clocked(m, taps, w):
     return (w << 1 & low(m)) ^ (taps if w >> (m - 1) & 1 else 0)
 
 
+def unclocked(m, taps, w):
+    """The word that a clock takes to w, where the taps have bit 0."""
+    return w >> 1 ^ (taps >> 1 | 1 << (m - 1) if w & 1 else 0)
+
+
 def powers_of(m, taps):
     """Bit 0 alone, 0 to 575 clocks later."""
     out = [1]
@@ -1362,4 +1400,5 @@ def calls_of(number):
     batch.answers()
     batch.two_calls(25)
     batch.cuttings(30)
+    batch.unclockings(30)
     return batch.calls

@@ -191,9 +191,10 @@ pub fn wording(s: usize, unknowns: usize, rank: usize, inputs: usize) -> Row {
     })
 }
 
-/// Cutting sets of s slices into runs that leave at least k words: the runs, the control bits and the cuts. Asked is, over 512 slices with
-/// k 8, a thirtieth of what restarting each run takes for 512 unknown cells, half of it for 4,096, and a two-hundredth where one run takes
-/// all slices; and at most 1.25 times the same in Rust.
+/// Cutting sets of s slices into runs that leave at least k words: the runs, the control bits and the cuts. Asked are, over 512 slices
+/// with k 8, at least 30 times the speed of restarting each run for 512 unknown cells, 200 times where one run takes all slices, 2 times for
+/// 4,096 unknown cells; and at most 1.25 times the time of the same one pass in Rust. The 200 are not reached for 4,096 unknown cells in one
+/// run, where most of the work is the elimination.
 pub fn cutting(s: usize, unknowns: usize, rank: usize, k: u64, inputs: usize) -> Row {
     let sets = sets(7, s, unknowns, rank, inputs);
     let of_cut =

@@ -4,11 +4,27 @@ use super::elimination::{reduce, unit_words};
 use super::response::{fill_swept, list_row, mark_row};
 use super::set::{read_set, Read};
 
-/// Puts for each word what it was one clock earlier.
-fn unclock_words(read: Read, words: &mut [u64]) {
+/// Puts for each word what it was so many clocks earlier.
+fn unclock_words(read: Read, clocks: usize, words: &mut [u64]) {
     let one = read.taps >> 1 ^ 1 << (read.m - 1);
     for w in words {
-        *w = *w >> 1 ^ (one & (*w & 1).wrapping_neg());
+        for _ in 0..clocks {
+            *w = *w >> 1 ^ (one & (*w & 1).wrapping_neg());
+        }
+    }
+}
+
+/// For each byte what it was 8 clocks earlier.
+fn eight_back(read: Read) -> [u64; 256] {
+    let mut table = std::array::from_fn(|x| x as u64);
+    unclock_words(read, 8, &mut table);
+    table
+}
+
+/// Puts for each word what it was 8 clocks earlier.
+fn unclock_eight(table: &[u64; 256], words: &mut [u64]) {
+    for w in words {
+        *w = *w >> 8 ^ table[(*w % 256) as usize];
     }
 }
 
@@ -32,7 +48,15 @@ fn put_slice(
 /// The first slice of each run over the front of `starts`, and how many there are.
 type CutSlices = fn(&[u8], Read, &[u64; 256], usize, &mut [u64; 512]) -> Result<usize, u64>;
 
-/// By one pass: all columns of a run clocked together have the rank that they had, so each chain's word is unclocked once for each slice.
+/// The chains' words behind slice t, from those before it: unclocked in eights.
+fn pass_slice(table: &[u64; 256], t: usize, words: &mut [u64]) {
+    if t % 8 == 7 {
+        unclock_eight(table, words);
+    }
+}
+
+/// By one pass: all columns of a run clocked together have the rank that they had, so a slice's columns are the chains' words unclocked
+/// once for each slice before it. All chains' words are unclocked 8 times together, those of marked cells for the slices between.
 fn cut_slices(
     set: &[u8],
     read: Read,
@@ -42,11 +66,13 @@ fn cut_slices(
 ) -> Result<usize, u64> {
     let mut all = *spread;
     let words = &mut all[..read.n];
+    let table = eight_back(read);
     let mut columns = [0; 256];
     let mut held = unit_words();
     let (mut left, mut runs) = (0, 0);
     for t in 0..read.s {
         let place = list_row(&mut columns, words, mark_row(set, read.n, t));
+        unclock_words(read, t % 8, &mut columns[place..]);
         let turn = put_slice(&mut held, left, &columns[place..], read.m as usize, k);
         left = turn.0;
         if left < k {
@@ -56,7 +82,7 @@ fn cut_slices(
             starts[runs] = t as u64;
             runs += 1;
         }
-        unclock_words(read, words);
+        pass_slice(&table, t, words);
     }
     Ok(runs)
 }
