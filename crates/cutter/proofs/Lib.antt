@@ -3,3 +3,4 @@ pub mod RunLaws
 pub mod TurnLaws
 pub mod SameLaws
 pub mod SliceLaws
+pub mod CallLaws
