@@ -39,7 +39,8 @@ use Rattle.unclocking.proofs.UnclockLaws.{earlier-zero, earlier-lt, later-earli
 use Rattle.swept_columns.proofs.FillLaws.{laterWords, later-words-get, first-words}
 use Rattle.sparse_columns.proofs.SparseLaws.{map-chosen}
 use Rattle.cutter.specs.Cutting.{wordsLeft}
-use Rattle.cutter.specs.Turns.{wordsAt}
+use Rattle.slice_columns.specs.Frame.{wordsAt}
+use Rattle.slice_columns.proofs.FrameLaws.{earlierWords, earlier-words-get}
 
 -- a register whose clock loses no state, and chains within it
 pub record Sound (k : Circuit) : Type 0 where
@@ -47,13 +48,6 @@ pub record Sound (k : Circuit) : Type 0 where
   pub odd : digit 0 (k .taps) ≡ 1
   pub taps : k .taps < 2 ^ k .width
   pub spread : (c : ℕ) → getD (k .spread) c 0 < 2 ^ k .width
-
--- every word before j clocks
-abbrev pub earlierWords : Circuit → ℕ → List ℕ → List ℕ
-earlierWords k j ws = map (earlier k j) ws
-
-pub earlier-words-get : (k : Circuit) (j : ℕ) (ws : List ℕ) (c : ℕ) → getD (earlierWords k j ws) c 0 ≡ earlier k j (getD ws c 0)
-earlier-words-get k j ws c = ap (getD (map (earlier k j) ws) c) (sym (earlier-zero k j)) ∙ List·getD-map (earlier k j) ws c 0
 
 -- ---- words of marked cells
 

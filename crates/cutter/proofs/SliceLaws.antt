@@ -1,16 +1,13 @@
 -- The pass over a set's slices: the words of a slice as they are listed, and what the pass over all slices comes to. Assumes nothing.
 use mathlib.Core.Path.{_≡_, refl, sym, ap, ap₂, _∙_, subst}
 use mathlib.Core.Bool.{Bool, true, false, cond}
-use mathlib.Core.Logic.{⊎-elim}
 use mathlib.Core.List.{List, [], _∷_, _++_, map, map-map, append-nil}
 use Prim.Native.Nat.{ℕ, zero, suc, _+_, _-_, _*_, _%_, _≤_, _<_, min}
-use native.Mathlib.Nat.{eq-or-lt-of-le}
 use native.Mathlib.Omega.{arith}
 use lib.ListN.{length, take, drop, getD, length-append, length-map, length-drop, drop-of-length-le}
 use lib.Seq.{take-at, take-all, drop-at, length-take-le}
 use Rattle.word.specs.Reply.{_when_, Reply, answer, refusal, reply}
 use Rattle.word.proofs.TestLaws.{replied-answer}
-use Rattle.numbers.specs.Joined.{joined}
 use Rattle.numbers.proofs.PartLaws.{take-limit}
 use Rattle.rows.specs.Row.{Cells, cell, rowBytes}
 use Rattle.rows.specs.Lists.{rowOf, cellsOf}
@@ -26,15 +23,13 @@ use Rattle.set_file.proofs.Laws.{Accepted, accepted}
 use Rattle.signatures.specs.Signature.{Response}
 use Rattle.signatures.specs.Given.{Given, RevisedFrom}
 use Rattle.signatures.specs.Sets.{given}
-use Rattle.marked_words.specs.Back.{back}
-use Rattle.marked_words.proofs.BackLaws.{back-fits, back-length}
 use Rattle.unclocking.specs.Unclocked.{earlier}
-use Rattle.unclocking.proofs.UnclockLaws.{earlier-add}
-use Rattle.sparse_columns.proofs.SparseLaws.{map-chosen}
+use Rattle.slice_columns.specs.Frame.{wordsAt}
+use Rattle.slice_columns.proofs.FrameLaws.{earlierWords}
 use Rattle.cutter.specs.Cutting.{shortSlice, startsFor, startsOf}
-use Rattle.cutter.specs.Turns.{eights, wordsAt, saidSlices, Sliced}
+use Rattle.cutter.specs.Turns.{saidSlices, Sliced}
 use Rattle.cutter.specs.declared.Slices.{Slices}
-use Rattle.cutter.proofs.FrameLaws.{Sound, earlierWords, earlier-words-get, framed, framed-words}
+use Rattle.cutter.proofs.FrameLaws.{Sound, framed, framed-words}
 use Rattle.cutter.proofs.RunLaws.{CutTo, cut-ends}
 use Rattle.cutter.proofs.SameLaws.{same-starts, same-short, sound-set}
 
@@ -45,84 +40,12 @@ unfolding earlier
 earlier-words-none k [] = refl
 earlier-words-none k (w ∷ ws) = ap (λ (l : List ℕ). w ∷ l) (earlier-words-none k ws)
 
--- slice t is the last of eight, or it isn't
-pub passed-eight : (k : Circuit) (t : ℕ) (spread ws ws′ : List ℕ) → t % 8 ≡ 7 → ws ≡ earlierWords k (eights t) spread → ws′ ≡ map (earlier k 8) ws
-    → ws′ ≡ earlierWords k (eights (t + 1)) spread
-passed-eight k t spread ws ws′ h e e′ =
-    let more : eights t + 8 ≡ eights (t + 1) = omega arith in
-    e′ ∙ ap (map (earlier k 8)) e ∙ map-map (earlier k 8) (earlier k (eights t)) spread ∙ all spread ∙ ap (λ (n : ℕ). earlierWords k n spread) more
-  where
-    all : (l : List ℕ) → map (λ w. earlier k 8 (earlier k (eights t) w)) l ≡ earlierWords k (eights t + 8) l
-    all [] = refl
-    all (w ∷ l) = ap₂ _∷_ (earlier-add k (eights t) 8 w) (all l)
-
-pub passed-between : (k : Circuit) (t : ℕ) (spread ws : List ℕ) → (t % 8 ≡ 7 → ⊥) → ws ≡ earlierWords k (eights t) spread
-    → ws ≡ earlierWords k (eights (t + 1)) spread
-passed-between k t spread ws h e =
-    let same : eights t ≡ eights (t + 1) = omega (arith, not-last) in e ∙ ap (λ (n : ℕ). earlierWords k n spread) same
-  where
-    not-last : t % 8 < 7
-    not-last = let most : t % 8 ≤ 7 = omega arith in ⊎-elim (λ (q : t % 8 ≡ 7). absurd (h q)) (λ (l : t % 8 < 7). l) (eq-or-lt-of-le most)
-
 -- the first n words of a list passed on, where vs are these
 pub passed-part : (k : Circuit) (t n : ℕ) (spread ws vs : List ℕ) → length vs ≡ n → vs ≡ earlierWords k t spread → take n (vs ++ drop n ws) ≡ earlierWords k t spread
 passed-part k t n spread ws vs l e = take-at vs (drop n ws) n l ∙ e
 
 pub passed-part-length : (n : ℕ) (ws vs : List ℕ) → n ≤ length ws → length vs ≡ n → length (vs ++ drop n ws) ≡ length ws
 passed-part-length n ws vs h l = length-append vs (drop n ws) ∙ omega (arith, length-drop n ws)
-
--- ---- a slice's words, listed at the end of a list
-
-marked-most : (ws : List ℕ) (x : Cells) (n : ℕ) → length (markedWords ws x n) ≤ n
-unfolding joined
-marked-most ws x zero = omega arith
-marked-most ws x (suc n) =
-    omega (arith, length-append (markedWords ws x n) (listed (x n) (getD ws n 0)), marked-most ws x n, one (x n))
-  where
-    one : (d : ℕ) → length (listed d (getD ws n 0)) ≤ 1
-    one zero = omega arith
-    one (suc d) = omega arith
-
--- the chains' words unclocked in eights, of the marked cells, each unclocked for the slices since
-since-eight : (k : Circuit) (t : ℕ) (x : Cells) → map (earlier k (t % 8)) (wordsAt k (eights t) x) ≡ wordsAt k t x
-since-eight k t x =
-    let sum : eights t + t % 8 ≡ t = omega arith in
-    map-chosen (earlier k (t % 8)) (earlierWords k (eights t) (k .spread)) (earlierWords k t (k .spread)) x (chains k)
-    (λ c l.
-    ap (earlier k (t % 8)) (earlier-words-get k (eights t) (k .spread) c) ∙ earlier-add k (eights t) (t % 8) (getD (k .spread) c 0)
-    ∙ ap (λ (n : ℕ). earlier k n (getD (k .spread) c 0)) sum ∙ sym (earlier-words-get k t (k .spread) c))
-
--- the list l has the words of the marked cells at its end, l′, and then these unclocked, vs
-module _ (k : Circuit) (t : ℕ) (ws row l l′ vs : List ℕ) (place : ℕ) (fits : length ws ≤ length l)
-    (ep : place ≡ length l - length (markedWords ws (cell row) (length ws))) (el : l′ ≡ back (markedWords ws (cell row) (length ws)) l) where
-  us : List ℕ
-  us = markedWords ws (cell row) (length ws)
-
-  few : length us ≤ length l
-  unfolding us
-  few = omega (arith, marked-most ws (cell row) (length ws))
-
-  tail : drop place l′ ≡ us
-  unfolding us
-  tail =
-      let here : length (take place l) ≡ place = length-take-le place l (omega arith) in
-      ap (drop place) (el ∙ back-fits (markedWords ws (cell row) (length ws)) l few ∙ ap (λ (i : ℕ). take i l ++ markedWords ws (cell row) (length ws)) (sym ep))
-      ∙ drop-at (take place l) (markedWords ws (cell row) (length ws)) place here
-
-  pub slice-listed : (n : ℕ) → n ≡ length l′ → ws ≡ earlierWords k (eights t) (k .spread) → vs ≡ map (earlier k (t % 8)) (take (n - place) (drop place l′))
-      → drop place (take place l′ ++ (vs ++ drop (n - place) (drop place l′))) ≡ wordsAt k t (cell row)
-  unfolding us
-  slice-listed n en ew ev =
-      let long : length l′ ≡ length l = ap length el ∙ back-length (markedWords ws (cell row) (length ws)) l in
-      let all : take (n - place) (drop place l′) ≡ drop place l′ = take-all (n - place) (drop place l′) (omega (arith, length-drop place l′)) in
-      let own : us ≡ wordsAt k (eights t) (cell row) =
-      ap (λ (x : List ℕ). markedWords x (cell row) (length x)) ew
-      ∙ ap (markedWords (earlierWords k (eights t) (k .spread)) (cell row)) (length-map (k .spread) (earlier k (eights t)))
-      in
-      let past : length (drop place l′) ≤ n - place = omega (arith, length-drop place l′) in
-      drop-at (take place l′) (vs ++ drop (n - place) (drop place l′)) place (length-take-le place l′ (omega arith))
-      ∙ ap (λ (x : List ℕ). vs ++ x) (drop-of-length-le (drop place l′) past) ∙ append-nil vs
-      ∙ ev ∙ ap (map (earlier k (t % 8))) (all ∙ tail ∙ own) ∙ since-eight k t (cell row)
 
 -- .. and are all of what stands behind that place in a list of n places
 pub slice-framed : (g : Given) (t n place : ℕ) (row l : List ℕ) → n ≡ length l → cell row ≡ g .marks t → drop place l ≡ wordsAt (g .wiring) t (cell row)

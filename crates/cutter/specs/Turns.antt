@@ -1,33 +1,21 @@
 -- What the work on one slice does, and on all of them.
 --
---   eights t              the slices before slice t in whole eights: so often the chains' words have been unclocked
---   wordsAt k t x         the words of the chains of the circuit k whose cell in x is 1, before t clocks
 --   Turned cs m k h l r   the columns cs of a slice have been put to the words h that the run so far leaves: where at least k of them are left,
 --                         these; else those that the columns leave of all words of width m, in a run of their own. They stand at the front of
 --                         the list l, and r says how many there are, and whether the slice opened a run (1) or joined one (0)
 --   saidSlices r          the paper's reading of what the work on all slices hands back
 --   Sliced set k l r      .. and what it does
 use mathlib.Core.Path.{_≡_}
-use mathlib.Core.List.{List, [], _∷_, map}
-use Prim.Native.Nat.{ℕ, _*_, _/_, _≤_, _<_}
+use mathlib.Core.List.{List, [], _∷_}
+use Prim.Native.Nat.{ℕ, _≤_, _<_}
 use lib.ListN.{length, take}
 use Rattle.combinations.specs.Step.{steps, units}
 use Rattle.word.specs.Reply.{_when_, Reply, answer, refusal, reply}
-use Rattle.rows.specs.Row.{Cells}
-use Rattle.rows.specs.Marks.{markedWords}
-use Rattle.register.specs.Circuit.{Circuit, chains}
 use Rattle.signatures.specs.Sets.{given}
-use Rattle.unclocking.specs.Unclocked.{earlier}
 use Rattle.cutter.specs.Cutting.{shortSlice, startsOf}
 use Rattle.cutter.specs.declared.Turn.{Turn}
 use Rattle.cutter.specs.declared.Slices.{Slices}
 use Rattle.cutter.specs.declared.Slices.the-variants.{Cut, Refused}
-
-abbrev pub eights : ℕ → ℕ
-eights t = 8 * (t / 8)
-
-abbrev pub wordsAt : Circuit → ℕ → Cells → List ℕ
-wordsAt k t x = markedWords (map (earlier k t) (k .spread)) x (chains k)
 
 pub data Turned (cs : List ℕ) (m k : ℕ) (h l : List ℕ) (r : Turn) : Type 0 where
   joined : k ≤ length (steps cs h) → r .opened ≡ 0 → r .left ≡ length (steps cs h) → take (r .left) l ≡ steps cs h → Turned cs m k h l r

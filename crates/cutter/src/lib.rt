@@ -1,21 +1,16 @@
 // Cutting: the slices of a set cut into runs, each of which leaves at least k words, and the control bits of them all. It sees a taken set,
-// the marked words of a row and the elimination's step. It goes through the slices once: all columns of a run clocked together have the rank
-// that they had, so each slice's columns are the chains' words unclocked once for each slice before it, whatever run it falls in, and only
-// the slice that doesn't fit into a run is put to the words twice. The chains' words are unclocked 8 times together, and for the slices
-// between only those of marked cells.
+// the columns of one slice after the other and the elimination's step. It goes through the slices once: all columns of a run clocked together
+// have the rank that they had, so each slice's columns may stand in one frame, whatever run it falls in; and only the slice that doesn't
+// fit into a run is put to the words twice.
 ghost use mathlib.Core.Path.{_≡_};
-ghost use mathlib.Core.List.{List, map};
-ghost use Prim.Native.Nat.{ℕ, _+_, _*_, _≤_, min};
-ghost use lib.ListN.{length, take, drop};
+ghost use Prim.Native.Nat.{_*_, _≤_};
+ghost use lib.ListN.{length, take};
 ghost use Rattle.word.specs.Reply.{numberOf};
-ghost use Rattle.rows.specs.Row.{cell, rowBytes};
+ghost use Rattle.rows.specs.Row.{rowBytes};
 ghost use Rattle.set_layout.specs.Layout.{markAt, widthOf};
-ghost use Rattle.register.specs.Circuit.{Circuit, circuit};
 ghost use Rattle.set_file.specs.Reading.{TakenFrom};
-ghost use Rattle.unclocking.specs.Unclocked.{earlier, EightBack};
 ghost use Rattle.cutter.specs.Cutting.{badShare, cutReply, cutsAfter, saidCut};
-ghost use Rattle.cutter.specs.Turns.{eights, wordsAt, Turned, saidSlices, Sliced};
-use register::Register;
+ghost use Rattle.cutter.specs.Turns.{Turned, saidSlices, Sliced};
 use rows::Rows;
 use set_file::SetAnswer;
 use set_file::Taken;
@@ -88,33 +83,6 @@ fn put_slice(held: &mut [u64], left: usize, columns: &[u64], width: usize, k: us
     }
 }
 
-// The columns of slice t's marked cells, in the frame of slice 0, over the end of the list, where `words` are the chains' words for it
-// (`pass_slice`). Answers with how many places stand before them.
-fn list_slice(
-    register: Register,
-    row: &[u8],
-    t: u16,
-    words: &[u64],
-    columns: &mut [u64],
-) -> usize
-    requires { ⌜ length (now words) ≤ length (now columns) ⌝ }
-    ensures place { λ r. ⌜ r ≤ length (now (columns .entry)) ⌝ }
-    ensures list { λ r. ⌜ ((v : ℕ) (spread : List ℕ) → now (words .entry) ≡ map (earlier (circuit (min (register .m) 64) (register .taps) v spread) (eights t)) spread → drop r (now (columns .exit)) ≡ wordsAt (circuit (min (register .m) 64) (register .taps) v spread) t (cell (now (row .entry)))) ⌝ }
-{
-    let place = marked_words::list_row(columns, words, row);
-    unclocking::unclock_words(register, t % 8, &mut columns[place..]);
-    place
-}
-
-// The chains' words behind slice t, from those before it: as many clocks of them are undone as there are slices before them, in eights.
-fn pass_slice(table: &[u64; 256], t: u16, words: &mut [u64])
-    ensures { λ _. ⌜ ((k : Circuit) (spread : List ℕ) → EightBack k (now (table .entry)) → now (words .entry) ≡ map (earlier k (eights t)) spread → now (words .exit) ≡ map (earlier k (eights (t + 1))) spread) ⌝ }
-{
-    if t % 8 == 7 {
-        unclocking::unclock_eight(table, words);
-    }
-}
-
 // The slices of a taken set, one after the other: the first slice of each run over the front of `starts`, and how many there are; or 27.
 fn cut_slices(taken: Taken, set: &[u8], k: usize, starts: &mut [u64]) -> Slices
     requires { ⌜ length (now starts) ≡ 512 ⌝ }
@@ -135,7 +103,7 @@ fn cut_slices(taken: Taken, set: &[u8], k: usize, starts: &mut [u64]) -> Slices
     let mut t: u16 = 0;
     while t < slices {
         let row = rows::row_of(set, marks, t);
-        let place = list_slice(register, row, t, &words[..chains], &mut columns);
+        let place = slice_columns::list_slice(register, row, t, &words[..chains], &mut columns);
         let turn = put_slice(&mut held, left, &columns[place..], width, k);
         left = turn.left;
         if left < k {
@@ -143,7 +111,7 @@ fn cut_slices(taken: Taken, set: &[u8], k: usize, starts: &mut [u64]) -> Slices
         }
         starts[runs] = t as u64;
         runs += turn.opened;
-        pass_slice(&table, t, &mut words[..chains]);
+        slice_columns::pass_slice(&table, t, &mut words[..chains]);
         t += 1;
     }
     Slices::Cut { runs }

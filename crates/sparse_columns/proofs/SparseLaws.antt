@@ -57,7 +57,7 @@ module _ (f : ℕ → ℕ) (us l : List ℕ) (start : ℕ) (e : start ≡ length
       ap (λ (i : ℕ). drop start (take i l ++ drop (length us - length l) us)) (sym e)
       ∙ drop-at (take start l) (drop (length us - length l) us) start (length-take-le start l (omega arith))
 
-  back-changed : take start (back us l) ++ map f (drop start (back us l)) ≡ back (map f us) l
+  pub back-changed : take start (back us l) ++ map f (drop start (back us l)) ≡ back (map f us) l
   unfolding back
   back-changed =
       ap₂ (λ (x y : List ℕ). x ++ y) back-kept (ap (map f) back-written ∙ map-drop f (length us - length l) us)

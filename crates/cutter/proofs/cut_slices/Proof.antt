@@ -9,8 +9,9 @@ use lib.Seq.{length-take-le}
 use Rattle.rows.specs.Row.{cell}
 use Rattle.combinations.proofs.Units.{length-units}
 use Rattle.unclocking.proofs.UnclockLaws.{eight-back-same}
-use Rattle.cutter.specs.Turns.{eights}
-use Rattle.cutter.proofs.FrameLaws.{Sound, earlierWords, framed}
+use Rattle.slice_columns.specs.Frame.{eights}
+use Rattle.slice_columns.proofs.FrameLaws.{earlierWords}
+use Rattle.cutter.proofs.FrameLaws.{Sound, framed}
 use Rattle.cutter.proofs.RunLaws.{CutTo, cut-starts, cut-turns, cut-short}
 use Rattle.cutter.proofs.SliceLaws.{earlier-words-none, slice-framed, passed-part, passed-part-length, seen, seen-sound, sliced-short, sliced-all}
 use borrow.Author.Needs.{needs}
@@ -57,18 +58,14 @@ listed : (c : tie.After-list-slice Inv-loop μ-loop) → take (256 - c .list-sli
 listed c =
     let at = c .before .before .before .before .before .loop in
     let row = c .before .before .before .row-of in
-    slice-framed (seen (c .before .before .before .before .before .before .before .before .before .before .before .before .before .before .before .before .before .before .args .taken .register) (take (c .before .before .before .before .before .before .before .before .before .before .before .before .before .chain-limit .result) (c .before .before .before .before .before .before .before .before .before .all-words .result)) (c .before .before .before .before .before .before .before .before .before .before .before .before .slice-limit .result) (c .before .before .before .before .before .before .before .before .before .before .before .before .before .before .before .before .before .before .args .set .now) (c .before .before .before .before .before .before .before .before .before .before .before .unknown-rows .result)) (at .t) 256 (c .list-slice .result) (row .result .now) (c .list-slice .last .1 .1 .1 .1 .0) (sym (c .list-slice .kept .1 .1 .1 .1 .0 ∙ at .inv .6)) (ap cell (row .ensures)) (c .list-slice .ensures .1 (c .before .before .before .before .before .before .before .before .before .before .before .before .before .before .before .before .before .before .args .taken .register .inversion) (take (c .before .before .before .before .before .before .before .before .before .before .before .before .before .chain-limit .result) (c .before .before .before .before .before .before .before .before .before .all-words .result)) (at .inv .10))
+    slice-framed (seen (c .before .before .before .before .before .before .before .before .before .before .before .before .before .before .before .before .before .before .args .taken .register) (take (c .before .before .before .before .before .before .before .before .before .before .before .before .before .chain-limit .result) (c .before .before .before .before .before .before .before .before .before .all-words .result)) (c .before .before .before .before .before .before .before .before .before .before .before .before .slice-limit .result) (c .before .before .before .before .before .before .before .before .before .before .before .before .before .before .before .before .before .before .args .set .now) (c .before .before .before .before .before .before .before .before .before .before .before .unknown-rows .result)) (at .t) 256 (c .list-slice .result) (row .result .now) (c .list-slice .last .1 .1 .1 .1 .0) (sym (c .list-slice .kept .1 .1 .1 .1 .0 ∙ at .inv .6)) (ap cell (row .ensures)) (c .list-slice .ensures .1 .1 (c .before .before .before .before .before .before .before .before .before .before .before .before .before .before .before .before .before .before .args .taken .register .inversion) (take (c .before .before .before .before .before .before .before .before .before .before .before .before .before .chain-limit .result) (c .before .before .before .before .before .before .before .before .before .all-words .result))
+    (omega (arith, length-take-le (c .before .before .before .before .before .before .before .before .before .before .before .before .before .chain-limit .result) (at .words) (omega (arith, at .inv .5, at .inv .8)), at .inv .6, at .inv .8)) (at .inv .10))
 
 slice-aggregate-list-slice : tie.Need-slice-aggregate-list-slice Inv-loop μ-loop
 slice-aggregate-list-slice c = sym (length-take-le _ _ (search needs))
 
 slice-aggregate-list-slice-2 : tie.Need-slice-aggregate-list-slice-2 Inv-loop μ-loop
 slice-aggregate-list-slice-2 c = sym (c .before .before .before .before .loop .inv .6)
-
-list-slice-requires : tie.Need-list-slice-requires Inv-loop μ-loop
-list-slice-requires c κs =
-    let at = c .before .before .before .before .loop in
-    omega (arith, length-take-le (c .before .before .before .before .before .before .before .before .before .before .before .before .chain-limit .result) (at .words) (omega (arith, at .inv .5, at .inv .8)), at .inv .6, at .inv .8)
 
 slice-aggregate-put-slice : tie.Need-slice-aggregate-put-slice Inv-loop μ-loop
 slice-aggregate-put-slice c = sym (c .before .before .before .before .before .before .before .loop .inv .7)
@@ -108,7 +105,7 @@ loop-again c =
       put .kept .0 ∙ at .inv .7,
       at .inv .8,
       at .inv .9,
-      passed-part _ _ n (take n (c .before .before .before .before .before .before .before .before .before .before .before .before .before .before .before .before .before .before .before .before .before .all-words .result)) (at .words) (pass .last .1 .1 .0) many (pass .ensures _ (take n (c .before .before .before .before .before .before .before .before .before .before .before .before .before .before .before .before .before .before .before .before .before .all-words .result)) (eight-back-same _ _ _ _ (c .before .before .before .before .before .before .before .before .before .before .before .before .before .before .before .before .before .before .before .before .eight-back .result) (c .before .before .before .before .before .before .before .before .before .before .before .before .before .before .before .before .before .before .before .before .eight-back .ensures)) (at .inv .10)),
+      passed-part _ _ n (take n (c .before .before .before .before .before .before .before .before .before .before .before .before .before .before .before .before .before .before .before .before .before .all-words .result)) (at .words) (pass .last .1 .1 .0) many (pass .ensures .1 _ (take n (c .before .before .before .before .before .before .before .before .before .before .before .before .before .before .before .before .before .before .before .before .before .all-words .result)) (eight-back-same _ _ _ _ (c .before .before .before .before .before .before .before .before .before .before .before .before .before .before .before .before .before .before .before .before .eight-back .result) (c .before .before .before .before .before .before .before .before .before .before .before .before .before .before .before .before .before .before .before .before .eight-back .ensures)) (at .inv .10)),
       (λ sound some.
           cut-turns _ sound _ some (at .t) (at .runs) (at .left) _ (at .held) (at .starts) _ _ _ (c .before .before .before .before .before .before .before .before .before .before .before .before .before .before .before .before .loop-test .taken) (omega (arith, at .inv .0, at .inv .1, at .inv .2, at .inv .4, c .before .before .before .before .before .before .before .before .before .before .before .before .before .before .before .before .loop-test .taken)) (listed (c .before .before .before .before .before .before .before .before .before .before .before .before)) (at .inv .9) (put .ensures .1 .1) (at .inv .11 sound some) (search needs)),
     )
@@ -142,7 +139,7 @@ cut-slices-spec =
     (λ c. search needs)
     slice-aggregate-list-slice
     slice-aggregate-list-slice-2
-    list-slice-requires
+    (λ c κs. search needs)
     slice-aggregate-put-slice
     (λ c. search needs)
     (λ c. search needs)

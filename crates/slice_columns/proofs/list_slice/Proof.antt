@@ -6,10 +6,10 @@ use lib.ListN.{length, take, drop}
 use borrow.Rule.Slice.PartMut.{same-len-mid}
 use Rattle.register.specs.Circuit.{circuit}
 use Rattle.unclocking.proofs.UnclockLaws.{earlier-words-same}
-use Rattle.cutter.proofs.SliceLaws.{slice-listed}
+use Rattle.slice_columns.proofs.FrameLaws.{slice-listed, slice-back}
 use borrow.Author.Needs.{needs}
-use Rattle.cutter.proofs.list_slice.Statement.{statement}
-use Rattle.cutter.proofs.list_slice.Tie as tie
+use Rattle.slice_columns.proofs.list_slice.Statement.{statement}
+use Rattle.slice_columns.proofs.list_slice.Tie as tie
 
 inside : (c : tie.After-list-row) → c .list-row .result ≤ length (c .list-row .last .0)
 inside c = omega (arith, c .list-row .ensures .0, c .list-row .kept .0)
@@ -33,10 +33,13 @@ returns c =
     let args = c .before .before .before .before .before .before .before .before .before .before .before .args in
     let list = c .before .before .before .before .before .before .list-row in
     let unclocked = c .before .before .unclock-words in (
-      omega (arith, list .ensures .0),
-      (λ v spread e.
-          slice-listed (circuit (min (args .register .m) 64) (args .register .taps) v spread) (args .t) (args .words .now) (args .row .now) (args .columns .now) (list .last .0) _ (list .result) (c .before .before .before .before .before .before .before .before .before .before .before .pre) (list .ensures .0) (list .ensures .1) (length (list .last .0)) refl e
-          (unclocked .ensures ∙ earlier-words-same _ _ v spread _ (take (length (list .last .0) - list .result) (drop (list .result) (list .last .0))))),
+      list .ensures .0,
+      (
+        slice-back _ _ (args .columns .now) (list .last .0) _ (list .result) (length (list .last .0)) (list .ensures .0) (list .ensures .1) refl (unclocked .ensures),
+        (λ v spread fits e.
+            slice-listed (circuit (min (args .register .m) 64) (args .register .taps) v spread) (args .t) (args .words .now) (args .row .now) (args .columns .now) (list .last .0) _ (list .result) fits (list .ensures .0) (list .ensures .1) (length (list .last .0)) refl e
+            (unclocked .ensures ∙ earlier-words-same _ _ v spread _ (take (length (list .last .0) - list .result) (drop (list .result) (list .last .0))))),
+      ),
     )
 
 pub list-slice-spec : {M : Type 1} → statement M
