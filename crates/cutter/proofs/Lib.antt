@@ -4,3 +4,4 @@ pub mod TurnLaws
 pub mod SameLaws
 pub mod SliceLaws
 pub mod CallLaws
+pub mod Theorems

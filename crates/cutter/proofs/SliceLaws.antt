@@ -47,11 +47,10 @@ passed-part k t n spread ws vs l e = take-at vs (drop n ws) n l ∙ e
 pub passed-part-length : (n : ℕ) (ws vs : List ℕ) → n ≤ length ws → length vs ≡ n → length (vs ++ drop n ws) ≡ length ws
 passed-part-length n ws vs h l = length-append vs (drop n ws) ∙ omega (arith, length-drop n ws)
 
--- .. and are all of what stands behind that place in a list of n places
-pub slice-framed : (g : Given) (t n place : ℕ) (row l : List ℕ) → n ≡ length l → cell row ≡ g .marks t → drop place l ≡ wordsAt (g .wiring) t (cell row)
+-- the columns of slice t are all of what stands behind a place in a list of n places
+pub slice-framed : (g : Given) (t n place : ℕ) (l : List ℕ) → n ≡ length l → drop place l ≡ wordsAt (g .wiring) t (g .marks t)
     → take (n - place) (drop place l) ≡ framed g t
-slice-framed g t n place row l en er e =
-    take-all (n - place) (drop place l) (omega (arith, length-drop place l)) ∙ e ∙ ap (wordsAt (g .wiring) t) er ∙ sym (framed-words g t)
+slice-framed g t n place l en e = take-all (n - place) (drop place l) (omega (arith, length-drop place l)) ∙ e ∙ sym (framed-words g t)
 
 -- ---- the set that the pass is over
 

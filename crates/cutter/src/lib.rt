@@ -102,8 +102,15 @@ fn cut_slices(taken: Taken, set: &[u8], k: usize, starts: &mut [u64]) -> Slices
     let mut runs: usize = 0;
     let mut t: u16 = 0;
     while t < slices {
-        let row = rows::row_of(set, marks, t);
-        let place = slice_columns::list_slice(register, row, t, &words[..chains], &mut columns);
+        let place = slice_columns::next_columns(
+            register,
+            &table,
+            set,
+            marks,
+            t,
+            &mut words[..chains],
+            &mut columns,
+        );
         let turn = put_slice(&mut held, left, &columns[place..], width, k);
         left = turn.left;
         if left < k {
@@ -111,7 +118,6 @@ fn cut_slices(taken: Taken, set: &[u8], k: usize, starts: &mut [u64]) -> Slices
         }
         starts[runs] = t as u64;
         runs += turn.opened;
-        slice_columns::pass_slice(&table, t, &mut words[..chains]);
         t += 1;
     }
     Slices::Cut { runs }

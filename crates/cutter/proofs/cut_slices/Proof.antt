@@ -1,15 +1,13 @@
 -- `cut_slices` meets its contract. The loop's invariant: the runs of the first `t` slices stand at the front of `starts`, the words that
 -- the last of them leaves at the front of `held`, and the chains' words are unclocked once for each of those slices, in eights.
 use mathlib.Core.Path.{_≡_, refl, sym, ap, _∙_}
-use mathlib.Core.List.{List, _++_}
-use Prim.Native.Nat.{ℕ, _-_, _≤_, min}
+use Prim.Native.Nat.{ℕ, _+_, _-_, _≤_, min}
 use native.Mathlib.Omega.{arith}
 use lib.ListN.{length, take, drop}
 use lib.Seq.{length-take-le}
-use Rattle.rows.specs.Row.{cell}
 use Rattle.combinations.proofs.Units.{length-units}
 use Rattle.unclocking.proofs.UnclockLaws.{eight-back-same}
-use Rattle.slice_columns.specs.Frame.{eights}
+use Rattle.slice_columns.specs.Frame.{eights, wordsAt}
 use Rattle.slice_columns.proofs.FrameLaws.{earlierWords}
 use Rattle.cutter.proofs.FrameLaws.{Sound, framed}
 use Rattle.cutter.proofs.RunLaws.{CutTo, cut-starts, cut-turns, cut-short}
@@ -53,61 +51,67 @@ loop-holds c = (
   (λ sound some. cut-starts _ sound _ some _ _),
 )
 
--- the columns of the slice, as they were listed
-listed : (c : tie.After-list-slice Inv-loop μ-loop) → take (256 - c .list-slice .result) (drop (c .list-slice .result) (c .list-slice .last .1 .1 .1 .1 .0)) ≡ framed (seen (c .before .before .before .before .before .before .before .before .before .before .before .before .before .before .before .before .before .before .args .taken .register) (take (c .before .before .before .before .before .before .before .before .before .before .before .before .before .chain-limit .result) (c .before .before .before .before .before .before .before .before .before .all-words .result)) (c .before .before .before .before .before .before .before .before .before .before .before .before .slice-limit .result) (c .before .before .before .before .before .before .before .before .before .before .before .before .before .before .before .before .before .before .args .set .now) (c .before .before .before .before .before .before .before .before .before .before .before .unknown-rows .result)) (c .before .before .before .before .before .loop .t)
-listed c =
+-- the chains' words are for slice t, and there is a place for each
+framed-next : (c : tie.After-next-columns Inv-loop μ-loop) → (drop (c .next-columns .result) (c .next-columns .last .1 .1 .1 .1 .1 .1 .0) ≡ wordsAt ((seen (c .before .before .before .before .before .before .before .before .before .before .before .before .before .before .before .before .before .before .args .taken .register) (take (c .before .before .before .before .before .before .before .before .before .before .before .before .before .chain-limit .result) (c .before .before .before .before .before .before .before .before .before .all-words .result)) (c .before .before .before .before .before .before .before .before .before .before .before .before .slice-limit .result) (c .before .before .before .before .before .before .before .before .before .before .before .before .before .before .before .before .before .before .args .set .now) (c .before .before .before .before .before .before .before .before .before .before .before .unknown-rows .result)) .wiring) (c .before .before .before .before .before .loop .t) ((seen (c .before .before .before .before .before .before .before .before .before .before .before .before .before .before .before .before .before .before .args .taken .register) (take (c .before .before .before .before .before .before .before .before .before .before .before .before .before .chain-limit .result) (c .before .before .before .before .before .before .before .before .before .all-words .result)) (c .before .before .before .before .before .before .before .before .before .before .before .before .slice-limit .result) (c .before .before .before .before .before .before .before .before .before .before .before .before .before .before .before .before .before .before .args .set .now) (c .before .before .before .before .before .before .before .before .before .before .before .unknown-rows .result)) .marks (c .before .before .before .before .before .loop .t))) × (c .next-columns .last .1 .1 .1 .1 .1 .0 ≡ earlierWords ((seen (c .before .before .before .before .before .before .before .before .before .before .before .before .before .before .before .before .before .before .args .taken .register) (take (c .before .before .before .before .before .before .before .before .before .before .before .before .before .chain-limit .result) (c .before .before .before .before .before .before .before .before .before .all-words .result)) (c .before .before .before .before .before .before .before .before .before .before .before .before .slice-limit .result) (c .before .before .before .before .before .before .before .before .before .before .before .before .before .before .before .before .before .before .args .set .now) (c .before .before .before .before .before .before .before .before .before .before .before .unknown-rows .result)) .wiring) (eights (c .before .before .before .before .before .loop .t + 1)) (take (c .before .before .before .before .before .before .before .before .before .before .before .before .before .chain-limit .result) (c .before .before .before .before .before .before .before .before .before .all-words .result)))
+framed-next c =
     let at = c .before .before .before .before .before .loop in
-    let row = c .before .before .before .row-of in
-    slice-framed (seen (c .before .before .before .before .before .before .before .before .before .before .before .before .before .before .before .before .before .before .args .taken .register) (take (c .before .before .before .before .before .before .before .before .before .before .before .before .before .chain-limit .result) (c .before .before .before .before .before .before .before .before .before .all-words .result)) (c .before .before .before .before .before .before .before .before .before .before .before .before .slice-limit .result) (c .before .before .before .before .before .before .before .before .before .before .before .before .before .before .before .before .before .before .args .set .now) (c .before .before .before .before .before .before .before .before .before .before .before .unknown-rows .result)) (at .t) 256 (c .list-slice .result) (row .result .now) (c .list-slice .last .1 .1 .1 .1 .0) (sym (c .list-slice .kept .1 .1 .1 .1 .0 ∙ at .inv .6)) (ap cell (row .ensures)) (c .list-slice .ensures .1 .1 (c .before .before .before .before .before .before .before .before .before .before .before .before .before .before .before .before .before .before .args .taken .register .inversion) (take (c .before .before .before .before .before .before .before .before .before .before .before .before .before .chain-limit .result) (c .before .before .before .before .before .before .before .before .before .all-words .result))
-    (omega (arith, length-take-le (c .before .before .before .before .before .before .before .before .before .before .before .before .before .chain-limit .result) (at .words) (omega (arith, at .inv .5, at .inv .8)), at .inv .6, at .inv .8)) (at .inv .10))
+    c .next-columns .ensures .1 .1 .1 (c .before .before .before .before .before .before .before .before .before .before .before .before .before .before .before .before .before .before .args .taken .register .inversion) (take (c .before .before .before .before .before .before .before .before .before .before .before .before .before .chain-limit .result) (c .before .before .before .before .before .before .before .before .before .all-words .result)) (eight-back-same _ _ _ _ (c .before .before .before .before .before .before .before .before .eight-back .result) (c .before .before .before .before .before .before .before .before .eight-back .ensures))
+    (omega (arith, length-take-le (c .before .before .before .before .before .before .before .before .before .before .before .before .before .chain-limit .result) (at .words) (omega (arith, at .inv .5, at .inv .8)), at .inv .6, at .inv .8)) (at .inv .10)
 
-slice-aggregate-list-slice : tie.Need-slice-aggregate-list-slice Inv-loop μ-loop
-slice-aggregate-list-slice c = sym (length-take-le _ _ (search needs))
+-- the columns of the slice
+listed : (c : tie.After-next-columns Inv-loop μ-loop) → take (256 - c .next-columns .result) (drop (c .next-columns .result) (c .next-columns .last .1 .1 .1 .1 .1 .1 .0)) ≡ framed (seen (c .before .before .before .before .before .before .before .before .before .before .before .before .before .before .before .before .before .before .args .taken .register) (take (c .before .before .before .before .before .before .before .before .before .before .before .before .before .chain-limit .result) (c .before .before .before .before .before .before .before .before .before .all-words .result)) (c .before .before .before .before .before .before .before .before .before .before .before .before .slice-limit .result) (c .before .before .before .before .before .before .before .before .before .before .before .before .before .before .before .before .before .before .args .set .now) (c .before .before .before .before .before .before .before .before .before .before .before .unknown-rows .result)) (c .before .before .before .before .before .loop .t)
+listed c = slice-framed (seen (c .before .before .before .before .before .before .before .before .before .before .before .before .before .before .before .before .before .before .args .taken .register) (take (c .before .before .before .before .before .before .before .before .before .before .before .before .before .chain-limit .result) (c .before .before .before .before .before .before .before .before .before .all-words .result)) (c .before .before .before .before .before .before .before .before .before .before .before .before .slice-limit .result) (c .before .before .before .before .before .before .before .before .before .before .before .before .before .before .before .before .before .before .args .set .now) (c .before .before .before .before .before .before .before .before .before .before .before .unknown-rows .result)) (c .before .before .before .before .before .loop .t) 256 (c .next-columns .result) (c .next-columns .last .1 .1 .1 .1 .1 .1 .0) (sym (c .next-columns .kept .1 .1 .1 .1 .1 .1 .0 ∙ c .before .before .before .before .before .loop .inv .6)) (framed-next c .0)
 
-slice-aggregate-list-slice-2 : tie.Need-slice-aggregate-list-slice-2 Inv-loop μ-loop
-slice-aggregate-list-slice-2 c = sym (c .before .before .before .before .loop .inv .6)
+slice-aggregate-next-columns : tie.Need-slice-aggregate-next-columns Inv-loop μ-loop
+slice-aggregate-next-columns c = sym (length-take-le _ _ (search needs))
+
+slice-aggregate-next-columns-2 : tie.Need-slice-aggregate-next-columns-2 Inv-loop μ-loop
+slice-aggregate-next-columns-2 c = sym (c .before .before .before .before .loop .inv .6)
 
 slice-aggregate-put-slice : tie.Need-slice-aggregate-put-slice Inv-loop μ-loop
-slice-aggregate-put-slice c = sym (c .before .before .before .before .before .before .before .loop .inv .7)
+slice-aggregate-put-slice c = sym (c .before .before .before .before .before .before .before .before .loop .inv .7)
+
+mul-put-slice : tie.Need-mul-put-slice Inv-loop μ-loop
+mul-put-slice c = search needs
+
+part-put-slice-start : tie.Need-part-put-slice-start Inv-loop μ-loop
+part-put-slice-start c = search needs
 
 put-slice-requires : tie.Need-put-slice-requires Inv-loop μ-loop
-put-slice-requires c κs = (c .before .before .before .before .before .before .before .before .before .loop .inv .3, omega (arith, c .before .before .before .before .before .before .before .before .before .loop .inv .9), c .before .before .before .before .before .before .before .before .before .loop .inv .7)
+put-slice-requires c κs = (c .before .before .before .before .before .before .before .before .before .before .loop .inv .3, omega (arith, c .before .before .before .before .before .before .before .before .before .before .loop .inv .9), c .before .before .before .before .before .before .before .before .before .before .loop .inv .7)
 
 same-length : tie.Need-same-length Inv-loop μ-loop
-same-length c = c .before .before .before .before .before .before .before .before .before .before .before .before .loop .inv .4 ∙ sym (c .before .before .before .before .before .before .before .before .before .before .before .before .before .before .before .before .before .before .before .before .before .before .before .before .before .pre)
+same-length c = c .before .before .before .before .before .before .before .before .before .before .before .before .before .loop .inv .4 ∙ sym (c .before .before .before .before .before .before .before .before .before .before .before .before .before .before .before .before .before .before .before .before .before .before .before .before .before .before .pre)
 
 returns : tie.Need-returns Inv-loop μ-loop
 returns c =
-    let at = c .before .before .before .before .before .before .before .before .before .before .before .before .loop in
+    let at = c .before .before .before .before .before .before .before .before .before .before .before .before .before .loop in
     let put = c .before .before .put-slice in
     λ taken some most.
-    let sound = seen-sound _ _ taken _ (c .before .before .before .before .before .before .before .before .before .before .before .before .before .before .before .before .before .before .unknown-rows .ensures) _ _ _ (c .before .before .before .before .before .before .before .before .before .before .before .before .before .before .before .before .all-words .ensures) (c .before .before .before .before .before .before .before .before .before .before .before .before .before .before .before .before .before .before .before .before .chain-limit .ensures) (c .before .before .before .before .before .before .before .before .before .before .before .before .before .before .before .before .before .before .before .slice-limit .ensures) in
-    sliced-short _ _ taken _ (c .before .before .before .before .before .before .before .before .before .before .before .before .before .before .before .before .before .before .unknown-rows .ensures) _ _ _ (c .before .before .before .before .before .before .before .before .before .before .before .before .before .before .before .before .all-words .ensures) (c .before .before .before .before .before .before .before .before .before .before .before .before .before .before .before .before .before .before .before .before .chain-limit .ensures) (c .before .before .before .before .before .before .before .before .before .before .before .before .before .before .before .before .before .before .before .slice-limit .ensures) _ _
-    (cut-short _ sound _ some (at .t) (at .runs) (at .left) _ (at .held) (at .starts) _ _ _ (c .before .before .before .before .before .before .before .before .before .before .before .loop-test .taken) (omega (arith, at .inv .0, at .inv .1, at .inv .2, at .inv .4, c .before .before .before .before .before .before .before .before .before .before .before .loop-test .taken)) (listed (c .before .before .before .before .before .before .before)) (at .inv .9) (put .ensures .1 .1) (c .if1 .taken))
-
-slice-aggregate-pass-slice : tie.Need-slice-aggregate-pass-slice Inv-loop μ-loop
-slice-aggregate-pass-slice c = sym (length-take-le _ _ (search needs))
+    let sound = seen-sound _ _ taken _ (c .before .before .before .before .before .before .before .before .before .before .before .before .before .before .before .before .before .before .before .unknown-rows .ensures) _ _ _ (c .before .before .before .before .before .before .before .before .before .before .before .before .before .before .before .before .before .all-words .ensures) (c .before .before .before .before .before .before .before .before .before .before .before .before .before .before .before .before .before .before .before .before .before .chain-limit .ensures) (c .before .before .before .before .before .before .before .before .before .before .before .before .before .before .before .before .before .before .before .before .slice-limit .ensures) in
+    sliced-short _ _ taken _ (c .before .before .before .before .before .before .before .before .before .before .before .before .before .before .before .before .before .before .before .unknown-rows .ensures) _ _ _ (c .before .before .before .before .before .before .before .before .before .before .before .before .before .before .before .before .before .all-words .ensures) (c .before .before .before .before .before .before .before .before .before .before .before .before .before .before .before .before .before .before .before .before .before .chain-limit .ensures) (c .before .before .before .before .before .before .before .before .before .before .before .before .before .before .before .before .before .before .before .before .slice-limit .ensures) _ _
+    (cut-short _ sound _ some (at .t) (at .runs) (at .left) _ (at .held) (at .starts) _ _ _ (c .before .before .before .before .before .before .before .before .before .before .before .before .loop-test .taken) (omega (arith, at .inv .0, at .inv .1, at .inv .2, at .inv .4, c .before .before .before .before .before .before .before .before .before .before .before .before .loop-test .taken)) (listed (c .before .before .before .before .before .before .before .before)) (at .inv .9) (put .ensures .1 .1) (c .if1 .taken))
 
 loop-again : tie.Need-loop-again Inv-loop μ-loop
 loop-again c =
-    let at = c .before .before .before .before .before .before .before .before .before .before .before .before .before .before .before .before .before .loop in
-    let put = c .before .before .before .before .before .before .before .put-slice in
-    let pass = c .before .pass-slice in
-    let n = c .before .before .before .before .before .before .before .before .before .before .before .before .before .before .before .before .before .before .before .before .before .before .before .before .before .chain-limit .result in
-    let many : length (pass .last .1 .1 .0) ≡ n = pass .kept .1 .1 .0 ∙ length-take-le n (at .words) (omega (arith, at .inv .5, at .inv .8)) in (
-      omega (arith, c .before .before .before .before .before .before .before .before .before .before .before .before .before .before .before .before .loop-test .taken),
+    let at = c .before .before .before .before .before .before .before .before .before .before .before .before .before .before .loop in
+    let put = c .before .before .before .put-slice in
+    let next = c .before .before .before .before .before .before .before .before .before .next-columns in
+    let n = c .before .before .before .before .before .before .before .before .before .before .before .before .before .before .before .before .before .before .before .before .before .before .chain-limit .result in
+    let many : length (next .last .1 .1 .1 .1 .1 .0) ≡ n = next .kept .1 .1 .1 .1 .1 .0 ∙ length-take-le n (at .words) (omega (arith, at .inv .5, at .inv .8)) in (
+      omega (arith, c .before .before .before .before .before .before .before .before .before .before .before .before .before .loop-test .taken),
       at .inv .1,
       omega (arith, at .inv .2, put .ensures .1 .0),
       put .ensures .0,
       search needs,
-      passed-part-length n (at .words) (pass .last .1 .1 .0) (omega (arith, at .inv .5, at .inv .8)) many ∙ at .inv .5,
-      c .before .before .before .before .before .before .before .before .before .before .before .before .list-slice .kept .1 .1 .1 .1 .0 ∙ at .inv .6,
+      passed-part-length n (at .words) (next .last .1 .1 .1 .1 .1 .0) (omega (arith, at .inv .5, at .inv .8)) many ∙ at .inv .5,
+      next .kept .1 .1 .1 .1 .1 .1 .0 ∙ at .inv .6,
       put .kept .0 ∙ at .inv .7,
       at .inv .8,
       at .inv .9,
-      passed-part _ _ n (take n (c .before .before .before .before .before .before .before .before .before .before .before .before .before .before .before .before .before .before .before .before .before .all-words .result)) (at .words) (pass .last .1 .1 .0) many (pass .ensures .1 _ (take n (c .before .before .before .before .before .before .before .before .before .before .before .before .before .before .before .before .before .before .before .before .before .all-words .result)) (eight-back-same _ _ _ _ (c .before .before .before .before .before .before .before .before .before .before .before .before .before .before .before .before .before .before .before .before .eight-back .result) (c .before .before .before .before .before .before .before .before .before .before .before .before .before .before .before .before .before .before .before .before .eight-back .ensures)) (at .inv .10)),
+      passed-part _ _ n (take n (c .before .before .before .before .before .before .before .before .before .before .before .before .before .before .before .before .before .before .all-words .result)) (at .words) (next .last .1 .1 .1 .1 .1 .0) many (framed-next (c .before .before .before .before .before .before .before .before .before) .1),
       (λ sound some.
-          cut-turns _ sound _ some (at .t) (at .runs) (at .left) _ (at .held) (at .starts) _ _ _ (c .before .before .before .before .before .before .before .before .before .before .before .before .before .before .before .before .loop-test .taken) (omega (arith, at .inv .0, at .inv .1, at .inv .2, at .inv .4, c .before .before .before .before .before .before .before .before .before .before .before .before .before .before .before .before .loop-test .taken)) (listed (c .before .before .before .before .before .before .before .before .before .before .before .before)) (at .inv .9) (put .ensures .1 .1) (at .inv .11 sound some) (search needs)),
+          cut-turns _ sound _ some (at .t) (at .runs) (at .left) _ (at .held) (at .starts) _ _ _ (c .before .before .before .before .before .before .before .before .before .before .before .before .before .loop-test .taken) (omega (arith, at .inv .0, at .inv .1, at .inv .2, at .inv .4, c .before .before .before .before .before .before .before .before .before .before .before .before .before .loop-test .taken)) (listed (c .before .before .before .before .before .before .before .before .before)) (at .inv .9) (put .ensures .1 .1) (at .inv .11 sound some) (search needs)),
     )
 
 same-length-2 : tie.Need-same-length-2 Inv-loop μ-loop
@@ -135,15 +139,14 @@ cut-slices-spec =
     (λ c κs. search needs)
     (λ c κs. search needs)
     loop-holds
-    (λ c κs. search needs)
     (λ c. search needs)
-    slice-aggregate-list-slice
-    slice-aggregate-list-slice-2
+    slice-aggregate-next-columns
+    slice-aggregate-next-columns-2
     (λ c κs. search needs)
     slice-aggregate-put-slice
+    mul-put-slice
     (λ c. search needs)
-    (λ c. search needs)
-    (λ c. search needs)
+    part-put-slice-start
     (λ c. search needs)
     put-slice-requires
     same-length
@@ -152,9 +155,6 @@ cut-slices-spec =
     (λ c. search needs)
     (λ c. search needs)
     (λ c. search needs)
-    (λ c. search needs)
-    slice-aggregate-pass-slice
-    (λ c κs. search needs)
     (λ c. search needs)
     (λ c. search needs)
     loop-again
