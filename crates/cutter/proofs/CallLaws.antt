@@ -18,7 +18,7 @@ use Rattle.set_file.specs.Reading.{setTests}
 use Rattle.set_file.proofs.Laws.{set-numbered}
 use Rattle.signatures.specs.Sets.{given}
 use Rattle.cutter.specs.Cutting.{badShare, shortSlice, startsOf, CutParts, cutPartsOf, cutTests, cutReply, cutsAfter, saidCut}
-use Rattle.cutter.specs.Turns.{saidSlices, Sliced}
+use Rattle.cutter.specs.Turns.{saidSlices, SlicedFor}
 use Rattle.cutter.specs.declared.Cutting.{Cutting}
 use Rattle.cutter.specs.declared.Cutting.the-variants.{Runs, Refused}
 use Rattle.cutter.specs.declared.Slices.{Slices}
@@ -63,13 +63,13 @@ module _ (set l : List ℕ) (k : ℕ) (none : firstOf (setTests set) ≡ 0) wher
       let applies : badShare (widthOf set) k ≡ true = sym e ∙ h in
       refused-leaves _ 26 (cutPartsOf set k) (startsOf set k) l (sym (past-set ∙ rw applies refl)) (λ z. omega arith)
 
-  module _ (b : Bool) (eb : b ≡ badShare (widthOf set) k) (good : b ≡ false) (s : List ℕ) (r : Slices) (sliced : Sliced set k s r) where
+  module _ (b : Bool) (eb : b ≡ badShare (widthOf set) k) (good : b ≡ false) (s : List ℕ) (r : Slices) (sliced : SlicedFor (given set) k s r) where
     share : badShare (widthOf set) k ≡ false
     share = sym eb ∙ good
 
     -- j is the number that `slices_number` gives
     pub ends-27 : (n j : ℕ) → r ≡ Slices.Refused n → j ≡ numberOf (saidSlices r) → CutEnd set k l (Refused j) l
-    unfolding cutReply
+    unfolding cutReply startsOf
     ends-27 n j er ej = go (shortSlice (given set) k) refl
       where
         refused : saidSlices r ≡ refusal n
@@ -91,6 +91,7 @@ module _ (set l : List ℕ) (k : ℕ) (none : firstOf (setTests set) ≡ 0) wher
       answered = ap saidSlices er
 
       both : (_≡_ {A = ℕ} (cond (shortSlice (given set) k) 27 0) 0) × (n ≡ length (startsOf set k))
+      unfolding startsOf
       both = replied-answer (cond (shortSlice (given set) k) 27 0) (length (startsOf set k)) n (sym (sliced .reply) ∙ answered)
 
       long : shortSlice (given set) k ≡ false
@@ -111,7 +112,7 @@ module _ (set l : List ℕ) (k : ℕ) (none : firstOf (setTests set) ≡ 0) wher
 
       pub ends-runs : (m i : ℕ) (l′ : List ℕ) → n ≤ length l → m ≡ widthOf set → i ≡ n → l′ ≡ front (take (length l) (take n s)) l
           → CutEnd set k l (Runs i (m * k * i)) l′
-      unfolding cutReply
+      unfolding cutReply startsOf
       ends-runs m i l′ h em ei el =
           let room : ltb (length l) (length (startsOf set k)) ≡ false = le-ltb (length l) (length (startsOf set k)) (omega (arith, both .1)) in
           let starts : take n s ≡ startsOf set k = sliced .starts n answered in

@@ -16,7 +16,7 @@ use Prim.Native.Nat.{ℕ, zero, suc, _+_, _-_, _^_, _≤_, _<_}
 use native.Mathlib.Nat.{add-zero, add-suc, add-assoc}
 use native.Mathlib.Omega.{arith}
 use lib.ListN.{length, getD, length-map, List·getD-map}
-use Rattle.word.specs.Word.{digit, beyond}
+use Rattle.word.specs.Word.{beyond}
 use Rattle.word.specs.Some.{anyOf}
 use Rattle.word.proofs.SomeLaws.{any-of-append}
 use Rattle.word.proofs.BoolLaws.{or-false}
@@ -39,15 +39,9 @@ use Rattle.unclocking.proofs.UnclockLaws.{earlier-zero, earlier-lt, later-earli
 use Rattle.swept_columns.proofs.FillLaws.{laterWords, later-words-get, first-words}
 use Rattle.sparse_columns.proofs.SparseLaws.{map-chosen}
 use Rattle.cutter.specs.Cutting.{wordsLeft}
+use Rattle.cutter.specs.Turns.{Sound}
 use Rattle.slice_columns.specs.Frame.{wordsAt}
 use Rattle.slice_columns.proofs.FrameLaws.{earlierWords, earlier-words-get}
-
--- a register whose clock loses no state, and chains within it
-pub record Sound (k : Circuit) : Type 0 where
-  pub some : 1 ≤ k .width
-  pub odd : digit 0 (k .taps) ≡ 1
-  pub taps : k .taps < 2 ^ k .width
-  pub spread : (c : ℕ) → getD (k .spread) c 0 < 2 ^ k .width
 
 -- ---- words of marked cells
 

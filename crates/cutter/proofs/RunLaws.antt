@@ -29,9 +29,9 @@ use Rattle.combinations.proofs.Portions.{without-columns}
 use Rattle.signatures.specs.Given.{Given}
 use Rattle.cutter.specs.Greatest.{greatest}
 use Rattle.cutter.specs.Cutting.{wordsLeft, leaves, longestEnd, startsFrom, startsFor, shortSlice}
-use Rattle.cutter.specs.Turns.{Turned, joined, opened}
+use Rattle.cutter.specs.Turns.{Sound, Turned, joined, opened}
 use Rattle.cutter.specs.declared.Turn.{Turn}
-use Rattle.cutter.proofs.FrameLaws.{Sound, framed, frames, frames-none, frames-suc, left-framed, longer-fewer, slice-most}
+use Rattle.cutter.proofs.FrameLaws.{framed, frames, frames-none, frames-suc, left-framed, longer-fewer, slice-most}
 
 -- ---- the greatest number
 

@@ -24,7 +24,7 @@ use Rattle.signatures.specs.Given.{Given, RevisedFrom}
 use Rattle.signatures.proofs.ColumnLaws.{columns-ext}
 use Rattle.cutter.specs.Greatest.{greatest}
 use Rattle.cutter.specs.Cutting.{wordsLeft, leaves, longestEnd, startsFrom, startsFor, shortSlice}
-use Rattle.cutter.proofs.FrameLaws.{Sound}
+use Rattle.cutter.specs.Turns.{Sound}
 use Rattle.cutter.proofs.RunLaws.{greatest-ext}
 
 module _ (g h : Given) (r : RevisedFrom g h) where

@@ -26,10 +26,10 @@ use Rattle.signatures.specs.Sets.{given}
 use Rattle.unclocking.specs.Unclocked.{earlier}
 use Rattle.slice_columns.specs.Frame.{wordsAt}
 use Rattle.slice_columns.proofs.FrameLaws.{earlierWords}
-use Rattle.cutter.specs.Cutting.{shortSlice, startsFor, startsOf}
-use Rattle.cutter.specs.Turns.{saidSlices, Sliced}
+use Rattle.cutter.specs.Cutting.{shortSlice, startsFor}
+use Rattle.cutter.specs.Turns.{Sound, seen, saidSlices, SlicedFor}
 use Rattle.cutter.specs.declared.Slices.{Slices}
-use Rattle.cutter.proofs.FrameLaws.{Sound, framed, framed-words}
+use Rattle.cutter.proofs.FrameLaws.{framed, framed-words}
 use Rattle.cutter.proofs.RunLaws.{CutTo, cut-ends}
 use Rattle.cutter.proofs.SameLaws.{same-starts, same-short, sound-set}
 
@@ -40,24 +40,12 @@ unfolding earlier
 earlier-words-none k [] = refl
 earlier-words-none k (w ∷ ws) = ap (λ (l : List ℕ). w ∷ l) (earlier-words-none k ws)
 
--- the first n words of a list passed on, where vs are these
-pub passed-part : (k : Circuit) (t n : ℕ) (spread ws vs : List ℕ) → length vs ≡ n → vs ≡ earlierWords k t spread → take n (vs ++ drop n ws) ≡ earlierWords k t spread
-passed-part k t n spread ws vs l e = take-at vs (drop n ws) n l ∙ e
-
-pub passed-part-length : (n : ℕ) (ws vs : List ℕ) → n ≤ length ws → length vs ≡ n → length (vs ++ drop n ws) ≡ length ws
-passed-part-length n ws vs h l = length-append vs (drop n ws) ∙ omega (arith, length-drop n ws)
-
 -- the columns of slice t are all of what stands behind a place in a list of n places
 pub slice-framed : (g : Given) (t n place : ℕ) (l : List ℕ) → n ≡ length l → drop place l ≡ wordsAt (g .wiring) t (g .marks t)
     → take (n - place) (drop place l) ≡ framed g t
 slice-framed g t n place l en e = take-all (n - place) (drop place l) (omega (arith, length-drop place l)) ∙ e ∙ sym (framed-words g t)
 
 -- ---- the set that the pass is over
-
--- what the pass sees: a register and chains, a number of slices, rows of marks in a list
-abbrev pub seen : Register → List ℕ → ℕ → List ℕ → Rows → Given
-seen r ws s l rows =
-    record { wiring = circuit (min (r .m) 64) (r .taps) (r .inversion) ws; slices = s; values = λ t c. 0; marks = cellsOf l rows }
 
 module _ (set : List ℕ) (k : Taken) (taken : TakenFrom set k) (rows : Rows)
     (e : (rows .at ≡ markAt (k .n) 0) × (rows .stride ≡ 2 * rowBytes (k .n)) × (rows .bytes ≡ rowBytes (k .n)))
@@ -81,30 +69,36 @@ module _ (set : List ℕ) (k : Taken) (taken : TakenFrom set k) (rows : Rows)
     marks = λ t c l d. ap (λ (row : List ℕ). cell row c) (mark-rows-row set (k .n) rows (taken .chains) e t);
   }
 
-  -- ---- what the pass comes to
+  -- what the pass comes to is the set's
+  pub sliced-set : (κ : ℕ) (l : List ℕ) (r : Slices) → SlicedFor (seen (k .register) (take chains words) slices set rows) κ l r → SlicedFor (given set) κ l r
+  sliced-set κ l r so = record {
+    reply =
+        so .reply
+        ∙ ap₂ (λ (b : Bool) (x : List ℕ). reply (27 when b ∷ []) (length x)) (same-short _ _ seen-revised κ) (same-starts _ _ seen-revised κ);
+    starts = λ n h. so .starts n h ∙ same-starts _ _ seen-revised κ;
+    few = so .few;
+  }
 
-  no-answer : (n : ℕ) → refusal 27 ≡ answer n → ⊥
-  no-answer n h = omega (arith, replied-answer 27 0 n h .0)
+-- ---- the ends of the pass
 
-  pub sliced-short : (κ : ℕ) (l : List ℕ) → shortSlice (seen (k .register) (take chains words) slices set rows) κ ≡ true → Sliced set κ l (Slices.Refused 27)
-  sliced-short κ l short =
-      let applies : shortSlice (given set) κ ≡ true = sym (same-short _ _ seen-revised κ) ∙ short in
-      record {
-        reply = sym (rw applies refl);
-        starts = λ n h. absurd (no-answer n h);
-        few = λ n h. absurd (no-answer n h);
-      }
+no-answer : (n : ℕ) → refusal 27 ≡ answer n → ⊥
+no-answer n h = omega (arith, replied-answer 27 0 n h .0)
 
-  pub sliced-all : (κ t runs left : ℕ) (h l : List ℕ) → 1 ≤ κ → t ≡ slices → runs ≤ 512 → length l ≡ 512
-      → CutTo (seen (k .register) (take chains words) slices set rows) κ t runs left h l → Sliced set κ l (Slices.Cut runs)
-  unfolding startsOf
-  sliced-all κ t runs left h l some et few long so-far =
-      let ends = cut-ends _ seen-sound κ some t runs left h l et so-far in
-      let none : shortSlice (given set) κ ≡ false = sym (same-short _ _ seen-revised κ) ∙ ends .0 in
-      let list : take runs l ≡ startsOf set κ = ends .1 ∙ same-starts _ _ seen-revised κ in
-      let count : runs ≡ length (startsOf set κ) = sym (length-take-le runs l (omega arith)) ∙ ap length list in
-      record {
-        reply = ap answer count ∙ sym (rw none refl);
-        starts = λ n h. ap (λ (i : ℕ). take i l) (replied-answer 0 runs n h .1) ∙ list;
-        few = λ n h. omega (arith, replied-answer 0 runs n h .1);
-      }
+pub sliced-short : (g : Given) (κ : ℕ) (l : List ℕ) → shortSlice g κ ≡ true → SlicedFor g κ l (Slices.Refused 27)
+sliced-short g κ l short = record {
+  reply = sym (rw short refl);
+  starts = λ n h. absurd (no-answer n h);
+  few = λ n h. absurd (no-answer n h);
+}
+
+pub sliced-all : (g : Given) → Sound (g .wiring) → (κ t runs left : ℕ) (h l : List ℕ) → 1 ≤ κ → t ≡ g .slices → runs ≤ 512 → length l ≡ 512
+    → CutTo g κ t runs left h l → SlicedFor g κ l (Slices.Cut runs)
+sliced-all g sound κ t runs left h l some et few long so-far =
+    let ends = cut-ends g sound κ some t runs left h l et so-far in
+    let none : shortSlice g κ ≡ false = ends .0 in
+    let count : runs ≡ length (startsFor g κ) = sym (length-take-le runs l (omega arith)) ∙ ap length (ends .1) in
+    record {
+      reply = ap answer count ∙ sym (rw none refl);
+      starts = λ n h. ap (λ (i : ℕ). take i l) (replied-answer 0 runs n h .1) ∙ ends .1;
+      few = λ n h. omega (arith, replied-answer 0 runs n h .1);
+    }

@@ -32,7 +32,7 @@ use Rattle.signatures.specs.Given.{Given}
 use Rattle.signatures.specs.Sets.{given, Revised}
 use Rattle.cutter.specs.Greatest.{greatest}
 use Rattle.cutter.specs.Cutting.{badShare, wordsLeft, leaves, longestEnd, startsFrom, startsFor, shortSlice, startsOf, CutParts, cutPartsOf, cutTests, cutReply, cutsAfter}
-use Rattle.cutter.proofs.FrameLaws.{Sound}
+use Rattle.cutter.specs.Turns.{Sound}
 use Rattle.cutter.proofs.RunLaws.{longest-at}
 use Rattle.cutter.proofs.SameLaws.{same-starts, same-short}
 

@@ -4,15 +4,23 @@
 --                         these; else those that the columns leave of all words of width m, in a run of their own. They stand at the front of
 --                         the list l, and r says how many there are, and whether the slice opened a run (1) or joined one (0)
 --   saidSlices r          the paper's reading of what the work on all slices hands back
---   Sliced set k l r      .. and what it does
+--   Sound k               a circuit whose clock loses no state, and chains within it. Document 01: "With bit 0 set a clock loses no state."
+--   seen r ws s l rows    what is given by a register r, which counts as at most 64 bits wide, with chains of the spread words ws, s slices
+--                         and the rows of marks in a list l; the values play no part
+--   SlicedFor g k l r     what the work on all slices does
 use mathlib.Core.Path.{_≡_}
 use mathlib.Core.List.{List, [], _∷_}
-use Prim.Native.Nat.{ℕ, _≤_, _<_}
-use lib.ListN.{length, take}
+use Prim.Native.Nat.{ℕ, _^_, _≤_, _<_, min}
+use lib.ListN.{length, take, getD}
+use Rattle.word.specs.Word.{digit}
 use Rattle.combinations.specs.Step.{steps, units}
 use Rattle.word.specs.Reply.{_when_, Reply, answer, refusal, reply}
-use Rattle.signatures.specs.Sets.{given}
-use Rattle.cutter.specs.Cutting.{shortSlice, startsOf}
+use Rattle.rows.specs.Lists.{cellsOf}
+use Rattle.rows.specs.declared.Rows.{Rows}
+use Rattle.register.specs.Circuit.{Circuit, circuit}
+use Rattle.register.specs.declared.Register.{Register}
+use Rattle.signatures.specs.Given.{Given}
+use Rattle.cutter.specs.Cutting.{shortSlice, startsFor}
 use Rattle.cutter.specs.declared.Turn.{Turn}
 use Rattle.cutter.specs.declared.Slices.{Slices}
 use Rattle.cutter.specs.declared.Slices.the-variants.{Cut, Refused}
@@ -25,8 +33,18 @@ abbrev pub saidSlices : Slices → Reply ℕ
 saidSlices (Cut n) = answer n
 saidSlices (Refused n) = refusal n
 
--- the slices of the set have been gone through: the first slice of each run, of at most 512, stands at the front of the list l
-pub record Sliced (set : List ℕ) (k : ℕ) (l : List ℕ) (r : Slices) : Type 0 where
-  pub reply : saidSlices r ≡ reply (27 when shortSlice (given set) k ∷ []) (length (startsOf set k))
-  pub starts : (n : ℕ) → saidSlices r ≡ answer n → take n l ≡ startsOf set k
+pub record Sound (k : Circuit) : Type 0 where
+  pub some : 1 ≤ k .width
+  pub odd : digit 0 (k .taps) ≡ 1
+  pub taps : k .taps < 2 ^ k .width
+  pub spread : (c : ℕ) → getD (k .spread) c 0 < 2 ^ k .width
+
+abbrev pub seen : Register → List ℕ → ℕ → List ℕ → Rows → Given
+seen r ws s l rows =
+    record { wiring = circuit (min (r .m) 64) (r .taps) (r .inversion) ws; slices = s; values = λ t c. 0; marks = cellsOf l rows }
+
+-- the slices have been gone through: the first slice of each run, of at most 512, stands at the front of the list l
+pub record SlicedFor (g : Given) (k : ℕ) (l : List ℕ) (r : Slices) : Type 0 where
+  pub reply : saidSlices r ≡ reply (27 when shortSlice g k ∷ []) (length (startsFor g k))
+  pub starts : (n : ℕ) → saidSlices r ≡ answer n → take n l ≡ startsFor g k
   pub few : (n : ℕ) → saidSlices r ≡ answer n → n ≤ 512

@@ -7,10 +7,13 @@ ghost use Prim.Native.Nat.{_*_, _≤_};
 ghost use lib.ListN.{length, take};
 ghost use Rattle.word.specs.Reply.{numberOf};
 ghost use Rattle.rows.specs.Row.{rowBytes};
-ghost use Rattle.set_layout.specs.Layout.{markAt, widthOf};
+ghost use Rattle.set_layout.specs.Layout.{markAt};
 ghost use Rattle.set_file.specs.Reading.{TakenFrom};
+ghost use Rattle.signatures.specs.Sets.{given};
+ghost use Rattle.unclocking.specs.Unclocked.{EightBack};
 ghost use Rattle.cutter.specs.Cutting.{badShare, cutReply, cutsAfter, saidCut};
-ghost use Rattle.cutter.specs.Turns.{Turned, saidSlices, Sliced};
+ghost use Rattle.cutter.specs.Turns.{Sound, seen, Turned, saidSlices, SlicedFor};
+use register::Register;
 use rows::Rows;
 use set_file::SetAnswer;
 use set_file::Taken;
@@ -83,19 +86,22 @@ fn put_slice(held: &mut [u64], left: usize, columns: &[u64], width: usize, k: us
     }
 }
 
-// The slices of a taken set, one after the other: the first slice of each run over the front of `starts`, and how many there are; or 27.
-fn cut_slices(taken: Taken, set: &[u8], k: usize, starts: &mut [u64]) -> Slices
-    requires { ⌜ length (now starts) ≡ 512 ⌝ }
-    ensures { λ r. ⌜ (TakenFrom (now (set .entry)) taken → 1 ≤ k → k ≤ widthOf (now (set .entry)) → Sliced (now (set .entry)) k (now (starts .exit)) r) ⌝ }
+// The slices one after the other, as many as there are rows of marks to go through: the first slice of each run over the front of `starts`, and
+// how many there are; or 27. The chains' words are the spread words at first.
+fn pass_slices(
+    register: Register,
+    table: &[u64; 256],
+    list: &[u8],
+    marks: Rows,
+    slices: u16,
+    k: usize,
+    words: &mut [u64],
+    starts: &mut [u64],
+) -> Slices
+    requires { ⌜ (slices ≤ 512) × (length (now words) ≤ 256) × (length (now starts) ≡ 512) ⌝ }
+    ensures { λ r. ⌜ (Sound (seen register (now (words .entry)) slices (now (list .entry)) marks .wiring) → EightBack (seen register (now (words .entry)) slices (now (list .entry)) marks .wiring) (now (table .entry)) → 1 ≤ k → SlicedFor (seen register (now (words .entry)) slices (now (list .entry)) marks) k (now (starts .exit)) r) ⌝ }
 {
-    let register = taken.register;
     let width = register::width_limit(register.m) as usize;
-    let chains = register::chain_limit(taken.n);
-    let slices = register::slice_limit(taken.s);
-    let marks = unknown_rows(taken.n);
-    let spread = taken.spread;
-    let mut words = chains::all_words(spread);
-    let table = unclocking::eight_back(register);
     let mut columns = no_columns();
     let mut held = elimination::unit_words();
     let mut left: usize = 0;
@@ -104,11 +110,11 @@ fn cut_slices(taken: Taken, set: &[u8], k: usize, starts: &mut [u64]) -> Slices
     while t < slices {
         let place = slice_columns::next_columns(
             register,
-            &table,
-            set,
+            table,
+            list,
             marks,
             t,
-            &mut words[..chains],
+            words,
             &mut columns,
         );
         let turn = put_slice(&mut held, left, &columns[place..], width, k);
@@ -121,6 +127,30 @@ fn cut_slices(taken: Taken, set: &[u8], k: usize, starts: &mut [u64]) -> Slices
         t += 1;
     }
     Slices::Cut { runs }
+}
+
+// The slices of a taken set: the first slice of each run over the front of `starts`, and how many there are; or 27.
+fn cut_slices(taken: Taken, set: &[u8], k: usize, starts: &mut [u64]) -> Slices
+    requires { ⌜ length (now starts) ≡ 512 ⌝ }
+    ensures { λ r. ⌜ (TakenFrom (now (set .entry)) taken → 1 ≤ k → SlicedFor (given (now (set .entry))) k (now (starts .exit)) r) ⌝ }
+{
+    let register = taken.register;
+    let chains = register::chain_limit(taken.n);
+    let slices = register::slice_limit(taken.s);
+    let marks = unknown_rows(taken.n);
+    let spread = taken.spread;
+    let mut words = chains::all_words(spread);
+    let table = unclocking::eight_back(register);
+    pass_slices(
+        register,
+        &table,
+        set,
+        marks,
+        slices,
+        k,
+        &mut words[..chains],
+        starts,
+    )
 }
 
 // The refusal's number; 0 of an answer.

@@ -29,7 +29,7 @@ returns-3 c =
     let taken = taken-set _ _ _ _ _ _ (c .before .before .before .before .before .before .before .before .before .before .before .before .before .read-set .ensures) (c .before .before .before .before .before .before .before .before .before .before .before .answer .given .1) in
     let share = own-share _ _ _ _ (c .before .before .before .before .before .before .before .before .before .is-bad-share .ensures) (taken .width) in
     let good = good-share _ _ _ share (c .before .before .before .before .before .before .before .before .if1 .left) in
-    let sliced = c .before .before .before .before .cut-slices .ensures taken (good .0) (good .1) in
+    let sliced = c .before .before .before .before .cut-slices .ensures taken (good .0) in
     ends-27 _ (c .before .before .before .before .before .before .before .before .before .before .before .before .before .before .before .before .args .cuts .now) _ (taken .none) _ share (c .before .before .before .before .before .before .before .before .if1 .left) _ _ sliced _ _ (c .before .enum-told2 .given .1) (c .slices-number .ensures)
 
 returns-4 : tie.Need-returns-4
@@ -37,7 +37,7 @@ returns-4 c =
     let taken = taken-set _ _ _ _ _ _ (c .before .before .before .before .before .before .before .before .before .before .before .before .before .before .read-set .ensures) (c .before .before .before .before .before .before .before .before .before .before .before .before .answer .given .1) in
     let share = own-share _ _ _ _ (c .before .before .before .before .before .before .before .before .before .before .is-bad-share .ensures) (taken .width) in
     let good = good-share _ _ _ share (c .before .before .before .before .before .before .before .before .before .if1 .left) in
-    let sliced = c .before .before .before .before .before .cut-slices .ensures taken (good .0) (good .1) in
+    let sliced = c .before .before .before .before .before .cut-slices .ensures taken (good .0) in
     ends-28 _ (c .before .before .before .before .before .before .before .before .before .before .before .before .before .before .before .before .before .args .cuts .now) _ (taken .none) _ share (c .before .before .before .before .before .before .before .before .before .if1 .left) _ _ sliced _ (c .before .before .slices .given .1) (c .if2 .taken)
 
 -- there are at most 512 runs
@@ -46,7 +46,7 @@ few c =
     let taken = taken-set _ _ _ _ _ _ (c .before .before .before .before .before .before .before .before .before .before .before .before .before .before .read-set .ensures) (c .before .before .before .before .before .before .before .before .before .before .before .before .answer .given .1) in
     let share = own-share _ _ _ _ (c .before .before .before .before .before .before .before .before .before .before .is-bad-share .ensures) (taken .width) in
     let good = good-share _ _ _ share (c .before .before .before .before .before .before .before .before .before .if1 .left) in
-    let sliced = c .before .before .before .before .before .cut-slices .ensures taken (good .0) (good .1) in
+    let sliced = c .before .before .before .before .before .cut-slices .ensures taken (good .0) in
     runs-few _ (c .before .before .before .before .before .before .before .before .before .before .before .before .before .before .before .before .before .args .cuts .now) _ (taken .none) _ share (c .before .before .before .before .before .before .before .before .before .if1 .left) _ _ sliced _ (c .before .before .slices .given .1)
 
 -- .. and as many places for their first slices
@@ -79,7 +79,7 @@ returns-5 c =
     let taken = taken-set _ _ _ _ _ _ (c .before .before .before .before .before .before .before .before .before .before .before .before .before .before .before .before .before .before .before .read-set .ensures) (c .before .before .before .before .before .before .before .before .before .before .before .before .before .before .before .before .before .answer .given .1) in
     let share = own-share _ _ _ _ (c .before .before .before .before .before .before .before .before .before .before .before .before .before .before .before .is-bad-share .ensures) (taken .width) in
     let good = good-share _ _ _ share (c .before .before .before .before .before .before .before .before .before .before .before .before .before .before .if1 .left) in
-    let sliced = c .before .before .before .before .before .before .before .before .before .before .cut-slices .ensures taken (good .0) (good .1) in
+    let sliced = c .before .before .before .before .before .before .before .before .before .before .cut-slices .ensures taken (good .0) in
     ends-runs _ (c .before .before .before .before .before .before .before .before .before .before .before .before .before .before .before .before .before .before .before .before .before .before .args .cuts .now) _ (taken .none) _ share (c .before .before .before .before .before .before .before .before .before .before .before .before .before .before .if1 .left) _ _ sliced _ (c .before .before .before .before .before .before .before .slices .given .1) _ _ _ (c .before .before .before .before .before .if2 .left) (taken .width) refl (c .before .before .write-front .ensures)
 
 pub cut-spec : {M : Type 1} → statement M
