@@ -23,8 +23,8 @@ use Rattle.set_file.proofs.Laws.{Accepted, accepted}
 use Rattle.signatures.specs.Signature.{Response}
 use Rattle.signatures.specs.Given.{Given, RevisedFrom}
 use Rattle.signatures.specs.Sets.{given}
-use Rattle.unclocking.specs.Unclocked.{earlier}
-use Rattle.slice_columns.specs.Frame.{wordsAt}
+use Rattle.unclocking.specs.Unclocked.{earlier, EightBack}
+use Rattle.slice_columns.specs.Frame.{eights, NextFrom}
 use Rattle.slice_columns.proofs.FrameLaws.{earlierWords}
 use Rattle.cutter.specs.Cutting.{shortSlice, startsFor}
 use Rattle.cutter.specs.Turns.{Sound, seen, saidSlices, SlicedFor}
@@ -40,10 +40,14 @@ unfolding earlier
 earlier-words-none k [] = refl
 earlier-words-none k (w ∷ ws) = ap (λ (l : List ℕ). w ∷ l) (earlier-words-none k ws)
 
--- the columns of slice t are all of what stands behind a place in a list of n places
-pub slice-framed : (g : Given) (t n place : ℕ) (l : List ℕ) → n ≡ length l → drop place l ≡ wordsAt (g .wiring) t (g .marks t)
-    → take (n - place) (drop place l) ≡ framed g t
-slice-framed g t n place l en e = take-all (n - place) (drop place l) (omega (arith, length-drop place l)) ∙ e ∙ sym (framed-words g t)
+-- the columns of slice t, all of what stands behind a place in a list of n places, stand in the frame; and the words are those for the next
+-- slice, where they were the spread words ws₀ at first
+pub next-framed : (r : Register) (table list : List ℕ) (rows : Rows) (t s n : ℕ) (ws₀ ws ws′ l l′ : List ℕ) (p : ℕ) → NextFrom r table list rows t ws ws′ l l′ p
+    → EightBack (seen r ws₀ s list rows .wiring) table → length ws ≤ length l → n ≡ length l′ → ws ≡ earlierWords (seen r ws₀ s list rows .wiring) (eights t) ws₀
+    → (take (n - p) (drop p l′) ≡ framed (seen r ws₀ s list rows) t) × (ws′ ≡ earlierWords (seen r ws₀ s list rows .wiring) (eights (t + 1)) ws₀)
+next-framed r table list rows t s n ws₀ ws ws′ l l′ p next right fits en ew =
+    let both = next .frame (r .inversion) ws₀ right fits ew in
+    (take-all (n - p) (drop p l′) (omega (arith, length-drop p l′)) ∙ both .0 ∙ sym (framed-words (seen r ws₀ s list rows) t), both .1)
 
 -- ---- the set that the pass is over
 

@@ -9,12 +9,11 @@ ghost use lib.Bits.{bitXor};
 ghost use lib.Dec.{eqb};
 ghost use lib.ListN.{length, drop, getD};
 ghost use Rattle.rows.specs.Row.{cell};
-ghost use Rattle.rows.specs.Lists.{cellsOf};
 ghost use Rattle.rows.specs.Marks.{markedWords};
 ghost use Rattle.marked_words.specs.Back.{back};
 ghost use Rattle.register.specs.Circuit.{Circuit, circuit};
 ghost use Rattle.unclocking.specs.Unclocked.{earlier, EightBack};
-ghost use Rattle.slice_columns.specs.Frame.{eights, wordsAt};
+ghost use Rattle.slice_columns.specs.Frame.{eights, wordsAt, NextFrom};
 use register::Register;
 use rows::Rows;
 
@@ -60,10 +59,7 @@ pub fn next_columns(
     words: &mut [u64],
     columns: &mut [u64],
 ) -> usize
-    ensures place { λ r. ⌜ r ≡ length (now (columns .entry)) - length (markedWords (now (words .entry)) (cellsOf (now (list .entry)) marks t) (length (now (words .entry)))) ⌝ }
-    ensures list { λ _. ⌜ now (columns .exit) ≡ back (map (earlier (circuit (min (register .m) 64) (register .taps) 0 []) (t % 8)) (markedWords (now (words .entry)) (cellsOf (now (list .entry)) marks t) (length (now (words .entry))))) (now (columns .entry)) ⌝ }
-    ensures words { λ _. ⌜ now (words .exit) ≡ cond (eqb (t % 8) 7) (map (λ w. bitXor (w / 256) (getD (now (table .entry)) (w % 256) 0)) (now (words .entry))) (now (words .entry)) ⌝ }
-    ensures frame { λ r. ⌜ ((v : ℕ) (spread : List ℕ) → EightBack (circuit (min (register .m) 64) (register .taps) v spread) (now (table .entry)) → length (now (words .entry)) ≤ length (now (columns .entry)) → now (words .entry) ≡ map (earlier (circuit (min (register .m) 64) (register .taps) v spread) (eights t)) spread → (drop r (now (columns .exit)) ≡ wordsAt (circuit (min (register .m) 64) (register .taps) v spread) t (cellsOf (now (list .entry)) marks t)) × (now (words .exit) ≡ map (earlier (circuit (min (register .m) 64) (register .taps) v spread) (eights (t + 1))) spread)) ⌝ }
+    ensures { λ r. ⌜ NextFrom register (now (table .entry)) (now (list .entry)) marks t (now (words .entry)) (now (words .exit)) (now (columns .entry)) (now (columns .exit)) r ⌝ }
 {
     let row = rows::row_of(list, marks, t);
     let place = list_slice(register, row, t, words, columns);

@@ -1,17 +1,16 @@
 -- `pass_slices` meets its contract. The loop's invariant: the runs of the first `t` slices stand at the front of `starts`, the words that
 -- the last of them leaves at the front of `held`, and the chains' words are undone one clock for each of those slices, in eights.
 use mathlib.Core.Path.{_≡_, refl, sym, ap, _∙_}
-use Prim.Native.Nat.{ℕ, _+_, _-_, _≤_, min}
+use Prim.Native.Nat.{ℕ, _-_, _≤_, min}
 use native.Mathlib.Omega.{arith}
-use lib.ListN.{length, take, drop}
+use lib.ListN.{length}
 use Rattle.combinations.proofs.Units.{length-units}
 use Rattle.unclocking.specs.Unclocked.{EightBack}
-use Rattle.slice_columns.specs.Frame.{eights, wordsAt}
+use Rattle.slice_columns.specs.Frame.{eights}
 use Rattle.slice_columns.proofs.FrameLaws.{earlierWords}
 use Rattle.cutter.specs.Turns.{Sound, seen}
-use Rattle.cutter.proofs.FrameLaws.{framed}
 use Rattle.cutter.proofs.RunLaws.{CutTo, cut-starts, cut-turns, cut-short}
-use Rattle.cutter.proofs.SliceLaws.{earlier-words-none, slice-framed, sliced-short, sliced-all}
+use Rattle.cutter.proofs.SliceLaws.{earlier-words-none, next-framed, sliced-short, sliced-all}
 use borrow.Author.Needs.{needs}
 use Rattle.cutter.proofs.pass_slices.Statement.{statement}
 use Rattle.cutter.proofs.pass_slices.Tie as tie
@@ -47,15 +46,6 @@ loop-holds c = (
   (λ sound right some. cut-starts _ sound _ some _ _),
 )
 
--- the slice's columns stand in the frame, and the words are for the next
-framed-next : (c : tie.After-next-columns Inv-loop μ-loop) → EightBack ((seen (c .before .before .before .before .before .before .before .before .before .before .before .args .register) (c .before .before .before .before .before .before .before .before .before .before .before .args .words .now) (c .before .before .before .before .before .before .before .before .before .before .before .args .slices) (c .before .before .before .before .before .before .before .before .before .before .before .args .list .now) (c .before .before .before .before .before .before .before .before .before .before .before .args .marks)) .wiring) (c .before .before .before .before .before .before .before .before .before .before .before .args .table .now) → (drop (c .next-columns .result) (c .next-columns .last .1 .1 .1 .1 .1 .1 .0) ≡ wordsAt ((seen (c .before .before .before .before .before .before .before .before .before .before .before .args .register) (c .before .before .before .before .before .before .before .before .before .before .before .args .words .now) (c .before .before .before .before .before .before .before .before .before .before .before .args .slices) (c .before .before .before .before .before .before .before .before .before .before .before .args .list .now) (c .before .before .before .before .before .before .before .before .before .before .before .args .marks)) .wiring) (c .before .before .before .before .loop .t) ((seen (c .before .before .before .before .before .before .before .before .before .before .before .args .register) (c .before .before .before .before .before .before .before .before .before .before .before .args .words .now) (c .before .before .before .before .before .before .before .before .before .before .before .args .slices) (c .before .before .before .before .before .before .before .before .before .before .before .args .list .now) (c .before .before .before .before .before .before .before .before .before .before .before .args .marks)) .marks (c .before .before .before .before .loop .t))) × (c .next-columns .last .1 .1 .1 .1 .1 .0 ≡ earlierWords ((seen (c .before .before .before .before .before .before .before .before .before .before .before .args .register) (c .before .before .before .before .before .before .before .before .before .before .before .args .words .now) (c .before .before .before .before .before .before .before .before .before .before .before .args .slices) (c .before .before .before .before .before .before .before .before .before .before .before .args .list .now) (c .before .before .before .before .before .before .before .before .before .before .before .args .marks)) .wiring) (eights (c .before .before .before .before .loop .t + 1)) (c .before .before .before .before .before .before .before .before .before .before .before .args .words .now))
-framed-next c right =
-    let at = c .before .before .before .before .loop in
-    c .next-columns .ensures .1 .1 .1 (c .before .before .before .before .before .before .before .before .before .before .before .args .register .inversion) (c .before .before .before .before .before .before .before .before .before .before .before .args .words .now) right (omega (arith, at .inv .4, at .inv .5, c .before .before .before .before .before .before .before .before .before .before .before .pre .1)) (at .inv .8 right)
-
-listed : (c : tie.After-next-columns Inv-loop μ-loop) → EightBack ((seen (c .before .before .before .before .before .before .before .before .before .before .before .args .register) (c .before .before .before .before .before .before .before .before .before .before .before .args .words .now) (c .before .before .before .before .before .before .before .before .before .before .before .args .slices) (c .before .before .before .before .before .before .before .before .before .before .before .args .list .now) (c .before .before .before .before .before .before .before .before .before .before .before .args .marks)) .wiring) (c .before .before .before .before .before .before .before .before .before .before .before .args .table .now) → take (256 - c .next-columns .result) (drop (c .next-columns .result) (c .next-columns .last .1 .1 .1 .1 .1 .1 .0)) ≡ framed (seen (c .before .before .before .before .before .before .before .before .before .before .before .args .register) (c .before .before .before .before .before .before .before .before .before .before .before .args .words .now) (c .before .before .before .before .before .before .before .before .before .before .before .args .slices) (c .before .before .before .before .before .before .before .before .before .before .before .args .list .now) (c .before .before .before .before .before .before .before .before .before .before .before .args .marks)) (c .before .before .before .before .loop .t)
-listed c right = slice-framed (seen (c .before .before .before .before .before .before .before .before .before .before .before .args .register) (c .before .before .before .before .before .before .before .before .before .before .before .args .words .now) (c .before .before .before .before .before .before .before .before .before .before .before .args .slices) (c .before .before .before .before .before .before .before .before .before .before .before .args .list .now) (c .before .before .before .before .before .before .before .before .before .before .before .args .marks)) (c .before .before .before .before .loop .t) 256 (c .next-columns .result) (c .next-columns .last .1 .1 .1 .1 .1 .1 .0) (sym (c .next-columns .kept .1 .1 .1 .1 .1 .1 .0 ∙ c .before .before .before .before .loop .inv .5)) (framed-next c right .0)
-
 slice-aggregate-next-columns : tie.Need-slice-aggregate-next-columns Inv-loop μ-loop
 slice-aggregate-next-columns c = sym (c .before .before .before .loop .inv .5)
 
@@ -75,9 +65,10 @@ returns : tie.Need-returns Inv-loop μ-loop
 returns c =
     let at = c .before .before .before .before .before .before .before .before .before .before .before .before .before .loop in
     let put = c .before .before .put-slice in
+    let next = c .before .before .before .before .before .before .before .before .before .next-columns in
     λ sound right some.
     sliced-short _ _ _
-    (cut-short _ sound _ some (at .t) (at .runs) (at .left) _ (at .held) (at .starts) _ _ _ (c .before .before .before .before .before .before .before .before .before .before .before .before .loop-test .taken) (omega (arith, at .inv .0, at .inv .1, at .inv .3, c .before .before .before .before .before .before .before .before .before .before .before .before .before .before .before .before .before .before .before .before .pre .0, c .before .before .before .before .before .before .before .before .before .before .before .before .loop-test .taken)) (listed (c .before .before .before .before .before .before .before .before .before) right) (at .inv .7) (put .ensures .1 .1) (c .if1 .taken))
+    (cut-short _ sound _ some (at .t) (at .runs) (at .left) _ (at .held) (at .starts) _ _ _ (c .before .before .before .before .before .before .before .before .before .before .before .before .loop-test .taken) (omega (arith, at .inv .0, at .inv .1, at .inv .3, c .before .before .before .before .before .before .before .before .before .before .before .before .before .before .before .before .before .before .before .before .pre .0, c .before .before .before .before .before .before .before .before .before .before .before .before .loop-test .taken)) (next-framed _ _ _ _ _ (c .before .before .before .before .before .before .before .before .before .before .before .before .before .before .before .before .before .before .before .before .args .slices) 256 (c .before .before .before .before .before .before .before .before .before .before .before .before .before .before .before .before .before .before .before .before .args .words .now) (at .words) _ (at .columns) _ _ (next .ensures) right (omega (arith, at .inv .4, at .inv .5, c .before .before .before .before .before .before .before .before .before .before .before .before .before .before .before .before .before .before .before .before .pre .1)) (sym (next .kept .1 .1 .1 .1 .1 .1 .0 ∙ at .inv .5)) (at .inv .8 right) .0) (at .inv .7) (put .ensures .1 .1) (c .if1 .taken))
 
 loop-again : tie.Need-loop-again Inv-loop μ-loop
 loop-again c =
@@ -92,9 +83,9 @@ loop-again c =
       next .kept .1 .1 .1 .1 .1 .1 .0 ∙ at .inv .5,
       put .kept .0 ∙ at .inv .6,
       at .inv .7,
-      (λ right. framed-next (c .before .before .before .before .before .before .before .before .before .before) right .1),
+      (λ right. next-framed _ _ _ _ _ (c .before .before .before .before .before .before .before .before .before .before .before .before .before .before .before .before .before .before .before .before .args .slices) 256 (c .before .before .before .before .before .before .before .before .before .before .before .before .before .before .before .before .before .before .before .before .before .args .words .now) (at .words) _ (at .columns) _ _ (next .ensures) right (omega (arith, at .inv .4, at .inv .5, c .before .before .before .before .before .before .before .before .before .before .before .before .before .before .before .before .before .before .before .before .before .pre .1)) (sym (next .kept .1 .1 .1 .1 .1 .1 .0 ∙ at .inv .5)) (at .inv .8 right) .1),
       (λ sound right some.
-          cut-turns _ sound _ some (at .t) (at .runs) (at .left) _ (at .held) (at .starts) _ _ _ (c .before .before .before .before .before .before .before .before .before .before .before .before .before .loop-test .taken) (omega (arith, at .inv .0, at .inv .1, at .inv .3, c .before .before .before .before .before .before .before .before .before .before .before .before .before .before .before .before .before .before .before .before .before .pre .0, c .before .before .before .before .before .before .before .before .before .before .before .before .before .loop-test .taken)) (listed (c .before .before .before .before .before .before .before .before .before .before) right) (at .inv .7) (put .ensures .1 .1) (at .inv .9 sound right some) (search needs)),
+          cut-turns _ sound _ some (at .t) (at .runs) (at .left) _ (at .held) (at .starts) _ _ _ (c .before .before .before .before .before .before .before .before .before .before .before .before .before .loop-test .taken) (omega (arith, at .inv .0, at .inv .1, at .inv .3, c .before .before .before .before .before .before .before .before .before .before .before .before .before .before .before .before .before .before .before .before .before .pre .0, c .before .before .before .before .before .before .before .before .before .before .before .before .before .loop-test .taken)) (next-framed _ _ _ _ _ (c .before .before .before .before .before .before .before .before .before .before .before .before .before .before .before .before .before .before .before .before .args .slices) 256 (c .before .before .before .before .before .before .before .before .before .before .before .before .before .before .before .before .before .before .before .before .before .args .words .now) (at .words) _ (at .columns) _ _ (next .ensures) right (omega (arith, at .inv .4, at .inv .5, c .before .before .before .before .before .before .before .before .before .before .before .before .before .before .before .before .before .before .before .before .before .pre .1)) (sym (next .kept .1 .1 .1 .1 .1 .1 .0 ∙ at .inv .5)) (at .inv .8 right) .0) (at .inv .7) (put .ensures .1 .1) (at .inv .9 sound right some) (search needs)),
     )
 
 same-length-3 : tie.Need-same-length-3 Inv-loop μ-loop

@@ -20,19 +20,18 @@ returns c =
     let list = c .before .before .before .before .before .before .list-slice .ensures in
     let pass = c .before .before .pass-slice .ensures in
     let ws = args .words .now in
-    let l = args .columns .now in (
-      list .0 ∙ ap (λ (x : List ℕ). length l - length (markedWords ws (cell x) (length ws))) row,
-      (
-        list .1 .0 ∙ ap (λ (x : List ℕ). back (map (earlier (circuit (min (args .register .m) 64) (args .register .taps) 0 []) (args .t % 8)) (markedWords ws (cell x) (length ws))) l) row,
-        (
-          pass .0,
-          (λ v spread right fits e. (
-            list .1 .1 v spread fits e ∙ ap (λ (x : List ℕ). wordsAt (circuit (min (args .register .m) 64) (args .register .taps) v spread) (args .t) (cell x)) row,
-            pass .1 (circuit (min (args .register .m) 64) (args .register .taps) v spread) spread right e,
-          )),
-        ),
-      ),
-    )
+    let l = args .columns .now in
+    record {
+      place = list .0 ∙ ap (λ (x : List ℕ). length l - length (markedWords ws (cell x) (length ws))) row;
+      listed =
+          list .1 .0
+          ∙ ap (λ (x : List ℕ). back (map (earlier (circuit (min (args .register .m) 64) (args .register .taps) 0 []) (args .t % 8)) (markedWords ws (cell x) (length ws))) l) row;
+      words = pass .0;
+      frame = λ v spread right fits e. (
+        list .1 .1 v spread fits e ∙ ap (λ (x : List ℕ). wordsAt (circuit (min (args .register .m) 64) (args .register .taps) v spread) (args .t) (cell x)) row,
+        pass .1 (circuit (min (args .register .m) 64) (args .register .taps) v spread) spread right e,
+      );
+    }
 
 pub next-columns-spec : {M : Type 1} → statement M
 next-columns-spec =
