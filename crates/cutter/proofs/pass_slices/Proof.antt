@@ -83,9 +83,9 @@ loop-again c =
       next .kept .1 .1 .1 .1 .1 .1 .0 ∙ at .inv .5,
       put .kept .0 ∙ at .inv .6,
       at .inv .7,
-      (λ right. next-framed _ _ _ _ _ (c .before .before .before .before .before .before .before .before .before .before .before .before .before .before .before .before .before .before .before .before .args .slices) 256 (c .before .before .before .before .before .before .before .before .before .before .before .before .before .before .before .before .before .before .before .before .before .args .words .now) (at .words) _ (at .columns) _ _ (next .ensures) right (omega (arith, at .inv .4, at .inv .5, c .before .before .before .before .before .before .before .before .before .before .before .before .before .before .before .before .before .before .before .before .before .pre .1)) (sym (next .kept .1 .1 .1 .1 .1 .1 .0 ∙ at .inv .5)) (at .inv .8 right) .1),
+      (λ right. next-framed _ _ _ _ _ (c .before .before .before .before .before .before .before .before .before .before .before .before .before .before .before .before .before .before .before .before .before .args .slices) 256 (c .before .before .before .before .before .before .before .before .before .before .before .before .before .before .before .before .before .before .before .before .before .args .words .now) (at .words) _ (at .columns) _ _ (next .ensures) right (omega (arith, at .inv .4, at .inv .5, c .before .before .before .before .before .before .before .before .before .before .before .before .before .before .before .before .before .before .before .before .before .pre .1)) (sym (next .kept .1 .1 .1 .1 .1 .1 .0 ∙ at .inv .5)) (at .inv .8 right) .1),
       (λ sound right some.
-          cut-turns _ sound _ some (at .t) (at .runs) (at .left) _ (at .held) (at .starts) _ _ _ (c .before .before .before .before .before .before .before .before .before .before .before .before .before .loop-test .taken) (omega (arith, at .inv .0, at .inv .1, at .inv .3, c .before .before .before .before .before .before .before .before .before .before .before .before .before .before .before .before .before .before .before .before .before .pre .0, c .before .before .before .before .before .before .before .before .before .before .before .before .before .loop-test .taken)) (next-framed _ _ _ _ _ (c .before .before .before .before .before .before .before .before .before .before .before .before .before .before .before .before .before .before .before .before .args .slices) 256 (c .before .before .before .before .before .before .before .before .before .before .before .before .before .before .before .before .before .before .before .before .before .args .words .now) (at .words) _ (at .columns) _ _ (next .ensures) right (omega (arith, at .inv .4, at .inv .5, c .before .before .before .before .before .before .before .before .before .before .before .before .before .before .before .before .before .before .before .before .before .pre .1)) (sym (next .kept .1 .1 .1 .1 .1 .1 .0 ∙ at .inv .5)) (at .inv .8 right) .0) (at .inv .7) (put .ensures .1 .1) (at .inv .9 sound right some) (search needs)),
+          cut-turns _ sound _ some (at .t) (at .runs) (at .left) _ (at .held) (at .starts) _ _ _ (c .before .before .before .before .before .before .before .before .before .before .before .before .before .loop-test .taken) (omega (arith, at .inv .0, at .inv .1, at .inv .3, c .before .before .before .before .before .before .before .before .before .before .before .before .before .before .before .before .before .before .before .before .before .pre .0, c .before .before .before .before .before .before .before .before .before .before .before .before .before .loop-test .taken)) (next-framed _ _ _ _ _ (c .before .before .before .before .before .before .before .before .before .before .before .before .before .before .before .before .before .before .before .before .before .args .slices) 256 (c .before .before .before .before .before .before .before .before .before .before .before .before .before .before .before .before .before .before .before .before .before .args .words .now) (at .words) _ (at .columns) _ _ (next .ensures) right (omega (arith, at .inv .4, at .inv .5, c .before .before .before .before .before .before .before .before .before .before .before .before .before .before .before .before .before .before .before .before .before .pre .1)) (sym (next .kept .1 .1 .1 .1 .1 .1 .0 ∙ at .inv .5)) (at .inv .8 right) .0) (at .inv .7) (put .ensures .1 .1) (at .inv .9 sound right some) (search needs)),
     )
 
 same-length-3 : tie.Need-same-length-3 Inv-loop μ-loop
