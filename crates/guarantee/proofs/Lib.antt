@@ -7,3 +7,4 @@ pub mod Sixteen
 pub mod Revised
 pub mod WorkLaws
 pub mod Worked
+pub mod Runs

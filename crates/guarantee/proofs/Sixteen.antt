@@ -4,7 +4,7 @@
 --   after-sixteen-out     any call that begins with planning, and goes on with f, replies as it did with 16 among planning's numbers
 --   text-sixteen-out      .. and the plan printer's text is what it was, for any working places and word places
 --   X-not-16              the call X never gives 16: the set reader, the row calls, the set writer, the clock, signing, listing columns,
---                         the elimination, the words, the expected bits, planning, the plan writer, the plan reader, judging
+--                         the elimination, the words, the expected bits, planning, cutting, the plan writer, the plan reader, judging
 --   made-not-16           .. nor does making the plan of a set
 --   record-not-16         .. nor does judging a record by the plan of its set
 --   text-not-16           .. and the text is never the line `refused 16`
@@ -30,6 +30,7 @@ use Rattle.elimination.proofs.Theorems.{reply-not-16}
 use Rattle.expectation.specs.Expecting.{wordTests, expectTests, expectReply}
 use Rattle.planner.specs.Planning.{wordsOf, earlierTests, planTests, wordsReply, PlanParts, planReply}
 use Rattle.planner.proofs.Sixteen.{planReplyWithSixteen, plan-sixteen-out}
+use Rattle.cutter.specs.Cutting.{cutTests, cutReply}
 use Rattle.plan_file.specs.Checking.{planFileTests}
 use Rattle.plan_file.specs.Reading.{planReadTests, planFileReply}
 use Rattle.plan_writer.specs.Writing.{PlanContent, planContent, planWriteTests, planWriteReply}
@@ -93,6 +94,10 @@ expected-not-16 set ws = without-16 (expectTests set ws) _ refl
 pub planned-not-16 : (set : List ℕ) (k l : ℕ) → planReply set k l ≡ refusal 16 → ⊥
 unfolding planReply planTests earlierTests setTests
 planned-not-16 set k l = without-16 (planTests set k l) _ refl
+
+pub cut-not-16 : (set : List ℕ) (k room : ℕ) → cutReply set k room ≡ refusal 16 → ⊥
+unfolding cutReply cutTests setTests
+cut-not-16 set k room = without-16 (cutTests set k room) _ refl
 
 pub plan-written-not-16 : (c : PlanContent) (room : ℕ) → planWriteReply c room ≡ refusal 16 → ⊥
 unfolding planWriteReply planWriteTests
