@@ -136,7 +136,7 @@ module _ (set : List ℕ) (whole : Accepted set) (a b : ℕ) (ordered : a ≤ b)
 
   module _ (some : 1 ≤ wordsLeft (given set) a b) (w l : ℕ) (work : 64 ≤ w) (room : wordsLeft (given set) a b ≤ l) where
     run-none : firstOf (planTests (runFile set a b) w l) ≡ 0
-    unfolding wordsOf
+    unfolding wordsOf columnsOf
     run-none =
         let past : firstOf (earlierTests (runFile set a b) w) ≡ 0 =
         earlier-past-set (runFile set a b) w (accepted-back (runFile set a b) run-accepted) ∙ ap (λ (x : Bool). cond {A = ℕ} x 14 0) (le-ltb w 64 work)
