@@ -143,7 +143,7 @@ module _ (set : List ℕ) (whole : Accepted set) (a b : ℕ) (ordered : a ≤ b)
         in
         let count : length (reducedList (widthOf (runFile set a b)) (columnsOf (runFile set a b))) ≡ wordsLeft (given set) a b = run-words in
         let words : onlyEmpty (widthOf (runFile set a b)) (columnsOf (runFile set a b)) ≡ false =
-        only-empty-list (widthOf (runFile set a b)) (columnsOf (runFile set a b)) ∙ ne-eqb _ 0 (λ z. omega (arith, z, count))
+        only-empty-list (widthOf (runFile set a b)) (columnsOf (runFile set a b)) ∙ ne-eqb (length (reducedList (widthOf (runFile set a b)) (columnsOf (runFile set a b)))) 0 (λ z. omega (arith, z, count))
         in
         let fits : ltb l (length (wordsOf (runFile set a b))) ≡ false = le-ltb l (length (wordsOf (runFile set a b))) (omega (arith, run-words)) in
         plan-later (runFile set a b) w l past ∙ ap₂ (λ (x y : Bool). cond {A = ℕ} x 17 (cond {A = ℕ} y 18 0)) words fits
