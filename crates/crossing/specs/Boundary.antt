@@ -13,9 +13,9 @@
 --   expectedTo r      the expected bits of a list of words
 --   plannedOf r       planning's m, q and expected bits
 --   readOf r          the plan reader's, which crosses as planning's does
---   cuttingOf r       cutting's number of runs and control bits
 --   judgedFor b o     judging's cancelled bits b and outcome o: failed is 0 where it passes, and 1 where it fails at index
 --   judgedOf r        judging's reply: its cancelled bits and outcome
+--   cuttingOf r       cutting's number of runs and control bits
 use mathlib.Core.List.{List}
 use Prim.Native.Nat.{ℕ}
 use Rattle.word.specs.Reply.{Reply, answer, refusal}
@@ -87,10 +87,6 @@ abbrev pub expectedTo : Reply ℕ → CExpected
 expectedTo (answer e) = record { refusal = 0; expected = e }
 expectedTo (refusal k) = record { refusal = k; expected = 0 }
 
-abbrev pub cuttingOf : Reply CutParts → CCutting
-cuttingOf (answer p) = record { refusal = 0; runs = p .runs; bits = p .bits }
-cuttingOf (refusal k) = record { refusal = k; runs = 0; bits = 0 }
-
 abbrev pub judgedFor : ℕ → Outcome → CJudged
 judgedFor b passes = record { refusal = 0; cancelled = b; failed = 0; index = 0 }
 judgedFor b (failsAt i) = record { refusal = 0; cancelled = b; failed = 1; index = i }
@@ -98,3 +94,7 @@ judgedFor b (failsAt i) = record { refusal = 0; cancelled = b; failed = 1; index
 abbrev pub judgedOf : Reply Finding → CJudged
 judgedOf (answer f) = judgedFor (f .cancelled) (f .outcome)
 judgedOf (refusal k) = record { refusal = k; cancelled = 0; failed = 0; index = 0 }
+
+abbrev pub cuttingOf : Reply CutParts → CCutting
+cuttingOf (answer p) = record { refusal = 0; runs = p .runs; bits = p .bits }
+cuttingOf (refusal k) = record { refusal = k; runs = 0; bits = 0 }

@@ -40,7 +40,7 @@ use Rattle.swept_columns.proofs.FillLaws.{laterWords, later-words-get, first-wo
 use Rattle.sparse_columns.proofs.SparseLaws.{map-chosen}
 use Rattle.cutter.specs.Cutting.{wordsLeft}
 use Rattle.cutter.specs.Turns.{Sound}
-use Rattle.slice_columns.specs.Frame.{wordsAt}
+use Rattle.slice_columns.specs.Frame.{markedEarlier}
 use Rattle.slice_columns.proofs.FrameLaws.{earlierWords, earlier-words-get}
 
 -- ---- words of marked cells
@@ -59,9 +59,9 @@ marked-within m ws x (suc n) h =
 module _ (g : Given) where
   -- the marked cells' words of slice t
   pub framed : ℕ → List ℕ
-  framed t = wordsAt (g .wiring) t (g .marks t)
+  framed t = markedEarlier (g .wiring) t (g .marks t)
 
-  pub framed-words : (t : ℕ) → framed t ≡ wordsAt (g .wiring) t (g .marks t)
+  pub framed-words : (t : ℕ) → framed t ≡ markedEarlier (g .wiring) t (g .marks t)
   unfolding framed
   framed-words t = refl
 

@@ -20,7 +20,7 @@ use Rattle.marked_words.proofs.BackLaws.{back-fits, back-length}
 use Rattle.unclocking.specs.Unclocked.{earlier}
 use Rattle.unclocking.proofs.UnclockLaws.{earlier-add, earlier-zero}
 use Rattle.sparse_columns.proofs.SparseLaws.{map-chosen, back-changed}
-use Rattle.slice_columns.specs.Frame.{eights, wordsAt}
+use Rattle.slice_columns.specs.Frame.{eights, markedEarlier}
 
 -- every word j clocks earlier
 abbrev pub earlierWords : Circuit → ℕ → List ℕ → List ℕ
@@ -70,7 +70,7 @@ marked-most ws x (suc n) =
     one (suc d) = omega arith
 
 -- the chains' words unclocked in eights, of the marked cells, each unclocked for the slices since
-since-eight : (k : Circuit) (t : ℕ) (x : Cells) → map (earlier k (t % 8)) (wordsAt k (eights t) x) ≡ wordsAt k t x
+since-eight : (k : Circuit) (t : ℕ) (x : Cells) → map (earlier k (t % 8)) (markedEarlier k (eights t) x) ≡ markedEarlier k t x
 since-eight k t x =
     let sum : eights t + t % 8 ≡ t = omega arith in
     map-chosen (earlier k (t % 8)) (earlierWords k (eights t) (k .spread)) (earlierWords k t (k .spread)) x (chains k)
@@ -96,12 +96,12 @@ module _ (k : Circuit) (t : ℕ) (ws row l l′ vs : List ℕ) (place : ℕ) (fi
       ∙ drop-at (take place l) (markedWords ws (cell row) (length ws)) place here
 
   pub slice-listed : (n : ℕ) → n ≡ length l′ → ws ≡ earlierWords k (eights t) (k .spread) → vs ≡ map (earlier k (t % 8)) (take (n - place) (drop place l′))
-      → drop place (take place l′ ++ (vs ++ drop (n - place) (drop place l′))) ≡ wordsAt k t (cell row)
+      → drop place (take place l′ ++ (vs ++ drop (n - place) (drop place l′))) ≡ markedEarlier k t (cell row)
   unfolding us
   slice-listed n en ew ev =
       let long : length l′ ≡ length l = ap length el ∙ back-length (markedWords ws (cell row) (length ws)) l in
       let all : take (n - place) (drop place l′) ≡ drop place l′ = take-all (n - place) (drop place l′) (omega (arith, length-drop place l′)) in
-      let own : us ≡ wordsAt k (eights t) (cell row) =
+      let own : us ≡ markedEarlier k (eights t) (cell row) =
       ap (λ (x : List ℕ). markedWords x (cell row) (length x)) ew
       ∙ ap (markedWords (earlierWords k (eights t) (k .spread)) (cell row)) (length-map (k .spread) (earlier k (eights t)))
       in

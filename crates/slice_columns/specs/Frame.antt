@@ -1,10 +1,10 @@
 -- Columns in a frame that stays: those of a slice as they stand in the register before the first slice. A slice's spread words are undone one
 -- clock for each slice before it; clocked on together to the end of a run, they are the columns of the run's cells.
 --
---   eights t        the slices before slice t in whole eights: so often all the chains' words have been undone
---   wordsAt k t x   the words of the chains of the circuit k whose cell in x is 1, t clocks earlier
---   NextFrom ..     what listing slice t's columns does, whatever it is handed: of a register r, a table, rows of marks in a list, and the
---                   chains' words ws, which become ws′, it makes the list l into l′ and answers with the place p
+--   eights t              the slices before slice t in whole eights: so often all the chains' words have been undone
+--   markedEarlier k t x   the words of the chains of the circuit k whose cell in x is 1, t clocks earlier
+--   NextFrom ..           what listing slice t's columns does, whatever it is handed: of a register r, a table, rows of marks in a list, and
+--                         the chains' words ws, which become ws′, it makes the list l into l′ and answers with the place p
 use mathlib.Core.Path.{_≡_}
 use mathlib.Core.Bool.{cond}
 use mathlib.Core.List.{List, [], map}
@@ -24,8 +24,8 @@ use Rattle.unclocking.specs.Unclocked.{earlier, EightBack}
 abbrev pub eights : ℕ → ℕ
 eights t = 8 * (t / 8)
 
-abbrev pub wordsAt : Circuit → ℕ → Cells → List ℕ
-wordsAt k t x = markedWords (map (earlier k t) (k .spread)) x (chains k)
+abbrev pub markedEarlier : Circuit → ℕ → Cells → List ℕ
+markedEarlier k t x = markedWords (map (earlier k t) (k .spread)) x (chains k)
 
 -- the words of the marked cells, undone for the slices since the last eight, stand at the end of the list, and behind the last of eight slices
 -- the chains' words are undone 8 clocks more, by the table. Where the table is right, the words are those for slice t and the list has room,
@@ -37,5 +37,5 @@ pub record NextFrom (r : Register) (table list : List ℕ) (rows : Rows) (t : �
   pub frame :
       (v : ℕ) (spread : List ℕ) → EightBack (circuit (min (r .m) 64) (r .taps) v spread) table → length ws ≤ length l
       → ws ≡ map (earlier (circuit (min (r .m) 64) (r .taps) v spread) (eights t)) spread
-      → (drop p l′ ≡ wordsAt (circuit (min (r .m) 64) (r .taps) v spread) t (cellsOf list rows t))
+      → (drop p l′ ≡ markedEarlier (circuit (min (r .m) 64) (r .taps) v spread) t (cellsOf list rows t))
       × (ws′ ≡ map (earlier (circuit (min (r .m) 64) (r .taps) v spread) (eights (t + 1))) spread)

@@ -13,23 +13,17 @@ ghost use Rattle.rows.specs.Marks.{markedWords};
 ghost use Rattle.marked_words.specs.Back.{back};
 ghost use Rattle.register.specs.Circuit.{Circuit, circuit};
 ghost use Rattle.unclocking.specs.Unclocked.{earlier, EightBack};
-ghost use Rattle.slice_columns.specs.Frame.{eights, wordsAt, NextFrom};
+ghost use Rattle.slice_columns.specs.Frame.{eights, markedEarlier, NextFrom};
 use register::Register;
 use rows::Rows;
 
 // The columns of slice t's marked cells over the end of the list, where `words` are the chains' words for it (`pass_slice`). Answers with
 // how many places stand before them. It meets no number: a width counts as at most 64. Where the list is shorter than the columns, the first
 // of them are lost.
-fn list_slice(
-    register: Register,
-    row: &[u8],
-    t: u16,
-    words: &[u64],
-    columns: &mut [u64],
-) -> usize
+fn list_slice(register: Register, row: &[u8], t: u16, words: &[u64], columns: &mut [u64]) -> usize
     ensures place { λ r. ⌜ r ≡ length (now (columns .entry)) - length (markedWords (now (words .entry)) (cell (now (row .entry))) (length (now (words .entry)))) ⌝ }
     ensures list { λ _. ⌜ now (columns .exit) ≡ back (map (earlier (circuit (min (register .m) 64) (register .taps) 0 []) (t % 8)) (markedWords (now (words .entry)) (cell (now (row .entry))) (length (now (words .entry))))) (now (columns .entry)) ⌝ }
-    ensures frame { λ r. ⌜ ((v : ℕ) (spread : List ℕ) → length (now (words .entry)) ≤ length (now (columns .entry)) → now (words .entry) ≡ map (earlier (circuit (min (register .m) 64) (register .taps) v spread) (eights t)) spread → drop r (now (columns .exit)) ≡ wordsAt (circuit (min (register .m) 64) (register .taps) v spread) t (cell (now (row .entry)))) ⌝ }
+    ensures frame { λ r. ⌜ ((v : ℕ) (spread : List ℕ) → length (now (words .entry)) ≤ length (now (columns .entry)) → now (words .entry) ≡ map (earlier (circuit (min (register .m) 64) (register .taps) v spread) (eights t)) spread → drop r (now (columns .exit)) ≡ markedEarlier (circuit (min (register .m) 64) (register .taps) v spread) t (cell (now (row .entry)))) ⌝ }
 {
     let place = marked_words::list_row(columns, words, row);
     unclocking::unclock_words(register, t % 8, &mut columns[place..]);

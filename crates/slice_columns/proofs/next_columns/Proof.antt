@@ -8,7 +8,7 @@ use Rattle.rows.specs.Marks.{markedWords}
 use Rattle.register.specs.Circuit.{circuit}
 use Rattle.marked_words.specs.Back.{back}
 use Rattle.unclocking.specs.Unclocked.{earlier}
-use Rattle.slice_columns.specs.Frame.{wordsAt}
+use Rattle.slice_columns.specs.Frame.{markedEarlier}
 use borrow.Author.Needs.{needs}
 use Rattle.slice_columns.proofs.next_columns.Statement.{statement}
 use Rattle.slice_columns.proofs.next_columns.Tie as tie
@@ -28,7 +28,7 @@ returns c =
           ∙ ap (λ (x : List ℕ). back (map (earlier (circuit (min (args .register .m) 64) (args .register .taps) 0 []) (args .t % 8)) (markedWords ws (cell x) (length ws))) l) row;
       words = pass .0;
       frame = λ v spread right fits e. (
-        list .1 .1 v spread fits e ∙ ap (λ (x : List ℕ). wordsAt (circuit (min (args .register .m) 64) (args .register .taps) v spread) (args .t) (cell x)) row,
+        list .1 .1 v spread fits e ∙ ap (λ (x : List ℕ). markedEarlier (circuit (min (args .register .m) 64) (args .register .taps) v spread) (args .t) (cell x)) row,
         pass .1 (circuit (min (args .register .m) 64) (args .register .taps) v spread) spread right e,
       );
     }
