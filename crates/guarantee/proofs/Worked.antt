@@ -1,11 +1,13 @@
 -- The starred lines of document 01, "Worked on paper", proved of the definitions as one table: each line through the reply of the
 -- call that it is about; and behind them, worked by hand, the clock and the sample with an inversion word, 5, and planning in two calls:
--- the sample's words, and the expected bits of its own words, of others, and of lists that are refused. Assumes nothing.
+-- the sample's words, and the expected bits of its own words, of others, and of lists that are refused; and the sample, and a set with several
+-- runs, cut. Assumes nothing.
 --
 --   wrote r vs         what a call with the reply r writes to a lent list: vs after an answer
 --   next r             the state that the clock's reply r gives
 --   expectedIn r       the expected bits in planning's reply r
 --   bitsIn r           the expected bits in the reply r of the call that gives them; a refusal's number twice
+--   cutIn r            the number of runs and the control bits in cutting's reply r; a refusal's number alone
 --   indexIn r          judging's reply r as a list: nothing where the signature passes, the index where it fails
 use mathlib.Core.Path.{_≡_, refl}
 use mathlib.Core.Bool.{true}
@@ -37,6 +39,8 @@ use Rattle.signatures.specs.Sets.{columnsOf, unknownsOf, zeroSignature}
 use Rattle.columns.specs.Listing.{listTests, listReply}
 use Rattle.expectation.specs.Expecting.{wordTests, expectTests, expectReply}
 use Rattle.planner.specs.Planning.{wordsOf, expectedOf, wordsReply, PlanParts, partsOf, earlierTests, planTests, planReply}
+use Rattle.cutter.specs.Greatest.{greatest}
+use Rattle.cutter.specs.Cutting.{wordsLeft, leaves, longestEnd, startsFrom, startsFor, badShare, shortSlice, startsOf, CutParts, cutTests, cutReply}
 use Rattle.reduced_list.specs.WordCount.{badWordCount}
 use Rattle.plan_file.specs.Checking.{badPlanWidth, badPlanCount, badPlanEnd, planFileTests}
 use Rattle.plan_writer.specs.Writing.{planBytes}
@@ -61,6 +65,10 @@ abbrev bitsIn : Reply ℕ → List ℕ
 bitsIn (answer e) = e ∷ []
 bitsIn (refusal n) = n ∷ n ∷ []
 
+abbrev cutIn : Reply CutParts → List ℕ
+cutIn (answer p) = p .runs ∷ p .bits ∷ []
+cutIn (refusal n) = n ∷ []
+
 abbrev indexOf : Outcome → List ℕ
 indexOf passes = []
 indexOf (failsAt i) = i ∷ []
@@ -79,7 +87,12 @@ sample v =
     3 ∷ 0 ∷ 3 ∷ 0 ∷ 0 ∷ 0 ∷ 0 ∷ 0 ∷ 0 ∷ 0 ∷ v ∷ 0 ∷ 0 ∷ 0 ∷ 0 ∷ 0 ∷ 0 ∷ 0 ∷ 2 ∷ 0 ∷ 1 ∷ 0 ∷ 0 ∷ 0 ∷ 0 ∷ 0 ∷ 0 ∷ 0 ∷ 4 ∷ 0 ∷ 0 ∷ 0 ∷ 0
     ∷ 0 ∷ 0 ∷ 0 ∷ 2 ∷ 0 ∷ 1 ∷ 2 ∷ 1 ∷ 0 ∷ []
 
--- what judging gives for the plan made of it and the signature y
+-- a set of three chains and eight slices in a register of four bits, which has no words as a whole: samples/runs.set
+several : List ℕ
+several =
+    4 ∷ 0 ∷ 3 ∷ 0 ∷ 0 ∷ 0 ∷ 0 ∷ 0 ∷ 0 ∷ 0 ∷ 0 ∷ 0 ∷ 0 ∷ 0 ∷ 0 ∷ 0 ∷ 0 ∷ 0 ∷ 3 ∷ 0 ∷ 1 ∷ 0 ∷ 0 ∷ 0 ∷ 0 ∷ 0 ∷ 0 ∷ 0 ∷ 2 ∷ 0 ∷ 0 ∷ 0 ∷ 0 ∷ 0 ∷ 0 ∷ 0 ∷ 4 ∷ 0 ∷ 0 ∷ 0 ∷ 0 ∷ 0 ∷ 0 ∷ 0 ∷ 8 ∷ 0 ∷ 0 ∷ 4 ∷ 2 ∷ 1 ∷ 2 ∷ 0 ∷ 1 ∷ 4 ∷ 1 ∷ 2 ∷ 4 ∷ 1 ∷ 7 ∷ 0 ∷ 1 ∷ 2 ∷ []
+
+-- what judging gives for the plan made of the sample and the signature y
 abbrev sampleJudged : ℕ → ℕ → Reply Finding
 sampleJudged v y = judgeReply (planFile (sample v) (partsOf (sample v))) y
 
@@ -114,8 +127,17 @@ worked =
     ∷ record { given = bitsIn (expectReply (sample 0) (4 ∷ 3 ∷ 2 ∷ 1 ∷ [])); printed = 20 ∷ 20 ∷ [] }
     ∷ record { given = bitsIn (expectReply (sample 0) (4 ∷ 3 ∷ [])); printed = 21 ∷ 21 ∷ [] }
     ∷ record { given = bitsIn (expectReply (sample 5) (1 ∷ 2 ∷ 4 ∷ [])); printed = 7 ∷ [] }
+    ∷ record { given = wrote (cutReply (sample 0) 2 1) (startsOf (sample 0) 2); printed = 0 ∷ [] }
+    ∷ record { given = cutIn (cutReply (sample 0) 2 1); printed = 1 ∷ 6 ∷ [] }
+    ∷ record { given = cutIn (cutReply (sample 0) 0 1); printed = 26 ∷ [] }
+    ∷ record { given = cutIn (cutReply (sample 0) 4 1); printed = 26 ∷ [] }
+    ∷ record { given = cutIn (cutReply (sample 0) 3 0); printed = 27 ∷ [] }
+    ∷ record { given = cutIn (cutReply (sample 0) 2 0); printed = 28 ∷ [] }
+    ∷ record { given = wrote (cutReply several 2 3) (startsOf several 2); printed = 0 ∷ 4 ∷ 7 ∷ [] }
+    ∷ record { given = cutIn (cutReply several 2 3); printed = 3 ∷ 24 ∷ [] }
+    ∷ record { given = cutIn (cutReply several 4 8); printed = 27 ∷ [] }
     ∷ []
 
 pub worked-agrees : agrees worked ≡ true
-unfolding worked sample eliminationReply eliminationTests clockReply clockTests listReply listTests setTests expectReply expectTests wordTests wordsReply planReply planTests earlierTests judgeReply judgeTests planFileTests planFile planBytes badWidth badTaps badChains badSpread badSlices badPlanWidth badPlanCount badPlanEnd badWordCount spareSet beyond anyBelow anyOf allOf front number numberAt wordsAt bytesOf wordBytes joined parities parity ones onesIn highestBit leadingZeros rank rankAfter grown xFree onlyEmpty reducedList wordsBelow independent made xorRows isReduced ascending topsClear advanced driven clocked valueRow markRow runs column sliceColumns columnsBelow columnsOf unknownsOf total zeroSignature wordsOf expectedOf verdictFrom
+unfolding worked sample several cutReply cutTests badShare shortSlice startsOf startsFor startsFrom longestEnd leaves wordsLeft greatest eliminationReply eliminationTests clockReply clockTests listReply listTests setTests expectReply expectTests wordTests wordsReply planReply planTests earlierTests judgeReply judgeTests planFileTests planFile planBytes badWidth badTaps badChains badSpread badSlices badPlanWidth badPlanCount badPlanEnd badWordCount spareSet beyond anyBelow anyOf allOf front number numberAt wordsAt bytesOf wordBytes joined parities parity ones onesIn highestBit leadingZeros rank rankAfter grown xFree onlyEmpty reducedList wordsBelow independent made xorRows isReduced ascending topsClear advanced driven clocked valueRow markRow runs column sliceColumns columnsBelow columnsOf unknownsOf total zeroSignature wordsOf expectedOf verdictFrom
 worked-agrees = refl
