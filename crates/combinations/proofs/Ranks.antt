@@ -11,7 +11,7 @@ use Prim.Native.Nat.{ℕ, _+_, _^_, _<_, _≤_}
 use native.Mathlib.Omega.{arith}
 use borrow.Author.Tests.{eqb-true, eq-eqb, lt-leb}
 use lib.Bits.{bitXor, xor-lt, xor-self}
-use lib.Dec.{eqb, leb}
+use lib.Dec.{eqb}
 use lib.ListN.{length}
 use lib.Pow.{pow-pos}
 use Rattle.word.specs.Word.{beyond}
@@ -20,7 +20,6 @@ use Rattle.word.proofs.SomeLaws.{any-of-append}
 use Rattle.word.proofs.BoolLaws.{iff-eq, or-false, or-false-left, or-false-right}
 use Rattle.combinations.specs.Combination.{member, grown, rankAfter, rank}
 use Rattle.combinations.specs.Reduced.{reducedList}
-use Rattle.combinations.specs.Step.{steps}
 use Rattle.combinations.proofs.Theorems.{first-below, later-below, words-and-rank, portion-after}
 use Rattle.combinations.proofs.Portions.{portion-before, steps-most}
 

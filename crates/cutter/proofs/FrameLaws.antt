@@ -10,12 +10,12 @@
 --   slice-most           .. and no slice of a run, alone, leaves fewer than the run
 -- Assumes nothing.
 use mathlib.Core.Path.{_≡_, refl, sym, ap, ap₂, _∙_}
-use mathlib.Core.Bool.{Bool, true, false}
-use mathlib.Core.List.{List, [], _∷_, _++_, map, map-append, append-assoc, append-nil}
+use mathlib.Core.Bool.{false}
+use mathlib.Core.List.{List, [], _++_, map, map-append, append-assoc, append-nil}
 use Prim.Native.Nat.{ℕ, zero, suc, _+_, _-_, _^_, _≤_, _<_}
 use native.Mathlib.Nat.{add-zero, add-suc, add-assoc}
 use native.Mathlib.Omega.{arith}
-use lib.ListN.{length, getD, length-map, List·getD-map}
+use lib.ListN.{length, getD}
 use Rattle.word.specs.Word.{beyond}
 use Rattle.word.specs.Some.{anyOf}
 use Rattle.word.proofs.SomeLaws.{any-of-append}
@@ -24,18 +24,17 @@ use Rattle.word.proofs.WordLaws.{not-beyond}
 use Rattle.combinations.specs.Combination.{rank}
 use Rattle.combinations.specs.Reduced.{reducedList}
 use Rattle.combinations.proofs.Theorems.{words-and-rank}
-use Rattle.combinations.proofs.Ranks.{rank-through, rank-front, rank-back, front-within, back-within}
+use Rattle.combinations.proofs.Ranks.{rank-through, rank-front, rank-back}
 use Rattle.numbers.specs.Joined.{joined}
 use Rattle.rows.specs.Row.{Cells}
 use Rattle.rows.specs.Marks.{listed, markedWords}
-use Rattle.register.specs.Circuit.{Circuit, chains}
-use Rattle.signatures.specs.Signature.{Response}
+use Rattle.register.specs.Circuit.{chains}
 use Rattle.signatures.specs.Later.{later}
-use Rattle.signatures.specs.Columns.{sliceColumns, columnsBelow}
-use Rattle.signatures.specs.Given.{Given, columnsFor}
-use Rattle.powers.proofs.PowerLaws.{later-zero, later-xor, later-add}
+use Rattle.signatures.specs.Columns.{columnsBelow}
+use Rattle.signatures.specs.Given.{Given}
+use Rattle.powers.proofs.PowerLaws.{later-xor, later-add}
 use Rattle.unclocking.specs.Unclocked.{earlier}
-use Rattle.unclocking.proofs.UnclockLaws.{earlier-zero, earlier-lt, later-earlier, later-one-to-one}
+use Rattle.unclocking.proofs.UnclockLaws.{earlier-lt, later-earlier, later-one-to-one}
 use Rattle.swept_columns.proofs.FillLaws.{laterWords, later-words-get, first-words}
 use Rattle.sparse_columns.proofs.SparseLaws.{map-chosen}
 use Rattle.cutter.specs.Cutting.{wordsLeft}

@@ -5,16 +5,16 @@
 --   same-short     whether a slice alone leaves fewer than k words
 --
 -- And the register and chains of a set that meets none of its numbers are sound (sound-set). Assumes nothing.
-use mathlib.Core.Path.{_≡_, refl, sym, ap, ap₂, _∙_}
+use mathlib.Core.Path.{_≡_, refl, ap, ap₂, _∙_}
 use mathlib.Core.Bool.{cond}
 use mathlib.Core.List.{List, [], _∷_}
-use Prim.Native.Nat.{ℕ, zero, suc, _+_, _-_, _≤_, _<_}
+use Prim.Native.Nat.{ℕ, zero, suc, _+_, _-_, _≤_}
 use native.Mathlib.Omega.{arith}
 use lib.Dec.{leb, ltb}
 use Rattle.word.specs.Some.{anyBelow}
 use Rattle.word.proofs.SomeLaws.{any-below-ext}
 use Rattle.combinations.specs.Combination.{rank}
-use Rattle.register.specs.Circuit.{Circuit, chains}
+use Rattle.register.specs.Circuit.{Circuit}
 use Rattle.register.proofs.Laws.{good-taps}
 use Rattle.chains.proofs.Laws.{good-spread}
 use Rattle.set_layout.specs.Layout.{widthOf, tapsOf, spreadOf, circuitOf}

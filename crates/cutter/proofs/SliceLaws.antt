@@ -1,36 +1,34 @@
--- The pass over a set's slices: the words of a slice as they are listed, and what the pass over all slices comes to. Assumes nothing.
+-- The pass over a set's slices: what one slice does, and what the pass over all slices comes to. Assumes nothing.
 use mathlib.Core.Path.{_≡_, refl, sym, ap, ap₂, _∙_, subst}
-use mathlib.Core.Bool.{Bool, true, false, cond}
-use mathlib.Core.List.{List, [], _∷_, _++_, map, map-map, append-nil}
-use Prim.Native.Nat.{ℕ, zero, suc, _+_, _-_, _*_, _%_, _≤_, _<_, min}
+use mathlib.Core.Bool.{Bool, true, false}
+use mathlib.Core.List.{List, [], _∷_}
+use Prim.Native.Nat.{ℕ, _+_, _-_, _*_, _≤_, _<_, min}
 use native.Mathlib.Omega.{arith}
-use lib.ListN.{length, take, drop, getD, length-append, length-map, length-drop, drop-of-length-le}
-use lib.Seq.{take-at, take-all, drop-at, length-take-le}
-use Rattle.word.specs.Reply.{_when_, Reply, answer, refusal, reply}
+use lib.ListN.{length, take, drop, set, length-drop}
+use lib.Seq.{take-all, length-take-le}
+use Rattle.word.specs.Reply.{_when_, answer, refusal, reply}
 use Rattle.word.proofs.TestLaws.{replied-answer}
 use Rattle.numbers.proofs.PartLaws.{take-limit}
-use Rattle.rows.specs.Row.{Cells, cell, rowBytes}
-use Rattle.rows.specs.Lists.{rowOf, cellsOf}
-use Rattle.rows.specs.Marks.{listed, markedWords}
+use Rattle.rows.specs.Row.{cell, rowBytes}
 use Rattle.rows.specs.declared.Rows.{Rows}
 use Rattle.register.specs.Circuit.{Circuit, circuit, chains}
 use Rattle.register.specs.declared.Register.{Register}
-use Rattle.set_layout.specs.Layout.{circuitOf, chainsOf, slicesOf, markAt, markRow, marks, widthOf}
+use Rattle.set_layout.specs.Layout.{circuitOf, markAt, marks}
 use Rattle.set_layout.proofs.SliceLaws.{mark-rows-row}
-use Rattle.set_file.specs.Reading.{takenCircuit, TakenFrom}
+use Rattle.set_file.specs.Reading.{TakenFrom}
 use Rattle.set_file.specs.declared.Taken.{Taken}
 use Rattle.set_file.proofs.Laws.{Accepted, accepted}
-use Rattle.signatures.specs.Signature.{Response}
 use Rattle.signatures.specs.Given.{Given, RevisedFrom}
 use Rattle.signatures.specs.Sets.{given}
 use Rattle.unclocking.specs.Unclocked.{earlier, EightBack}
-use Rattle.slice_columns.specs.Frame.{eights, NextFrom}
+use Rattle.slice_columns.specs.Frame.{eights, markedEarlier, NextFrom}
 use Rattle.slice_columns.proofs.FrameLaws.{earlierWords}
 use Rattle.cutter.specs.Cutting.{shortSlice, startsFor}
-use Rattle.cutter.specs.Turns.{Sound, seen, saidSlices, SlicedFor}
+use Rattle.cutter.specs.Turns.{Sound, seen, Turned, SlicedFor}
 use Rattle.cutter.specs.declared.Slices.{Slices}
+use Rattle.cutter.specs.declared.Turn.{Turn}
 use Rattle.cutter.proofs.FrameLaws.{framed, framed-words}
-use Rattle.cutter.proofs.RunLaws.{CutTo, cut-ends}
+use Rattle.cutter.proofs.RunLaws.{CutTo, cut-turns, cut-short, cut-ends}
 use Rattle.cutter.proofs.SameLaws.{same-starts, same-short, sound-set}
 
 -- ---- the chains' words
@@ -39,15 +37,6 @@ pub earlier-words-none : (k : Circuit) (ws : List ℕ) → ws ≡ earlierWords k
 unfolding earlier
 earlier-words-none k [] = refl
 earlier-words-none k (w ∷ ws) = ap (λ (l : List ℕ). w ∷ l) (earlier-words-none k ws)
-
--- the columns of slice t, all of what stands behind a place in a list of n places, stand in the frame; and the words are those for the next
--- slice, where they were the spread words ws₀ at first
-pub next-framed : (r : Register) (table list : List ℕ) (rows : Rows) (t s n : ℕ) (ws₀ ws ws′ l l′ : List ℕ) (p : ℕ) → NextFrom r table list rows t ws ws′ l l′ p
-    → EightBack (seen r ws₀ s list rows .wiring) table → length ws ≤ length l → n ≡ length l′ → ws ≡ earlierWords (seen r ws₀ s list rows .wiring) (eights t) ws₀
-    → (take (n - p) (drop p l′) ≡ framed (seen r ws₀ s list rows) t) × (ws′ ≡ earlierWords (seen r ws₀ s list rows .wiring) (eights (t + 1)) ws₀)
-next-framed r table list rows t s n ws₀ ws ws′ l l′ p next right fits en ew =
-    let both = next .frame (r .inversion) ws₀ right fits ew in
-    (take-all (n - p) (drop p l′) (omega (arith, length-drop p l′)) ∙ both .0 ∙ sym (framed-words (seen r ws₀ s list rows) t), both .1)
 
 -- ---- the set that the pass is over
 
@@ -106,3 +95,36 @@ sliced-all g sound κ t runs left h l some et few long so-far =
       starts = λ n h. ap (λ (i : ℕ). take i l) (replied-answer 0 runs n h .1) ∙ ends .1;
       few = λ n h. omega (arith, replied-answer 0 runs n h .1);
     }
+
+-- ---- one slice of the pass
+
+-- what one slice of the pass does with the chains' words, which become ws′, the words h that the run so far leaves, which become h′, and the
+-- first slices l of the runs so far
+pub record SlicePassed (g : Given) (table : List ℕ) (k t runs left : ℕ) (ws′ h h′ l : List ℕ) (turn : Turn) : Type 0 where
+  pub words : EightBack (g .wiring) table → ws′ ≡ earlierWords (g .wiring) (eights (t + 1)) (g .wiring .spread)
+  pub short : Sound (g .wiring) → EightBack (g .wiring) table → 1 ≤ k → turn .left < k → SlicedFor g k l (Slices.Refused 27)
+  pub next : Sound (g .wiring) → EightBack (g .wiring) table → 1 ≤ k → CutTo g k t runs left h l → k ≤ turn .left
+      → CutTo g k (t + 1) (runs + turn .opened) (turn .left) h′ (set l runs t)
+
+-- .. by what its two calls promise: the columns stand behind place p of a list of 256, and have been put to the words
+module _ (r : Register) (table list : List ℕ) (rows : Rows) (s k t runs left w p : ℕ) (ws₀ ws ws′ cs cs′ h h′ l : List ℕ) (turn : Turn)
+    (next : NextFrom r table list rows t ws ws′ cs cs′ p) (put : Turned (take (256 - p) (drop p cs′)) w k (take left h) h′ turn)
+    (so-far : EightBack (seen r ws₀ s list rows .wiring) table → ws ≡ earlierWords (seen r ws₀ s list rows .wiring) (eights t) ws₀) (inside : t < s)
+    (room : runs < length l) (fits : length ws ≤ length cs) (long : length cs′ ≡ 256) (width : w ≡ min (r .m) 64) where
+  abbrev g : Given
+  g = seen r ws₀ s list rows
+
+  both : EightBack (g .wiring) table → (drop p cs′ ≡ markedEarlier (g .wiring) t (g .marks t)) × (ws′ ≡ earlierWords (g .wiring) (eights (t + 1)) ws₀)
+  both right = next .frame (r .inversion) ws₀ right fits (so-far right)
+
+  columns : EightBack (g .wiring) table → take (256 - p) (drop p cs′) ≡ framed g t
+  columns right = take-all (256 - p) (drop p cs′) (omega (arith, length-drop p cs′)) ∙ both right .0 ∙ sym (framed-words g t)
+
+  pub slice-passed : SlicePassed g table k t runs left ws′ h h′ l turn
+  slice-passed = record {
+    words = λ right. both right .1;
+    short = λ sound right some few.
+        sliced-short g k l (cut-short g sound k some t runs left w h l h′ (take (256 - p) (drop p cs′)) turn inside room (columns right) width put few);
+    next = λ sound right some.
+        cut-turns g sound k some t runs left w h l h′ (take (256 - p) (drop p cs′)) turn inside room (columns right) width put;
+  }

@@ -11,7 +11,7 @@
 use mathlib.Core.Path.{_≡_, refl, sym, ap, ap₂, _∙_}
 use mathlib.Core.Bool.{Bool, true, false, cond}
 use mathlib.Core.Logic.{⊎-elim}
-use mathlib.Core.List.{List, [], _∷_}
+use mathlib.Core.List.{List}
 use Prim.Native.Nat.{ℕ, zero, suc, _*_, _≤_, _<_}
 use native.Mathlib.Nat.{eq-or-lt-of-le, le-of-suc-le-suc}
 use native.Mathlib.Omega.{arith}
@@ -31,7 +31,7 @@ use Rattle.set_file.proofs.Laws.{set-numbered}
 use Rattle.signatures.specs.Given.{Given}
 use Rattle.signatures.specs.Sets.{given, Revised}
 use Rattle.cutter.specs.Greatest.{greatest}
-use Rattle.cutter.specs.Cutting.{badShare, wordsLeft, leaves, longestEnd, startsFrom, startsFor, shortSlice, startsOf, CutParts, cutPartsOf, cutTests, cutReply, cutsAfter}
+use Rattle.cutter.specs.Cutting.{badShare, wordsLeft, leaves, longestEnd, startsFrom, startsFor, shortSlice, RunOf, startsOf, CutParts, cutTests, cutReply, cutsAfter}
 use Rattle.cutter.specs.Turns.{Sound}
 use Rattle.cutter.proofs.RunLaws.{longest-at}
 use Rattle.cutter.proofs.SameLaws.{same-starts, same-short}
@@ -67,7 +67,7 @@ module _ (old new : List ℕ) (r : Revised old new) where
 -- ---- each run
 
 -- the greatest number at which a test holds that holds somewhere
-pub record Greatest (n e : ℕ) (f : ℕ → Bool) : Type 0 where
+record Greatest (n e : ℕ) (f : ℕ → Bool) : Type 0 where
   pub holds : f (greatest n f) ≡ true
   pub least : e ≤ greatest n f
   pub most : greatest n f ≤ n
@@ -104,13 +104,6 @@ greatest-of (suc n) e f h t = go (λ l. greatest-of n e f l t) (f (suc n)) refl
     go rest false q =
         greatest-below n e f q
         (rest (⊎-elim (λ (p : e ≡ suc n). absurd (true-not-false (f e) t (ap f p ∙ q))) (λ (l : e < suc n). le-of-suc-le-suc l) (eq-or-lt-of-le h)))
-
-pub record RunOf (g : Given) (k a : ℕ) : Type 0 where
-  pub inside : a < g .slices
-  pub some : a < longestEnd g k a
-  pub within : longestEnd g k a ≤ g .slices
-  pub enough : k ≤ wordsLeft g a (longestEnd g k a)
-  pub longest : (b : ℕ) → longestEnd g k a < b → b ≤ g .slices → wordsLeft g a b < k
 
 run-of : (g : Given) (k a : ℕ) → shortSlice g k ≡ false → a < g .slices → RunOf g k a
 unfolding longestEnd leaves shortSlice

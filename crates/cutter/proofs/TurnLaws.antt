@@ -1,10 +1,10 @@
 -- One slice's columns put to the words at the front of a list of 64 places: they leave enough, or the slice opens a run. Assumes nothing.
-use mathlib.Core.Path.{_≡_, refl, sym, ap, ap₂, _∙_}
-use mathlib.Core.List.{List, [], _++_, append-assoc, append-nil}
+use mathlib.Core.Path.{_≡_, refl, sym, ap, _∙_}
+use mathlib.Core.List.{List, _++_, append-assoc, append-nil}
 use Prim.Native.Nat.{ℕ, _-_, _≤_, _<_}
 use native.Mathlib.Omega.{arith}
 use lib.ListN.{length, take, drop, length-take, drop-of-length-le}
-use lib.Seq.{take-at, take-all, length-take-le}
+use lib.Seq.{take-at, take-all}
 use Rattle.word.specs.Reply.{front}
 use Rattle.word.specs.Zeros.{zeros, filled}
 use Rattle.combinations.specs.Step.{steps, units}

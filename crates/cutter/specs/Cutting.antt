@@ -11,6 +11,7 @@
 --   startsFor g k        the first slice of each run
 --   badShare m k         document 02, 26: k isn't 1 to m
 --   shortSlice g k       document 02, 27: a slice alone leaves fewer than k words
+--   RunOf g k a          what is promised of a run that is listed, from a on
 --   startsOf set k       the first slice of each run of a set
 --   CutParts             what the call answers: the number of runs and the control bits
 --   cutTests set k room  the numbers that the call meets, in order, for a cut list of `room` places
@@ -19,7 +20,7 @@
 --   saidCut c            the paper's reading of what the call hands back
 use mathlib.Core.Bool.{Bool, cond, _||_}
 use mathlib.Core.List.{List, [], _∷_, _++_}
-use Prim.Native.Nat.{ℕ, zero, suc, _+_, _-_, _*_}
+use Prim.Native.Nat.{ℕ, zero, suc, _+_, _-_, _*_, _≤_, _<_}
 use lib.Dec.{leb, ltb}
 use lib.ListN.{length}
 use Rattle.word.specs.Some.{anyBelow}
@@ -60,6 +61,15 @@ badShare m k = ltb k 1 || ltb m k
 
 unfoldable pub shortSlice : Given → ℕ → Bool
 shortSlice g k = anyBelow (g .slices) (λ t. ltb (wordsLeft g t (suc t)) k)
+
+-- what is promised of each run that is listed, from a on: it has a slice, it ends no later than the response and leaves at least k words, and
+-- none that begins there and ends later does (proofs/Theorems.antt, each-run)
+pub record RunOf (g : Given) (k a : ℕ) : Type 0 where
+  pub inside : a < g .slices
+  pub some : a < longestEnd g k a
+  pub within : longestEnd g k a ≤ g .slices
+  pub enough : k ≤ wordsLeft g a (longestEnd g k a)
+  pub longest : (b : ℕ) → longestEnd g k a < b → b ≤ g .slices → wordsLeft g a b < k
 
 -- ---- the call
 

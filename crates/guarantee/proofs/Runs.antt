@@ -1,15 +1,15 @@
 -- Each run of a cut set, put into a set file of its own, is planned with exactly the words that the cutting counted, at least k
 -- (each-run-planned). Document 02, No. 5: "each leaving at least k words"; "Each run is later judged as a set of its own." Assumes nothing.
 use mathlib.Core.Path.{_≡_, refl, sym, ap, ap₂, _∙_}
-use mathlib.Core.Bool.{Bool, true, false, cond, not, _&&_, _||_}
-use mathlib.Core.List.{List, []}
-use Prim.Native.Nat.{ℕ, _+_, _-_, _*_, _≤_, _<_}
+use mathlib.Core.Bool.{Bool, true, false, cond, not, _&&_}
+use mathlib.Core.List.{List}
+use Prim.Native.Nat.{ℕ, _+_, _-_, _≤_, _<_}
 use native.Mathlib.Omega.{arith}
 use borrow.Author.Tests.{le-ltb, ltb-false, eq-eqb, ne-eqb}
 use lib.Dec.{eqb, ltb}
-use lib.ListN.{length, take, drop}
+use lib.ListN.{length}
 use Rattle.word.specs.Some.{anyBelow}
-use Rattle.word.specs.Reply.{answer, firstOf, replied}
+use Rattle.word.specs.Reply.{answer, firstOf}
 use Rattle.word.proofs.SomeLaws.{any-below-none, any-below-false}
 use Rattle.word.proofs.BoolLaws.{or-false, or-false-left}
 use Rattle.word.proofs.TestLaws.{none-and-rest, first-of-none, first-of-later, replied-answer}
@@ -17,28 +17,27 @@ use Rattle.word.proofs.ReplyLaws.{replied-answered}
 use Rattle.combinations.specs.Combination.{member, rank, onlyEmpty}
 use Rattle.combinations.specs.Reduced.{reducedList}
 use Rattle.combinations.proofs.Theorems.{words-and-rank, only-empty-list}
-use Rattle.numbers.specs.Joined.{joined}
 use Rattle.numbers.proofs.JoinLaws.{joined-length, joined-row}
 use Rattle.rows.specs.Row.{cell, rowBytes, spareSet}
 use Rattle.rows.specs.Lists.{listRow}
-use Rattle.register.specs.Circuit.{Circuit, circuit, chains}
-use Rattle.set_layout.specs.Layout.{widthOf, tapsOf, inversionOf, chainsOf, spreadOf, slicesOf, circuitOf, valueRow, markRow, marks, setLength}
+use Rattle.register.specs.Circuit.{Circuit, chains}
+use Rattle.set_layout.specs.Layout.{widthOf, chainsOf, slicesOf, circuitOf, valueRow, markRow, marks, setLength}
 use Rattle.set_layout.proofs.LayoutLaws.{spread-length}
 use Rattle.set_file.specs.Reading.{setTests}
 use Rattle.set_file.proofs.Laws.{Accepted, accepted, accepted-back, value-row-length, mark-row-length, value-row-clean, mark-row-clean, set-numbered}
 use Rattle.set_content.specs.Content.{SetContent, contentChains, setWriteTests}
 use Rattle.set_content.proofs.ContentLaws.{Writable, writable-back}
-use Rattle.set_writer.specs.Writing.{setBytes, setWriteReply}
+use Rattle.set_writer.specs.Writing.{setWriteReply}
 use Rattle.set_writer.proofs.FileLaws.{set-bytes-length}
 use Rattle.set_writer.proofs.RoundTrip.{Holds, written-holds, written-accepted}
 use Rattle.signatures.specs.Columns.{columnsBelow}
 use Rattle.signatures.specs.Sets.{given, columnsOf}
 use Rattle.signatures.proofs.ColumnLaws.{columns-ext}
 use Rattle.signatures.proofs.SetLaws.{columns-of-within}
-use Rattle.planner.specs.Planning.{wordsOf, earlierTests, planTests, WordParts, wordPartsOf, wordsReply, partsOf, planReply}
+use Rattle.planner.specs.Planning.{wordsOf, earlierTests, planTests, wordPartsOf, wordsReply, partsOf, planReply}
 use Rattle.planner.proofs.NumberLaws.{earlier-past-set, plan-later}
-use Rattle.cutter.specs.Cutting.{wordsLeft, longestEnd, badShare, shortSlice, startsOf, CutParts, cutTests, cutPartsOf, cutReply}
-use Rattle.cutter.proofs.Theorems.{RunOf, each-run}
+use Rattle.cutter.specs.Cutting.{wordsLeft, longestEnd, badShare, shortSlice, RunOf, startsOf, CutParts, cutTests, cutPartsOf, cutReply}
+use Rattle.cutter.proofs.Theorems.{each-run}
 use Rattle.guarantee.specs.Runs.{runContent, runFile, RunPlanned}
 
 module _ (set : List ℕ) (whole : Accepted set) (a b : ℕ) (ordered : a ≤ b) (inside : b ≤ slicesOf set) where

@@ -1,7 +1,7 @@
 -- `pass_slices` meets its contract. The loop's invariant: the runs of the first `t` slices stand at the front of `starts`, the words that
 -- the last of them leaves at the front of `held`, and the chains' words are undone one clock for each of those slices, in eights.
 use mathlib.Core.Path.{_≡_, refl, sym, ap, _∙_}
-use Prim.Native.Nat.{ℕ, _-_, _≤_, min}
+use Prim.Native.Nat.{_-_, _≤_, min}
 use native.Mathlib.Omega.{arith}
 use lib.ListN.{length}
 use Rattle.combinations.proofs.Units.{length-units}
@@ -9,8 +9,8 @@ use Rattle.unclocking.specs.Unclocked.{EightBack}
 use Rattle.slice_columns.specs.Frame.{eights}
 use Rattle.slice_columns.proofs.FrameLaws.{earlierWords}
 use Rattle.cutter.specs.Turns.{Sound, seen}
-use Rattle.cutter.proofs.RunLaws.{CutTo, cut-starts, cut-turns, cut-short}
-use Rattle.cutter.proofs.SliceLaws.{earlier-words-none, next-framed, sliced-short, sliced-all}
+use Rattle.cutter.proofs.RunLaws.{CutTo, cut-starts}
+use Rattle.cutter.proofs.SliceLaws.{earlier-words-none, slice-passed, sliced-all}
 use borrow.Author.Needs.{needs}
 use Rattle.cutter.proofs.pass_slices.Statement.{statement}
 use Rattle.cutter.proofs.pass_slices.Tie as tie
@@ -50,55 +50,82 @@ slice-aggregate-next-columns : tie.Need-slice-aggregate-next-columns Inv-loop μ
 slice-aggregate-next-columns c = sym (c .before .before .before .loop .inv .5)
 
 slice-aggregate-put-slice : tie.Need-slice-aggregate-put-slice Inv-loop μ-loop
-slice-aggregate-put-slice c = sym (c .before .before .before .before .before .before .before .before .loop .inv .6)
+slice-aggregate-put-slice c =
+    let known = c .before .before .before .before .before .before .before .before .loop .inv in
+    sym (known .6)
 
 put-slice-requires : tie.Need-put-slice-requires Inv-loop μ-loop
-put-slice-requires c κs = (c .before .before .before .before .before .before .before .before .before .before .loop .inv .2, omega (arith, c .before .before .before .before .before .before .before .before .before .before .loop .inv .7), c .before .before .before .before .before .before .before .before .before .before .loop .inv .6)
+put-slice-requires c κs =
+    let known = c .before .before .before .before .before .before .before .before .before .before .loop .inv in
+    (known .2, omega (arith, known .7), known .6)
 
 same-length : tie.Need-same-length Inv-loop μ-loop
-same-length c = c .before .before .before .before .before .before .before .before .before .next-columns .kept .1 .1 .1 .1 .1 .0 ∙ c .before .before .before .before .before .before .before .before .before .before .before .before .before .loop .inv .4
+same-length c =
+    let known = c .before .before .before .before .before .before .before .before .before .before .before .before .before .loop .inv in
+    let listed = c .before .before .before .before .before .before .before .before .before .next-columns in
+    listed .kept .1 .1 .1 .1 .1 .0 ∙ known .4
 
 same-length-2 : tie.Need-same-length-2 Inv-loop μ-loop
-same-length-2 c = c .before .before .before .before .before .before .before .before .before .before .before .before .before .loop .inv .3 ∙ sym (c .before .before .before .before .before .before .before .before .before .before .before .before .before .before .before .before .before .before .before .before .pre .2)
+same-length-2 c =
+    let turn = c .before .before .before .before .before .before .before .before .before .before .before .before .before in
+    let start = turn .before .before .before .before .before .before .before in
+    turn .loop .inv .3 ∙ sym (start .pre .2)
 
 returns : tie.Need-returns Inv-loop μ-loop
 returns c =
-    let at = c .before .before .before .before .before .before .before .before .before .before .before .before .before .loop in
+    let turn = c .before .before .before .before .before .before .before .before .before .before .before .before .before in
+    let start = turn .before .before .before .before .before .before .before in
+    let known = turn .loop .inv in
+    let inside = c .before .before .before .before .before .before .before .before .before .before .before .before .loop-test .taken in
+    let listed = c .before .before .before .before .before .before .before .before .before .next-columns in
     let put = c .before .before .put-slice in
-    let next = c .before .before .before .before .before .before .before .before .before .next-columns in
-    λ sound right some.
-    sliced-short _ _ _
-    (cut-short _ sound _ some (at .t) (at .runs) (at .left) _ (at .held) (at .starts) _ _ _ (c .before .before .before .before .before .before .before .before .before .before .before .before .loop-test .taken) (omega (arith, at .inv .0, at .inv .1, at .inv .3, c .before .before .before .before .before .before .before .before .before .before .before .before .before .before .before .before .before .before .before .before .pre .0, c .before .before .before .before .before .before .before .before .before .before .before .before .loop-test .taken)) (next-framed _ _ _ _ _ (c .before .before .before .before .before .before .before .before .before .before .before .before .before .before .before .before .before .before .before .before .args .slices) 256 (c .before .before .before .before .before .before .before .before .before .before .before .before .before .before .before .before .before .before .before .before .args .words .now) (at .words) _ (at .columns) _ _ (next .ensures) right (omega (arith, at .inv .4, at .inv .5, c .before .before .before .before .before .before .before .before .before .before .before .before .before .before .before .before .before .before .before .before .pre .1)) (sym (next .kept .1 .1 .1 .1 .1 .1 .0 ∙ at .inv .5)) (at .inv .8 right) .0) (at .inv .7) (put .ensures .1 .1) (c .if1 .taken))
+    let passed =
+    slice-passed _ _ _ _ _ _ _ (turn .loop .runs) (turn .loop .left) _ _ (start .args .words .now) (turn .loop .words) _ (turn .loop .columns) _ (turn .loop .held) _ (turn .loop .starts) _ (listed .ensures)
+    (put .ensures .1 .1) (known .8) inside (omega (arith, inside, known .1, known .3, start .pre .0)) (omega (arith, known .4, known .5, start .pre .1))
+    (listed .kept .1 .1 .1 .1 .1 .1 .0 ∙ known .5) (known .7)
+    in
+    λ sound right some. passed .short sound right some (c .if1 .taken)
 
 loop-again : tie.Need-loop-again Inv-loop μ-loop
 loop-again c =
-    let at = c .before .before .before .before .before .before .before .before .before .before .before .before .before .before .loop in
+    let turn = c .before .before .before .before .before .before .before .before .before .before .before .before .before .before in
+    let start = turn .before .before .before .before .before .before .before in
+    let known = turn .loop .inv in
+    let inside = c .before .before .before .before .before .before .before .before .before .before .before .before .before .loop-test .taken in
+    let listed = c .before .before .before .before .before .before .before .before .before .before .next-columns in
     let put = c .before .before .before .put-slice in
-    let next = c .before .before .before .before .before .before .before .before .before .before .next-columns in (
-      omega (arith, c .before .before .before .before .before .before .before .before .before .before .before .before .before .loop-test .taken),
-      omega (arith, at .inv .1, put .ensures .1 .0),
+    let passed =
+    slice-passed _ _ _ _ _ _ _ (turn .loop .runs) (turn .loop .left) _ _ (start .args .words .now) (turn .loop .words) _ (turn .loop .columns) _ (turn .loop .held) _ (turn .loop .starts) _ (listed .ensures)
+    (put .ensures .1 .1) (known .8) inside (omega (arith, inside, known .1, known .3, start .pre .0)) (omega (arith, known .4, known .5, start .pre .1))
+    (listed .kept .1 .1 .1 .1 .1 .1 .0 ∙ known .5) (known .7)
+    in (
+      omega (arith, inside),
+      omega (arith, known .1, put .ensures .1 .0),
       put .ensures .0,
       search needs,
-      next .kept .1 .1 .1 .1 .1 .0 ∙ at .inv .4,
-      next .kept .1 .1 .1 .1 .1 .1 .0 ∙ at .inv .5,
-      put .kept .0 ∙ at .inv .6,
-      at .inv .7,
-      (λ right. next-framed _ _ _ _ _ (c .before .before .before .before .before .before .before .before .before .before .before .before .before .before .before .before .before .before .before .before .before .args .slices) 256 (c .before .before .before .before .before .before .before .before .before .before .before .before .before .before .before .before .before .before .before .before .before .args .words .now) (at .words) _ (at .columns) _ _ (next .ensures) right (omega (arith, at .inv .4, at .inv .5, c .before .before .before .before .before .before .before .before .before .before .before .before .before .before .before .before .before .before .before .before .before .pre .1)) (sym (next .kept .1 .1 .1 .1 .1 .1 .0 ∙ at .inv .5)) (at .inv .8 right) .1),
-      (λ sound right some.
-          cut-turns _ sound _ some (at .t) (at .runs) (at .left) _ (at .held) (at .starts) _ _ _ (c .before .before .before .before .before .before .before .before .before .before .before .before .before .loop-test .taken) (omega (arith, at .inv .0, at .inv .1, at .inv .3, c .before .before .before .before .before .before .before .before .before .before .before .before .before .before .before .before .before .before .before .before .before .pre .0, c .before .before .before .before .before .before .before .before .before .before .before .before .before .loop-test .taken)) (next-framed _ _ _ _ _ (c .before .before .before .before .before .before .before .before .before .before .before .before .before .before .before .before .before .before .before .before .before .args .slices) 256 (c .before .before .before .before .before .before .before .before .before .before .before .before .before .before .before .before .before .before .before .before .before .args .words .now) (at .words) _ (at .columns) _ _ (next .ensures) right (omega (arith, at .inv .4, at .inv .5, c .before .before .before .before .before .before .before .before .before .before .before .before .before .before .before .before .before .before .before .before .before .pre .1)) (sym (next .kept .1 .1 .1 .1 .1 .1 .0 ∙ at .inv .5)) (at .inv .8 right) .0) (at .inv .7) (put .ensures .1 .1) (at .inv .9 sound right some) (search needs)),
+      listed .kept .1 .1 .1 .1 .1 .0 ∙ known .4,
+      listed .kept .1 .1 .1 .1 .1 .1 .0 ∙ known .5,
+      put .kept .0 ∙ known .6,
+      known .7,
+      (λ right. passed .words right),
+      (λ sound right some. passed .next sound right some (known .9 sound right some) (search needs)),
     )
 
 same-length-3 : tie.Need-same-length-3 Inv-loop μ-loop
 same-length-3 c = c .before .loop .inv .4
 
 same-length-4 : tie.Need-same-length-4 Inv-loop μ-loop
-same-length-4 c = c .before .loop .inv .3 ∙ sym (c .before .before .before .before .before .before .before .before .pre .2)
+same-length-4 c =
+    let start = c .before .before .before .before .before .before .before .before in
+    c .before .loop .inv .3 ∙ sym (start .pre .2)
 
 returns-2 : tie.Need-returns-2 Inv-loop μ-loop
 returns-2 c =
-    let at = c .before .loop in
+    let turn = c .before .loop in
+    let start = c .before .before .before .before .before .before .before .before in
     λ sound right some.
-    sliced-all _ sound _ _ _ (at .left) (at .held) _ some (omega (arith, at .inv .0)) (omega (arith, at .inv .0, at .inv .1, c .before .before .before .before .before .before .before .before .pre .0)) (at .inv .3) (at .inv .9 sound right some)
+    sliced-all _ sound _ _ _ (turn .left) (turn .held) _ some (omega (arith, turn .inv .0)) (omega (arith, turn .inv .0, turn .inv .1, start .pre .0)) (turn .inv .3)
+    (turn .inv .9 sound right some)
 
 pub pass-slices-spec : {M : Type 1} → statement M
 pass-slices-spec =

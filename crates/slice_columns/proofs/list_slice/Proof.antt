@@ -1,5 +1,5 @@
 -- `list_slice` meets its contract: the words of the marked cells are listed, and unclocked for the slices since the last eight.
-use mathlib.Core.Path.{_≡_, refl, sym, ap, _∙_}
+use mathlib.Core.Path.{refl, _∙_}
 use Prim.Native.Nat.{_-_, _≤_, min}
 use native.Mathlib.Omega.{arith}
 use lib.ListN.{length, take, drop}

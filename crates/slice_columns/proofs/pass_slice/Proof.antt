@@ -8,7 +8,8 @@ use Rattle.slice_columns.proofs.pass_slice.Tie as tie
 returns : tie.Need-returns
 returns c =
     let looked = c .before .before .unclock-eight .ensures in
-    (looked .0 ∙ looked-up (c .before .before .before .before .before .before .args .t) _ _ (search needs), (λ k spread right e. passed-eight k _ spread _ _ (search needs) e (looked .1 k right)))
+    let entry = c .before .before .before .before .before .before .args in
+    (looked .0 ∙ looked-up (entry .t) _ _ (search needs), (λ k spread right e. passed-eight k _ spread _ _ (search needs) e (looked .1 k right)))
 
 returns-2 : tie.Need-returns-2
 returns-2 c = (left-alone (c .before .before .args .t) _ _ (search needs), (λ k spread right e. passed-between k _ spread _ (search needs) e))
