@@ -3,11 +3,9 @@
 // have the rank that they had, so each slice's columns may stand in one frame, whatever run it falls in; and only the slice that doesn't
 // fit into a run is put to the words twice.
 ghost use mathlib.Core.Path.{_≡_};
-ghost use Prim.Native.Nat.{_*_, _≤_};
+ghost use Prim.Native.Nat.{_≤_};
 ghost use lib.ListN.{length, take};
 ghost use Rattle.word.specs.Reply.{numberOf};
-ghost use Rattle.rows.specs.Row.{rowBytes};
-ghost use Rattle.set_layout.specs.Layout.{markAt};
 ghost use Rattle.set_file.specs.Reading.{TakenFrom};
 ghost use Rattle.signatures.specs.Sets.{given};
 ghost use Rattle.unclocking.specs.Unclocked.{EightBack};
@@ -41,13 +39,6 @@ fn is_bad_share(m: u64, k: u64) -> bool
     ensures { λ r. ⌜ r ≡ badShare m k ⌝ }
 {
     (k < 1) | (m < k)
-}
-
-// Where the marks of the unknown cells stand, in a set of n chains.
-fn unknown_rows(n: u16) -> Rows
-    ensures { λ r. ⌜ (r .at ≡ markAt n 0) × (r .stride ≡ 2 * rowBytes n) × (r .bytes ≡ rowBytes n) ⌝ }
-{
-    set_layout::mark_rows(n)
 }
 
 fn no_columns() -> [u64; 256]
@@ -137,7 +128,7 @@ fn cut_slices(taken: Taken, set: &[u8], k: usize, starts: &mut [u64]) -> Slices
     let register = taken.register;
     let chains = register::chain_limit(taken.n);
     let slices = register::slice_limit(taken.s);
-    let marks = unknown_rows(taken.n);
+    let marks = set_layout::mark_rows(taken.n);
     let spread = taken.spread;
     let mut words = chains::all_words(spread);
     let table = unclocking::eight_back(register);

@@ -35,7 +35,7 @@ returns : tie.Need-returns
 returns c =
     let table = c .before .before .before .before .before .before .before .eight-back in
     let words = c .before .before .before .before .before .before .before .before .all-words .ensures in
-    let rows = c .before .before .before .before .before .before .before .before .before .before .unknown-rows .ensures in
+    let rows = c .before .before .before .before .before .before .before .before .before .before .mark-rows .ensures in
     let slices = c .before .before .before .before .before .before .before .before .before .before .before .slice-limit .ensures in
     let chains = c .before .before .before .before .before .before .before .before .before .before .before .before .chain-limit .ensures in
     λ taken some.
