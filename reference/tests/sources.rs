@@ -152,6 +152,42 @@ fn document_000_section_2_the_share_of_signatures_that_pass() {
     assert_eq!(passing, 16);
 }
 
+/// Table I, the error coverage with q combinations: what a run that leaves q words fails is this share of all signatures. And section
+/// III-A before it, with one unknown cell in each slice: "The MISR can tolerate up to m − q Xs", so that "the signature needs to be
+/// processed at every (m − q)/(n ∗ x) cycles", which is where the runs begin.
+#[test]
+fn document_000_table_1() {
+    let printed = [
+        "50", "75", "87.5", "93.75", "96.88", "98.44", "99.2", "99.6", "99.8", "99.9",
+    ];
+    let m = 12;
+    for (q, printed) in (1..).zip(printed) {
+        let mut both = Both::at(&format!("000, Table I, q {q}"));
+        let filled = m - q;
+        let every_cell_unknown = |s: u64| {
+            file_of(&Content {
+                m,
+                taps: 0b1010011,
+                inversion: 0,
+                spread: vec![1],
+                values: vec![0; s as usize],
+                marks: vec![1; s as usize],
+                s,
+            })
+        };
+        let cutting = both.cut(&every_cell_unknown(5 * filled), q, 5).unwrap();
+        let processed: Vec<u64> = (0..5).map(|run| run * filled).collect();
+        assert_eq!((cutting.cuts, cutting.bits), (processed, 5 * m * q));
+        let (p, plan) = planned(&mut both, &every_cell_unknown(filled));
+        assert_eq!(p.words.len() as u64, q);
+        let fails = |y: &u64| both.judge(&plan, *y).unwrap().fails_at.is_some();
+        let failed = (0..1 << m).filter(fails).count();
+        let coverage = 100.0 * failed as f64 / f64::from(1 << m);
+        let decimals = printed.split_once('.').map_or(0, |(_, part)| part.len());
+        assert_eq!(format!("{coverage:.decimals$}"), printed, "q {q}");
+    }
+}
+
 // One slice of 18 chains, a chain to a cell; X1 to X4 stand in cells 1, 4, 7 and 18. The text prints
 //   M1 = X1 + O3 + O8 + O13,  M6 = O2 + X3 + X4,  M1 + M3 + M5 = O3 + O5 + O8 + O10 + O12 + O13 + O15 + O17
 const IN_M1: [usize; 3] = [3, 8, 13];
