@@ -41,12 +41,6 @@ fn is_bad_share(m: u64, k: u64) -> bool
     (k < 1) | (m < k)
 }
 
-fn no_columns() -> [u64; 256]
-    ensures { λ r. ⌜ length r ≡ 256 ⌝ }
-{
-    [0u64; 256]
-}
-
 fn no_starts() -> [u64; 512]
     ensures { λ r. ⌜ length r ≡ 512 ⌝ }
 {
@@ -93,7 +87,7 @@ fn pass_slices(
     ensures { λ r. ⌜ (Sound (seen register (now (words .entry)) slices (now (list .entry)) marks .wiring) → EightBack (seen register (now (words .entry)) slices (now (list .entry)) marks .wiring) (now (table .entry)) → 1 ≤ k → SlicedFor (seen register (now (words .entry)) slices (now (list .entry)) marks) k (now (starts .exit)) r) ⌝ }
 {
     let width = register::width_limit(register.m) as usize;
-    let mut columns = no_columns();
+    let mut columns = set_layout::no_words();
     let mut held = elimination::unit_words();
     let mut left: usize = 0;
     let mut runs: usize = 0;

@@ -5,6 +5,7 @@ use Prim.Native.Nat.{_-_, _≤_, min}
 use native.Mathlib.Omega.{arith}
 use lib.ListN.{length}
 use Rattle.combinations.proofs.Units.{length-units}
+use Rattle.set_layout.proofs.LayoutLaws.{no-words-length}
 use Rattle.unclocking.specs.Unclocked.{EightBack}
 use Rattle.slice_columns.specs.Frame.{eights}
 use Rattle.slice_columns.proofs.FrameLaws.{earlierWords}
@@ -39,7 +40,7 @@ loop-holds c = (
   search needs,
   c .before .before .before .before .before .before .pre .2,
   refl,
-  c .before .no-columns .ensures,
+  ap length (c .before .no-words .ensures) ∙ no-words-length,
   ap length (c .unit-words .ensures) ∙ length-units 64,
   c .before .before .width-limit .ensures,
   (λ right. earlier-words-none _ _),
