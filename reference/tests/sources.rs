@@ -153,7 +153,7 @@ fn document_000_section_2_the_share_of_signatures_that_pass() {
 }
 
 /// Table I, the error coverage with q combinations: what a run that leaves q words fails is this share of all signatures. And section
-/// III-A before it, with one unknown cell in each slice: "The MISR can tolerate up to m − q Xs", so that "the signature needs to be
+/// III-B before it, with one unknown cell in each slice: "The MISR can tolerate up to m − q Xs", so that "the signature needs to be
 /// processed at every (m − q)/(n ∗ x) cycles", which is where the runs begin.
 #[test]
 fn document_000_table_1() {

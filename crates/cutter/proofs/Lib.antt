@@ -1,3 +1,4 @@
+pub mod GreatestLaws
 pub mod FrameLaws
 pub mod RunLaws
 pub mod TurnLaws

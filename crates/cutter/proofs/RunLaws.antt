@@ -8,10 +8,8 @@
 -- Assumes nothing.
 use mathlib.Core.Path.{_≡_, refl, sym, ap, ap₂, _∙_, subst}
 use mathlib.Core.Bool.{Bool, true, false, cond}
-use mathlib.Core.Logic.{⊎-elim}
 use mathlib.Core.List.{List, [], _∷_, _++_, append-assoc}
 use Prim.Native.Nat.{ℕ, zero, suc, _+_, _-_, _≤_, _<_}
-use native.Mathlib.Nat.{eq-or-lt-of-le, le-of-suc-le-suc}
 use native.Mathlib.Numerals.{add-one}
 use native.Mathlib.Omega.{arith}
 use borrow.Author.Tests.{le-leb, lt-leb, le-ltb, lt-ltb}
@@ -27,29 +25,11 @@ use Rattle.combinations.proofs.StepLaws.{steps-none}
 use Rattle.combinations.proofs.Theorems.{portion-after}
 use Rattle.combinations.proofs.Portions.{without-columns}
 use Rattle.signatures.specs.Given.{Given}
-use Rattle.cutter.specs.Greatest.{greatest}
 use Rattle.cutter.specs.Cutting.{wordsLeft, leaves, longestEnd, startsFrom, startsFor, shortSlice}
 use Rattle.cutter.specs.Turns.{Sound, Turned, joined, opened}
 use Rattle.cutter.specs.declared.Turn.{Turn}
+use Rattle.cutter.proofs.GreatestLaws.{greatest-at}
 use Rattle.cutter.proofs.FrameLaws.{framed, frames, frames-none, frames-suc, left-framed, longer-fewer, slice-most}
-
--- ---- the greatest number
-
-pub greatest-at : (n e : ℕ) (f : ℕ → Bool) → e ≤ n → f e ≡ true → ((i : ℕ) → e < i → i ≤ n → f i ≡ false) → greatest n f ≡ e
-unfolding greatest
-greatest-at zero e f h holds none = omega arith
-greatest-at (suc n) e f h holds none =
-    ⊎-elim (λ (q : e ≡ suc n). ap (λ (b : Bool). cond b (suc n) (greatest n f)) (sym (ap f q) ∙ holds) ∙ sym q)
-    (λ (l : e < suc n).
-    ap (λ (b : Bool). cond b (suc n) (greatest n f)) (none (suc n) l (omega arith))
-    ∙ greatest-at n e f (le-of-suc-le-suc l) holds (λ i a b. none i a (omega arith)))
-    (eq-or-lt-of-le h)
-
-pub greatest-ext : (n : ℕ) (f h : ℕ → Bool) → ((i : ℕ) → i ≤ n → f i ≡ h i) → greatest n f ≡ greatest n h
-unfolding greatest
-greatest-ext zero f h e = refl
-greatest-ext (suc n) f h e =
-    ap₂ (λ (b : Bool) (x : ℕ). cond b (suc n) x) (e (suc n) (omega arith)) (greatest-ext n f h (λ i l. e i (omega arith)))
 
 -- ---- the longest run
 

@@ -25,7 +25,7 @@ use Rattle.signatures.proofs.ColumnLaws.{columns-ext}
 use Rattle.cutter.specs.Greatest.{greatest}
 use Rattle.cutter.specs.Cutting.{wordsLeft, leaves, longestEnd, startsFrom, startsFor, shortSlice}
 use Rattle.cutter.specs.Turns.{Sound}
-use Rattle.cutter.proofs.RunLaws.{greatest-ext}
+use Rattle.cutter.proofs.GreatestLaws.{greatest-ext}
 
 module _ (g h : Given) (r : RevisedFrom g h) where
   pub same-left : (a b : ℕ) → b ≤ g .slices → wordsLeft g a b ≡ wordsLeft h a b

@@ -6,6 +6,7 @@
 --   same-cuts-after   .. and the cut list
 --   each-run          each run that is listed has at least one slice and leaves at least k words, and none that begins there and ends later
 --                     does ("Every run is the longest that does so from its start")
+--   cut-run           .. so where the call answers, this holds of each slice that it lists
 --   longest-first     the greatest end that still leaves k words is the last before the first that doesn't, since the clock loses no state
 -- Assumes nothing.
 use mathlib.Core.Path.{_≡_, refl, sym, ap, ap₂, _∙_}
@@ -13,16 +14,15 @@ use mathlib.Core.Bool.{Bool, true, false, cond}
 use mathlib.Core.Logic.{⊎-elim}
 use mathlib.Core.List.{List}
 use Prim.Native.Nat.{ℕ, zero, suc, _*_, _≤_, _<_}
-use native.Mathlib.Nat.{eq-or-lt-of-le, le-of-suc-le-suc}
 use native.Mathlib.Omega.{arith}
 use borrow.Author.Tests.{le-leb, leb-true, leb-false, ltb-true, ltb-false, eqb-true}
 use lib.Dec.{eqb, leb, ltb}
 use lib.ListN.{length}
 use Rattle.word.specs.Some.{anyOf}
-use Rattle.word.specs.Reply.{Reply, replied, firstOf, lent}
+use Rattle.word.specs.Reply.{Reply, answer, replied, firstOf, lent}
 use Rattle.word.proofs.SomeLaws.{any-below-false}
 use Rattle.word.proofs.BoolLaws.{or-cases, true-not-false}
-use Rattle.word.proofs.TestLaws.{first-of-later}
+use Rattle.word.proofs.TestLaws.{none-and-rest, first-of-none, first-of-later, replied-answer}
 use Rattle.combinations.specs.Combination.{member}
 use Rattle.register.specs.Circuit.{Circuit}
 use Rattle.set_layout.specs.Layout.{widthOf}
@@ -30,9 +30,9 @@ use Rattle.set_file.specs.Reading.{setTests}
 use Rattle.set_file.proofs.Laws.{set-numbered}
 use Rattle.signatures.specs.Given.{Given}
 use Rattle.signatures.specs.Sets.{given, Revised}
-use Rattle.cutter.specs.Greatest.{greatest}
-use Rattle.cutter.specs.Cutting.{badShare, wordsLeft, leaves, longestEnd, startsFrom, startsFor, shortSlice, RunOf, startsOf, CutParts, cutTests, cutReply, cutsAfter}
+use Rattle.cutter.specs.Cutting.{badShare, wordsLeft, leaves, longestEnd, startsFrom, startsFor, shortSlice, RunOf, startsOf, CutParts, cutPartsOf, cutTests, cutReply, cutsAfter}
 use Rattle.cutter.specs.Turns.{Sound}
+use Rattle.cutter.proofs.GreatestLaws.{GreatestOf, greatest-of}
 use Rattle.cutter.proofs.RunLaws.{longest-at}
 use Rattle.cutter.proofs.SameLaws.{same-starts, same-short}
 
@@ -66,50 +66,11 @@ module _ (old new : List ℕ) (r : Revised old new) where
 
 -- ---- each run
 
--- the greatest number at which a test holds that holds somewhere
-record Greatest (n e : ℕ) (f : ℕ → Bool) : Type 0 where
-  pub holds : f (greatest n f) ≡ true
-  pub least : e ≤ greatest n f
-  pub most : greatest n f ≤ n
-  pub last : (i : ℕ) → greatest n f < i → i ≤ n → f i ≡ false
-
--- .. where it holds at the end of the range, and where it doesn't
-greatest-top : (n e : ℕ) (f : ℕ → Bool) → e ≤ suc n → f (suc n) ≡ true → Greatest (suc n) e f
-unfolding greatest
-greatest-top n e f h q =
-    let top : greatest (suc n) f ≡ suc n = ap (λ (b : Bool). cond b (suc n) (greatest n f)) q in
-    record { holds = ap f top ∙ q; least = omega arith; most = omega arith; last = λ i a b. let no : ⊥ = omega arith in absurd no }
-
-greatest-below : (n e : ℕ) (f : ℕ → Bool) → f (suc n) ≡ false → Greatest n e f → Greatest (suc n) e f
-unfolding greatest
-greatest-below n e f q rest =
-    let below : greatest (suc n) f ≡ greatest n f = ap (λ (b : Bool). cond b (suc n) (greatest n f)) q in
-    record {
-      holds = ap f below ∙ rest .holds;
-      least = omega (arith, rest .least);
-      most = omega (arith, rest .most);
-      last = λ i a b.
-          ⊎-elim (λ (p : i ≡ suc n). ap f p ∙ q) (λ (l : i < suc n). rest .last i (omega arith) (le-of-suc-le-suc l)) (eq-or-lt-of-le b);
-    }
-
-greatest-of : (n e : ℕ) (f : ℕ → Bool) → e ≤ n → f e ≡ true → Greatest n e f
-unfolding greatest
-greatest-of zero e f h t =
-    let z : e ≡ 0 = omega arith in
-    record { holds = sym (ap f z) ∙ t; least = h; most = omega arith; last = λ i a b. let no : ⊥ = omega arith in absurd no }
-greatest-of (suc n) e f h t = go (λ l. greatest-of n e f l t) (f (suc n)) refl
-  where
-    go : (e ≤ n → Greatest n e f) → (b : Bool) → f (suc n) ≡ b → Greatest (suc n) e f
-    go rest true q = greatest-top n e f h q
-    go rest false q =
-        greatest-below n e f q
-        (rest (⊎-elim (λ (p : e ≡ suc n). absurd (true-not-false (f e) t (ap f p ∙ q))) (λ (l : e < suc n). le-of-suc-le-suc l) (eq-or-lt-of-le h)))
-
 run-of : (g : Given) (k a : ℕ) → shortSlice g k ≡ false → a < g .slices → RunOf g k a
 unfolding longestEnd leaves shortSlice
 run-of g k a long h =
     let slice : k ≤ wordsLeft g a (suc a) = ltb-false (wordsLeft g a (suc a)) k (any-below-false (g .slices) _ long a h) in
-    let end : Greatest (g .slices) (suc a) (λ b. leb k (wordsLeft g a b)) = greatest-of (g .slices) (suc a) (λ b. leb k (wordsLeft g a b)) h (le-leb k (wordsLeft g a (suc a)) slice) in
+    let end : GreatestOf (g .slices) (suc a) (λ b. leb k (wordsLeft g a b)) = greatest-of (g .slices) (suc a) (λ b. leb k (wordsLeft g a b)) h (le-leb k (wordsLeft g a (suc a)) slice) in
     record {
       inside = h;
       some = end .least;
@@ -133,6 +94,23 @@ started g k (suc j) a x h = go (started g k j (longestEnd g k a) x) (ltb a (g .s
 pub each-run : (g : Given) (k a : ℕ) → shortSlice g k ≡ false → member a (startsFor g k) ≡ true → RunOf g k a
 unfolding startsFor
 each-run g k a long h = run-of g k a long (started g k (g .slices) 0 a h)
+
+-- an answer says that none of the numbers applies
+pub cut-none : (set : List ℕ) (k room : ℕ) → firstOf (cutTests set k room) ≡ 0
+    → (firstOf (setTests set) ≡ 0) × ((badShare (widthOf set) k ≡ false) × (shortSlice (given set) k ≡ false))
+unfolding cutTests
+cut-none set k room h =
+    let taken : firstOf (setTests set) ≡ 0 = first-of-none (setTests set) _ h in
+    let rest = sym (first-of-later (setTests set) _ (set-numbered set) taken) ∙ h in
+    let p26 = none-and-rest (badShare (widthOf set) k) 25 _ rest in
+    let p27 = none-and-rest (shortSlice (given set) k) 26 _ (p26 .1) in
+    (taken, (p26 .0, p27 .0))
+
+pub cut-run : (set : List ℕ) (k room a : ℕ) (p : CutParts) → cutReply set k room ≡ answer p → member a (startsOf set k) ≡ true → RunOf (given set) k a
+unfolding cutReply startsOf
+cut-run set k room a p h listed =
+    let none = cut-none set k room (replied-answer (firstOf (cutTests set k room)) (cutPartsOf set k) p h .0) in
+    each-run (given set) k a (none .1 .1) listed
 
 -- ---- the greatest end, and the first failure
 

@@ -12,7 +12,7 @@ use Rattle.word.specs.Some.{anyBelow}
 use Rattle.word.specs.Reply.{answer, firstOf}
 use Rattle.word.proofs.SomeLaws.{any-below-none, any-below-false}
 use Rattle.word.proofs.BoolLaws.{or-false, or-false-left}
-use Rattle.word.proofs.TestLaws.{none-and-rest, first-of-none, first-of-later, replied-answer}
+use Rattle.word.proofs.TestLaws.{replied-answer}
 use Rattle.word.proofs.ReplyLaws.{replied-answered}
 use Rattle.combinations.specs.Combination.{member, rank, onlyEmpty}
 use Rattle.combinations.specs.Reduced.{reducedList}
@@ -23,8 +23,7 @@ use Rattle.rows.specs.Lists.{listRow}
 use Rattle.register.specs.Circuit.{Circuit, chains}
 use Rattle.set_layout.specs.Layout.{widthOf, chainsOf, slicesOf, circuitOf, valueRow, markRow, marks, setLength}
 use Rattle.set_layout.proofs.LayoutLaws.{spread-length}
-use Rattle.set_file.specs.Reading.{setTests}
-use Rattle.set_file.proofs.Laws.{Accepted, accepted, accepted-back, value-row-length, mark-row-length, value-row-clean, mark-row-clean, set-numbered}
+use Rattle.set_file.proofs.Laws.{Accepted, accepted, accepted-back, value-row-length, mark-row-length, value-row-clean, mark-row-clean}
 use Rattle.set_content.specs.Content.{SetContent, contentChains, setWriteTests}
 use Rattle.set_content.proofs.ContentLaws.{Writable, writable-back}
 use Rattle.set_writer.specs.Writing.{setWriteReply}
@@ -36,8 +35,8 @@ use Rattle.signatures.proofs.ColumnLaws.{columns-ext}
 use Rattle.signatures.proofs.SetLaws.{columns-of-within}
 use Rattle.planner.specs.Planning.{wordsOf, earlierTests, planTests, wordPartsOf, wordsReply, partsOf, planReply}
 use Rattle.planner.proofs.NumberLaws.{earlier-past-set, plan-later}
-use Rattle.cutter.specs.Cutting.{wordsLeft, longestEnd, badShare, shortSlice, RunOf, startsOf, CutParts, cutTests, cutPartsOf, cutReply}
-use Rattle.cutter.proofs.Theorems.{each-run}
+use Rattle.cutter.specs.Cutting.{wordsLeft, longestEnd, badShare, RunOf, startsOf, CutParts, cutTests, cutPartsOf, cutReply}
+use Rattle.cutter.proofs.Theorems.{cut-none, cut-run}
 use Rattle.guarantee.specs.Runs.{runContent, runFile, RunPlanned}
 
 module _ (set : List ℕ) (whole : Accepted set) (a b : ℕ) (ordered : a ≤ b) (inside : b ≤ slicesOf set) where
@@ -159,23 +158,13 @@ module _ (set : List ℕ) (whole : Accepted set) (a b : ℕ) (ordered : a ≤ b)
 
 -- ---- a cut set
 
-cut-none : (set : List ℕ) (k room : ℕ) → firstOf (cutTests set k room) ≡ 0
-    → (firstOf (setTests set) ≡ 0) × ((badShare (widthOf set) k ≡ false) × (shortSlice (given set) k ≡ false))
-unfolding cutTests
-cut-none set k room h =
-    let taken : firstOf (setTests set) ≡ 0 = first-of-none (setTests set) _ h in
-    let rest = sym (first-of-later (setTests set) _ (set-numbered set) taken) ∙ h in
-    let p26 = none-and-rest (badShare (widthOf set) k) 25 _ rest in
-    let p27 = none-and-rest (shortSlice (given set) k) 26 _ (p26 .1) in
-    (taken, (p26 .0, p27 .0))
-
 pub each-run-planned : (set : List ℕ) (k room : ℕ) (p : CutParts) → cutReply set k room ≡ answer p → (a : ℕ) → member a (startsOf set k) ≡ true
     → RunPlanned set k a (longestEnd (given set) k a)
 unfolding cutReply startsOf badShare
 each-run-planned set k room p h a listed =
     let none = cut-none set k room (replied-answer (firstOf (cutTests set k room)) (cutPartsOf set k) p h .0) in
     let whole : Accepted set = accepted set (none .0) in
-    let run : RunOf (given set) k a = each-run (given set) k a (none .1 .1) listed in
+    let run : RunOf (given set) k a = cut-run set k room a p h listed in
     let least : 1 ≤ k = ltb-false k 1 (or-false-left (ltb k 1) (ltb (widthOf set) k) (none .1 .0)) in
     let ordered : a ≤ longestEnd (given set) k a = omega (arith, run .some) in
     let some : 1 ≤ wordsLeft (given set) a (longestEnd (given set) k a) = omega (arith, run .enough) in
