@@ -89,54 +89,132 @@ fn spreads(m: u64, n: u32) -> Vec<Vec<u64>> {
     (0..words.pow(n)).map(|i| list(i).collect()).collect()
 }
 
-/// Cutting by both for every k from 0 to m + 1; how many answers have more runs than one.
-fn every_k(both: &mut Both, content: &Content) -> usize {
-    let set = file_of(content);
-    let cuttings = (0..=content.m + 1).filter_map(|k| both.cut(&set, k, 4).ok());
-    cuttings.filter(|cutting| cutting.cuts.len() > 1).count()
-}
-
-/// By the definition: every tap word, every list of spread words and all marks of up to four slices of one or two chains (three slices
-/// of two chains at m 3).
-#[test]
-fn small_sets() {
-    let mut both = Both::new();
-    let mut several = 0;
-    for (m, n, longest) in [
+/// Every tap word, every list of spread words and all marks of up to four slices of one or two chains (three slices of two chains at m 3).
+fn small_contents() -> impl Iterator<Item = Content> {
+    let sizes = [
         (1, 1, 4),
         (1, 2, 4),
         (2, 1, 4),
         (2, 2, 4),
         (3, 1, 4),
         (3, 2, 3),
-    ] {
-        for (taps, spread) in spreads(m, n)
+    ];
+    let wired = sizes.into_iter().flat_map(|(m, n, longest)| {
+        let wirings = spreads(m, n)
             .into_iter()
-            .flat_map(|spread| (0..1 << (m - 1)).map(move |t| (2 * t + 1, spread.clone())))
-        {
-            for s in 0..=longest {
-                for marks in 0..1u64 << (n * s) {
-                    let row = |t: u32| (marks >> (n * t) & ((1 << n) - 1)) as u8;
-                    let content = Content {
-                        m,
-                        taps,
-                        inversion: 0,
-                        spread: spread.clone(),
-                        values: vec![0; s as usize],
-                        marks: (0..s).map(row).collect(),
-                        s: s.into(),
-                    };
-                    both.at = format!("{content:?}");
-                    several += every_k(&mut both, &content);
-                }
-            }
-        }
+            .flat_map(move |spread| (0..1 << (m - 1)).map(move |t| (2 * t + 1, spread.clone())));
+        wirings.map(move |(taps, spread)| (m, n, longest, taps, spread))
+    });
+    wired.flat_map(|(m, n, longest, taps, spread)| {
+        let sized = (0..=longest).flat_map(move |s| (0..1u64 << (n * s)).map(move |marks| (s, marks)));
+        sized.map(move |(s, marks)| Content {
+            m,
+            taps,
+            inversion: 0,
+            spread: spread.clone(),
+            values: vec![0; s as usize],
+            marks: (0..s)
+                .map(|t| (marks >> (n * t) & ((1 << n) - 1)) as u8)
+                .collect(),
+            s: s.into(),
+        })
+    })
+}
+
+/// By the definition: all small contents, for every k from 0 to m + 1.
+#[test]
+fn small_sets() {
+    let mut both = Both::new();
+    let mut several = 0;
+    for content in small_contents() {
+        both.at = format!("{content:?}");
+        let set = file_of(&content);
+        let cuttings = (0..=content.m + 1).filter_map(|k| both.cut(&set, k, 4).ok());
+        several += cuttings.filter(|cutting| cutting.cuts.len() > 1).count();
     }
     let numbers = [0, 26, 27].map(|number| both.seen("cut", number));
     assert!(
         several > 6_000 && numbers.iter().all(|&seen| seen > 20_000),
         "{several} answers of several runs; answers, 26 and 27: {numbers:?}"
     );
+}
+
+/// All divisions of `s` slices into consecutive runs that have a slice at least, by the first slice of each: slice 0 begins one, and each
+/// other does or doesn't. Without slices there is one division, without runs.
+fn divisions(s: usize) -> impl Iterator<Item = Vec<u64>> {
+    let begun = (0..1u64 << s).filter(move |begun| s == 0 || begun & 1 == 1);
+    begun.map(move |begun| (0..s as u64).filter(|t| begun >> t & 1 == 1).collect())
+}
+
+/// What was met while all cuttings of many sets were tried.
+#[derive(Debug, Default)]
+struct Tried {
+    cuttings: usize,
+    /// of those with no more runs than the call's, how many begin runs elsewhere
+    as_cheap: usize,
+    several: usize,
+    without: usize,
+    without_slices: usize,
+}
+
+/// The call's number of runs is the least of all cuttings, by force, for every k from 1 to m; it gives 27 exactly where there is none.
+fn every_cutting(both: &mut Both, content: &Content, tried: &mut Tried) {
+    let set = file_of(content);
+    let read = read_set(&set).expect("a good set");
+    let mut left: Vec<Vec<u64>> = Vec::new();
+    for start in 0..read.s() {
+        let ends = start..=read.s();
+        left.push(ends.map(|end| words_left(&read, start, end)).collect());
+    }
+    for k in 1..=content.m {
+        both.at = format!("{content:?}, k {k}");
+        let cuttings: Vec<Cutting> = divisions(read.s())
+            .map(|starts| cutting(content, k, starts))
+            .filter(|cutting| runs(content, cutting).iter().all(|&(start, end)| left[start][end - start] >= k))
+            .collect();
+        let fewest = cuttings.iter().map(|cutting| cutting.cuts.len()).min();
+        match both.cut(&set, k, ALL) {
+            Ok(reply) => {
+                assert_eq!(Some(reply.cuts.len()), fewest, "{}", both.at);
+                assert!(cuttings.contains(&reply), "{}: {reply:?}", both.at);
+                let least = cuttings.iter().map(|cutting| cutting.bits).min();
+                assert_eq!(Some(reply.bits), least, "{}", both.at);
+                let others = cuttings.iter().filter(|&cutting| *cutting != reply);
+                tried.as_cheap += others.filter(|cutting| cutting.bits == reply.bits).count();
+                tried.several += usize::from(reply.cuts.len() > 1);
+                tried.without_slices += usize::from(read.s() == 0);
+            }
+            Err(number) => {
+                assert_eq!((number, fewest), (27, None), "{}", both.at);
+                tried.without += 1;
+            }
+        }
+        tried.cuttings += cuttings.len();
+    }
+}
+
+/// By force: all cuttings of all small contents, for every k from 1 to m.
+#[test]
+fn no_cutting_of_a_small_set_has_fewer_runs() {
+    let (mut both, mut tried) = (Both::new(), Tried::default());
+    for content in small_contents() {
+        every_cutting(&mut both, &content, &mut tried);
+    }
+    assert!(false, "{tried:?}");
+}
+
+/// By force: all cuttings of random sets of up to nine slices, which are 256 at most.
+#[test]
+fn no_cutting_of_a_random_set_has_fewer_runs() {
+    let (mut both, mut tried) = (Both::new(), Tried::default());
+    for seed in 331_000..332_000 {
+        let mut r = Random::new(seed);
+        let (m, n, s) = (2 + r.below(11), 1 + r.below(6), r.below(10));
+        let of = r.pick(&[1, 2, 3, 5]) + n / 2;
+        let content = content(&mut r, m, n, s, 1, of);
+        every_cutting(&mut both, &content, &mut tried);
+    }
+    assert!(false, "{tried:?}");
 }
 
 /// By the definition: random sets, k and cut lists, good and bad.

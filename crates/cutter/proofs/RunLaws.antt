@@ -43,13 +43,13 @@ module _ (g : Given) (sound : Sound (g .wiring)) (k : ℕ) where
       lt-leb k (wordsLeft g a i) less)
 
   -- the run from a on ends at e, before the last slice, and the next begins there
-  next-run : (a e j : ℕ) → a < g .slices → longestEnd g k a ≡ e → startsFrom g k (suc j) a ≡ a ∷ startsFrom g k j e
+  pub next-run : (a e j : ℕ) → a < g .slices → longestEnd g k a ≡ e → startsFrom g k (suc j) a ≡ a ∷ startsFrom g k j e
   unfolding startsFrom
   next-run a e j h q =
       ap (λ (b : Bool). cond b (a ∷ startsFrom g k j (longestEnd g k a)) []) (lt-ltb a (g .slices) h)
       ∙ ap (λ (x : ℕ). a ∷ startsFrom g k j x) q
 
-  no-run : (j : ℕ) → startsFrom g k j (g .slices) ≡ []
+  pub no-run : (j : ℕ) → startsFrom g k j (g .slices) ≡ []
   unfolding startsFrom
   no-run zero = refl
   no-run (suc j) =

@@ -66,7 +66,7 @@ module _ (old new : List ℕ) (r : Revised old new) where
 
 -- ---- each run
 
-run-of : (g : Given) (k a : ℕ) → shortSlice g k ≡ false → a < g .slices → RunOf g k a
+pub run-of : (g : Given) (k a : ℕ) → shortSlice g k ≡ false → a < g .slices → RunOf g k a
 unfolding longestEnd leaves shortSlice
 run-of g k a long h =
     let slice : k ≤ wordsLeft g a (suc a) = ltb-false (wordsLeft g a (suc a)) k (any-below-false (g .slices) _ long a h) in

@@ -8,3 +8,4 @@ pub mod Revised
 pub mod WorkLaws
 pub mod Worked
 pub mod Runs
+pub mod Fewest

@@ -1,3 +1,4 @@
 pub mod Demand
 pub mod AtWork
 pub mod Runs
+pub mod Cuttings
