@@ -1,16 +1,14 @@
 -- What planning's answer for a set says, and what it refuses with. Assumes nothing.
 use mathlib.Core.Path.{_≡_, refl, sym, ap, _∙_}
-use mathlib.Core.Bool.{Bool, true, false, cond}
-use mathlib.Core.Logic.{dite}
-use mathlib.Core.List.{List}
+use mathlib.Core.Bool.{true, false}
+use mathlib.Core.List.{List, [], _∷_}
 use Prim.Native.Nat.{ℕ}
-use native.Mathlib.Decide.{ℕ-discrete}
 use native.Mathlib.Omega.{arith}
 use lib.Dec.{ltb}
 use lib.ListN.{length}
-use Rattle.word.specs.Reply.{answer, refusal, replied, firstOf}
+use Rattle.word.specs.Reply.{_when_, answer, refusal, replied, firstOf}
 use Rattle.word.proofs.Laws.{parities-lt}
-use Rattle.word.proofs.TestLaws.{replied-answer, replied-number, without, first-of-without}
+use Rattle.word.proofs.TestLaws.{replied-answer, replied-number, without, first-applies}
 use Rattle.combinations.specs.Combination.{onlyEmpty}
 use Rattle.set_layout.specs.Layout.{widthOf}
 use Rattle.set_file.specs.Reading.{setTests}
@@ -18,16 +16,11 @@ use Rattle.set_file.proofs.Laws.{Accepted, accepted, accepted-width}
 use Rattle.signatures.specs.Sets.{columnsOf, zeroSignature}
 use Rattle.planner.specs.Planning.{wordsOf, expectedOf, earlierTests, planTests, PlanParts, partsOf, planReply}
 use Rattle.planner.proofs.NumberLaws as numbers
-use Rattle.planner.proofs.NumberLaws.{plan-sooner, plan-later, earlier-set}
+use Rattle.planner.proofs.NumberLaws.{plan-later, earlier-set}
 use Rattle.planner.proofs.CallLaws.{planned-parts}
 use Rattle.plan_writer.specs.Writing.{planContent, planBytes}
 use Rattle.plan_writer.proofs.Parts.{Content}
 use Rattle.guarantee.specs.Demand.{planFile}
-
-seventeen-among : (a b : Bool) → _≡_ {A = ℕ} (cond a 17 (cond b 18 0)) 17 → a ≡ true
-seventeen-among true b h = refl
-seventeen-among false true h = let z : ⊥ = omega arith in absurd z
-seventeen-among false false h = let z : ⊥ = omega arith in absurd z
 
 -- ---- planning's tests: the set's and 14, then 17 and 18
 
@@ -38,17 +31,14 @@ earlier-without-seventeen set k = refl
 module _ (set : List ℕ) (k l : ℕ) where
   -- 17 means that the set is accepted and no X-free combination but the empty one exists
   pub seventeen-only-empty : planReply set k l ≡ refusal 17 → Accepted set × (onlyEmpty (widthOf set) (columnsOf set) ≡ true)
-  unfolding planReply
+  unfolding planReply planTests
   seventeen-only-empty h =
       let number : firstOf (planTests set k l) ≡ 17 = replied-number (firstOf (planTests set k l)) (partsOf set) 17 h in
-      let none : firstOf (earlierTests set k) ≡ 0 =
-      dite (ℕ-discrete (firstOf (earlierTests set k)) 0) (λ (z : firstOf (earlierTests set k) ≡ 0). z)
-      (λ (d : firstOf (earlierTests set k) ≡ 0 → ⊥).
-      let z : 17 ≡ 0 = first-of-without 17 (earlierTests set k) (earlier-without-seventeen set k) (sym (plan-sooner set k l d) ∙ number) in
-      let no : ⊥ = omega arith in
-      absurd no)
+      let found =
+      first-applies 17 (onlyEmpty (widthOf set) (columnsOf set)) (earlierTests set k) (18 when ltb l (length (wordsOf set)) ∷ []) (λ z. omega arith)
+      (earlier-without-seventeen set k) refl number
       in
-      (accepted set (earlier-set set k none), seventeen-among _ (ltb l (length (wordsOf set))) (sym (plan-later set k l none) ∙ number))
+      (accepted set (earlier-set set k (found .0)), found .1)
 
   -- .. and where that is so and no earlier number applies, 17 it is
   pub only-empty-seventeen : firstOf (earlierTests set k) ≡ 0 → onlyEmpty (widthOf set) (columnsOf set) ≡ true → planReply set k l ≡ refusal 17

@@ -1,16 +1,17 @@
 -- The starred lines of document 01, "Worked on paper", proved of the definitions as one table: each line through the reply of the
 -- call that it is about; and behind them, worked by hand, the clock and the sample with an inversion word, 5, and planning in two calls:
 -- the sample's words, and the expected bits of its own words, of others, and of lists that are refused; and the sample, and a set with several
--- runs, cut. Assumes nothing.
+-- runs, cut, by the call and in other ways. Assumes nothing.
 --
 --   wrote r vs         what a call with the reply r writes to a lent list: vs after an answer
 --   next r             the state that the clock's reply r gives
 --   expectedIn r       the expected bits in planning's reply r
 --   bitsIn r           the expected bits in the reply r of the call that gives them; a refusal's number twice
 --   cutIn r            the number of runs and the control bits in cutting's reply r; a refusal's number alone
+--   cutInto rs         whether these runs are a cutting of the set with several runs that leaves 2 words each: 1, or 0 where they aren't
 --   indexIn r          judging's reply r as a list: nothing where the signature passes, the index where it fails
 use mathlib.Core.Path.{_≡_, refl}
-use mathlib.Core.Bool.{true}
+use mathlib.Core.Bool.{true, cond}
 use mathlib.Core.List.{List, [], _∷_, _++_}
 use Prim.Native.Nat.{ℕ}
 use lib.Count.{ones, onesIn, leadingZeros}
@@ -35,7 +36,7 @@ use Rattle.set_layout.specs.Layout.{valueRow, markRow}
 use Rattle.set_file.specs.Reading.{badSlices, setTests}
 use Rattle.signatures.specs.Signature.{runs, column}
 use Rattle.signatures.specs.Columns.{sliceColumns, columnsBelow}
-use Rattle.signatures.specs.Sets.{columnsOf, unknownsOf, zeroSignature}
+use Rattle.signatures.specs.Sets.{given, columnsOf, unknownsOf, zeroSignature}
 use Rattle.columns.specs.Listing.{listTests, listReply}
 use Rattle.expectation.specs.Expecting.{wordTests, expectTests, expectReply}
 use Rattle.planner.specs.Planning.{wordsOf, expectedOf, wordsReply, PlanParts, partsOf, earlierTests, planTests, planReply}
@@ -46,6 +47,7 @@ use Rattle.plan_file.specs.Checking.{badPlanWidth, badPlanCount, badPlanEnd, pl
 use Rattle.plan_writer.specs.Writing.{planBytes}
 use Rattle.judge.specs.Verdict.{Outcome, passes, failsAt, verdictFrom, Finding, judgeTests, judgeReply}
 use Rattle.guarantee.specs.Demand.{planFile}
+use Rattle.guarantee.specs.Cuttings.{Run, isDivision, eachLeaves, isCutting, runsFrom}
 
 abbrev wrote : {A : Type 0} → Reply A → List ℕ → List ℕ
 wrote r vs = lent r vs []
@@ -92,6 +94,18 @@ several : List ℕ
 several =
     4 ∷ 0 ∷ 3 ∷ 0 ∷ 0 ∷ 0 ∷ 0 ∷ 0 ∷ 0 ∷ 0 ∷ 0 ∷ 0 ∷ 0 ∷ 0 ∷ 0 ∷ 0 ∷ 0 ∷ 0 ∷ 3 ∷ 0 ∷ 1 ∷ 0 ∷ 0 ∷ 0 ∷ 0 ∷ 0 ∷ 0 ∷ 0 ∷ 2 ∷ 0 ∷ 0 ∷ 0 ∷ 0 ∷ 0 ∷ 0 ∷ 0 ∷ 4 ∷ 0 ∷ 0 ∷ 0 ∷ 0 ∷ 0 ∷ 0 ∷ 0 ∷ 8 ∷ 0 ∷ 0 ∷ 4 ∷ 2 ∷ 1 ∷ 2 ∷ 0 ∷ 1 ∷ 4 ∷ 1 ∷ 2 ∷ 4 ∷ 1 ∷ 7 ∷ 0 ∷ 1 ∷ 2 ∷ []
 
+-- the sample's register and chains without a slice: 36 bytes
+sliceless : List ℕ
+sliceless =
+    3 ∷ 0 ∷ 3 ∷ 0 ∷ 0 ∷ 0 ∷ 0 ∷ 0 ∷ 0 ∷ 0 ∷ 0 ∷ 0 ∷ 0 ∷ 0 ∷ 0 ∷ 0 ∷ 0 ∷ 0 ∷ 2 ∷ 0 ∷ 1 ∷ 0 ∷ 0 ∷ 0 ∷ 0 ∷ 0 ∷ 0 ∷ 0 ∷ 4 ∷ 0 ∷ 0 ∷ 0 ∷ 0 ∷ 0 ∷ 0 ∷ 0 ∷ 0 ∷ 0 ∷ []
+
+-- the run of the slices a to b - 1
+abbrev run : ℕ → ℕ → Run
+run a b = record { first = a; end = b }
+
+abbrev cutInto : List Run → List ℕ
+cutInto rs = cond (isCutting (given several) 2 rs) 1 0 ∷ []
+
 -- what judging gives for the plan made of the sample and the signature y
 abbrev sampleJudged : ℕ → ℕ → Reply Finding
 sampleJudged v y = judgeReply (planFile (sample v) (partsOf (sample v))) y
@@ -136,8 +150,18 @@ worked =
     ∷ record { given = wrote (cutReply several 2 3) (startsOf several 2); printed = 0 ∷ 4 ∷ 7 ∷ [] }
     ∷ record { given = cutIn (cutReply several 2 3); printed = 3 ∷ 24 ∷ [] }
     ∷ record { given = cutIn (cutReply several 4 8); printed = 27 ∷ [] }
+    ∷ record { given = cutInto (runsFrom 8 (0 ∷ 4 ∷ 7 ∷ [])); printed = 1 ∷ [] }
+    ∷ record { given = cutInto (runsFrom 8 (0 ∷ 1 ∷ 5 ∷ [])); printed = 1 ∷ [] }
+    ∷ record { given = cutInto (runsFrom 8 (0 ∷ 4 ∷ [])); printed = 0 ∷ [] }
+    ∷ record { given = cutInto (run 1 5 ∷ run 5 8 ∷ []); printed = 0 ∷ [] }
+    ∷ record { given = cutInto (run 0 4 ∷ run 4 7 ∷ []); printed = 0 ∷ [] }
+    ∷ record { given = cutInto (run 0 4 ∷ run 3 5 ∷ run 5 8 ∷ []); printed = 0 ∷ [] }
+    ∷ record { given = cutInto (run 0 4 ∷ run 4 4 ∷ run 4 7 ∷ run 7 8 ∷ []); printed = 0 ∷ [] }
+    ∷ record { given = cutInto []; printed = 0 ∷ [] }
+    ∷ record { given = cutIn (cutReply sliceless 3 0); printed = 0 ∷ 0 ∷ [] }
+    ∷ record { given = cond (isCutting (given sliceless) 3 []) 1 0 ∷ []; printed = 1 ∷ [] }
     ∷ []
 
 pub worked-agrees : agrees worked ≡ true
-unfolding worked sample several cutReply cutTests badShare shortSlice startsOf startsFor startsFrom longestEnd leaves wordsLeft greatest eliminationReply eliminationTests clockReply clockTests listReply listTests setTests expectReply expectTests wordTests wordsReply planReply planTests earlierTests judgeReply judgeTests planFileTests planFile planBytes badWidth badTaps badChains badSpread badSlices badPlanWidth badPlanCount badPlanEnd badWordCount spareSet beyond anyBelow anyOf allOf front number numberAt wordsAt bytesOf wordBytes joined parities parity ones onesIn highestBit leadingZeros rank rankAfter grown xFree onlyEmpty reducedList wordsBelow independent made xorRows isReduced ascending topsClear advanced driven clocked valueRow markRow runs column sliceColumns columnsBelow columnsOf unknownsOf total zeroSignature wordsOf expectedOf verdictFrom
+unfolding worked sample several sliceless isCutting isDivision eachLeaves runsFrom cutReply cutTests badShare shortSlice startsOf startsFor startsFrom longestEnd leaves wordsLeft greatest eliminationReply eliminationTests clockReply clockTests listReply listTests setTests expectReply expectTests wordTests wordsReply planReply planTests earlierTests judgeReply judgeTests planFileTests planFile planBytes badWidth badTaps badChains badSpread badSlices badPlanWidth badPlanCount badPlanEnd badWordCount spareSet beyond anyBelow anyOf allOf front number numberAt wordsAt bytesOf wordBytes joined parities parity ones onesIn highestBit leadingZeros rank rankAfter grown xFree onlyEmpty reducedList wordsBelow independent made xorRows isReduced ascending topsClear advanced driven clocked valueRow markRow runs column sliceColumns columnsBelow columnsOf unknownsOf total zeroSignature wordsOf expectedOf verdictFrom
 worked-agrees = refl

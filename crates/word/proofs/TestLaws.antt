@@ -114,6 +114,15 @@ first-of-without n [] d h = sym h
 first-of-without n ((k when b) ∷ ts) d h =
     without-next n k b ts d h (first-of-without n ts (and-right (not (eqb k n && b)) (without n ts) d))
 
--- .. and the reply is not its refusal
+-- .. and where n is the first of a list in which it stands once, none before it applies, and its own test does
+pub first-applies : (n : ℕ) (b : Bool) (ts us : List Test) → (n ≡ 0 → ⊥) → without n ts ≡ true → without n us ≡ true
+    → firstOf (ts ++ n when b ∷ us) ≡ n → (firstOf ts ≡ 0) × (b ≡ true)
+first-applies n true [] us z d e h = (refl, refl)
+first-applies n false [] us z d e h = absurd (z (first-of-without n us e h))
+first-applies n b (k when true ∷ ts) us z d e h = absurd (z (first-of-without n (k when true ∷ ts) d h))
+first-applies n b (k when false ∷ ts) us z d e h =
+    first-applies n b ts us z (and-right (not (eqb k n && false)) (without n ts) d) e h
+
+-- a number that doesn't apply is not the refusal's
 pub never : {A : Type 0} (n : ℕ) (ts : List Test) (a : A) → (n ≡ 0 → ⊥) → without n ts ≡ true → replied (firstOf ts) a ≡ refusal n → ⊥
 never n ts a z d h = z (first-of-without n ts d (replied-number (firstOf ts) a n h))
