@@ -3,6 +3,8 @@
 --
 --   longest-at     a run that leaves at least k words, and with one slice more fewer, is the longest from its start: the greatest end that
 --                  still leaves k words is the last before the first that doesn't
+--   next-run       the list of first slices from a on is a and, from the end of its longest run on, the rest
+--   no-run         .. and empty where no slice is left
 --   CutTo          what is known after t slices
 --   cut-starts, cut-turns, cut-short, cut-ends
 -- Assumes nothing.

@@ -4,8 +4,9 @@
 --   same-cut-reply    .. so where both meet none of the set's numbers the whole reply is the same. Document 02, No. 5: "once the set is
 --                     taken no cell's value bears on the answer"
 --   same-cuts-after   .. and the cut list
---   each-run          each run that is listed has at least one slice and leaves at least k words, and none that begins there and ends later
---                     does ("Every run is the longest that does so from its start")
+--   run-of            where no slice alone leaves fewer than k words, the longest run from each slice is as promised
+--   each-run          .. so each run that is listed has at least one slice and leaves at least k words, and none that begins there and ends
+--                     later does ("Every run is the longest that does so from its start")
 --   cut-run           .. so where the call answers, this holds of each slice that it lists
 --   longest-first     the greatest end that still leaves k words is the last before the first that doesn't, since the clock loses no state
 -- Assumes nothing.

@@ -7,6 +7,7 @@
 --   eachLeaves g k rs   each of the runs leaves at least k words
 --   isCutting g k rs    a division of all slices into runs that leave at least k words each
 --   runsFrom s l        the runs that are given by their first slices l: each ends where the next begins, and the last with the last of s slices
+--   endBefore s l       where a run ends before runs with the first slices l
 --   covers s a rs       the runs rs reach over the slices a to s - 1 and may overlap: none begins behind the end of the one before it
 --   isCover g k rs      runs that reach over all slices, may overlap, and leave at least k words each
 use mathlib.Core.Bool.{Bool, true, _&&_}
