@@ -162,6 +162,20 @@ struct Tried {
     empty: usize,
 }
 
+impl Tried {
+    /// Each count, in their order, is above what is asked for.
+    fn more_than(&self, asked: [usize; 5]) -> bool {
+        let met = [
+            self.cuttings,
+            self.as_cheap,
+            self.several,
+            self.without,
+            self.empty,
+        ];
+        met.iter().zip(asked).all(|(&met, asked)| met > asked)
+    }
+}
+
 /// For every k from 1 to m the call's runs and control bits are the least of all cuttings, and it gives 27 exactly where there is none.
 fn every_cutting(both: &mut Both, content: &Content, tried: &mut Tried) {
     let set = file_of(content);
@@ -207,11 +221,7 @@ fn no_cutting_of_a_small_set_has_fewer_runs() {
         every_cutting(&mut both, &content, &mut tried);
     }
     assert!(
-        tried.cuttings > 80_000
-            && tried.as_cheap > 3_000
-            && tried.several > 10_000
-            && tried.without > 30_000
-            && tried.empty > 700,
+        tried.more_than([80_000, 3_000, 10_000, 30_000, 700]),
         "{tried:?}"
     );
 }
@@ -228,11 +238,7 @@ fn no_cutting_of_a_random_set_has_fewer_runs() {
         every_cutting(&mut both, &content, &mut tried);
     }
     assert!(
-        tried.cuttings > 150_000
-            && tried.as_cheap > 2_500
-            && tried.several > 1_200
-            && tried.without > 1_000
-            && tried.empty > 500,
+        tried.more_than([150_000, 2_500, 1_200, 1_000, 500]),
         "{tried:?}"
     );
 }
