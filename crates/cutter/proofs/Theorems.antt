@@ -7,7 +7,9 @@
 --   run-of            where no slice alone leaves fewer than k words, the longest run from each slice is as promised
 --   each-run          .. so each run that is listed has at least one slice and leaves at least k words, and none that begins there and ends
 --                     later does ("Every run is the longest that does so from its start")
---   cut-run           .. so where the call answers, this holds of each slice that it lists
+--   cut-none          where the call answers, none of the set's numbers applies, 26 doesn't, and no slice alone leaves fewer than k words
+--   cut-parts         .. its answer is that of the definition
+--   cut-run           .. and each slice that it lists begins such a run
 --   longest-first     the greatest end that still leaves k words is the last before the first that doesn't, since the clock loses no state
 -- Assumes nothing.
 use mathlib.Core.Path.{_≡_, refl, sym, ap, ap₂, _∙_}
@@ -97,21 +99,28 @@ unfolding startsFor
 each-run g k a long h = run-of g k a long (started g k (g .slices) 0 a h)
 
 -- an answer says that none of the numbers applies
-pub cut-none : (set : List ℕ) (k room : ℕ) → firstOf (cutTests set k room) ≡ 0
+none : (set : List ℕ) (k room : ℕ) → firstOf (cutTests set k room) ≡ 0
     → (firstOf (setTests set) ≡ 0) × ((badShare (widthOf set) k ≡ false) × (shortSlice (given set) k ≡ false))
 unfolding cutTests
-cut-none set k room h =
+none set k room h =
     let taken : firstOf (setTests set) ≡ 0 = first-of-none (setTests set) _ h in
     let rest = sym (first-of-later (setTests set) _ (set-numbered set) taken) ∙ h in
     let p26 = none-and-rest (badShare (widthOf set) k) 25 _ rest in
     let p27 = none-and-rest (shortSlice (given set) k) 26 _ (p26 .1) in
     (taken, (p26 .0, p27 .0))
 
-pub cut-run : (set : List ℕ) (k room a : ℕ) (p : CutParts) → cutReply set k room ≡ answer p → member a (startsOf set k) ≡ true → RunOf (given set) k a
-unfolding cutReply startsOf
-cut-run set k room a p h listed =
-    let none = cut-none set k room (replied-answer (firstOf (cutTests set k room)) (cutPartsOf set k) p h .0) in
-    each-run (given set) k a (none .1 .1) listed
+module _ (set : List ℕ) (k room : ℕ) (p : CutParts) (h : cutReply set k room ≡ answer p) where
+  pub cut-none : (firstOf (setTests set) ≡ 0) × ((badShare (widthOf set) k ≡ false) × (shortSlice (given set) k ≡ false))
+  unfolding cutReply
+  cut-none = none set k room (replied-answer (firstOf (cutTests set k room)) (cutPartsOf set k) p h .0)
+
+  pub cut-parts : p ≡ cutPartsOf set k
+  unfolding cutReply
+  cut-parts = replied-answer (firstOf (cutTests set k room)) (cutPartsOf set k) p h .1
+
+  pub cut-run : (a : ℕ) → member a (startsOf set k) ≡ true → RunOf (given set) k a
+  unfolding startsOf
+  cut-run a listed = each-run (given set) k a (cut-none .1 .1) listed
 
 -- ---- the greatest end, and the first failure
 

@@ -25,7 +25,7 @@ use Rattle.word.specs.Reply.{Test, _when_, answer, refusal, replied, firstOf}
 use Rattle.word.proofs.BoolLaws.{and-intro, and-left, and-right, not-true, true-not-false}
 use Rattle.word.proofs.ReplyLaws.{answered-part}
 use Rattle.word.proofs.SomeLaws.{any-below-none}
-use Rattle.word.proofs.TestLaws.{first-of-later, first-of-none, first-applies, replied-answer, replied-number}
+use Rattle.word.proofs.TestLaws.{first-of-later, first-of-none, first-applies, replied-number}
 use Rattle.set_layout.specs.Layout.{widthOf, slicesOf, circuitOf}
 use Rattle.set_file.specs.Reading.{setTests}
 use Rattle.set_file.proofs.Laws.{Accepted, accepted, set-numbered}
@@ -36,7 +36,7 @@ use Rattle.cutter.specs.Turns.{Sound}
 use Rattle.cutter.proofs.FrameLaws.{later-start, slice-most}
 use Rattle.cutter.proofs.RunLaws.{next-run, no-run}
 use Rattle.cutter.proofs.SameLaws.{sound-set}
-use Rattle.cutter.proofs.Theorems.{run-of, cut-none}
+use Rattle.cutter.proofs.Theorems.{run-of, cut-none, cut-parts}
 use Rattle.guarantee.specs.Cuttings.{Run, isDivision, eachLeaves, isCutting, endBefore, runsFrom, covers, isCover}
 
 and-all : (a b c : Bool) → (a && (b && c)) ≡ true → (a ≡ true) × ((b ≡ true) × (c ≡ true))
@@ -147,18 +147,20 @@ module _ (g : Given) (k : ℕ) where
               absurd no
           go false q = ltb-false (longestEnd g k a) (r .end) q
 
+      used-up : (j a : ℕ) → a ≡ g .slices → startsFrom g k j a ≡ []
+      used-up j a same = ap (startsFrom g k j) same ∙ no-run g sound k j
+
       -- .. so from a slice on that the others have reached at most, the call needs no more runs than they do
       no-more : (rs : List Run) (j a b : ℕ) → a ≤ g .slices → b ≤ a → covers (g .slices) b rs ≡ true → eachLeaves g k rs ≡ true
           → length (startsFrom g k j a) ≤ length rs
       unfolding startsFrom covers
       no-more rs zero a b h ahead c l = omega arith
       no-more [] (suc j) a b h ahead c l =
-          let same : a ≡ g .slices = omega (arith, leb-true (g .slices) b c) in
-          omega (arith, ap length (ap (startsFrom g k (suc j)) same ∙ no-run g sound k (suc j)))
+          omega (arith, ap length (used-up (suc j) a (omega (arith, leb-true (g .slices) b c))))
       no-more (r ∷ rs) (suc j) a b h ahead c l =
           let d = covered (g .slices) b r rs c in
           let e = leaving r rs l in
-          ⊎-elim (λ (same : a ≡ g .slices). omega (arith, ap length (ap (startsFrom g k (suc j)) same ∙ no-run g sound k (suc j))))
+          ⊎-elim (λ (same : a ≡ g .slices). omega (arith, ap length (used-up (suc j) a same)))
           (λ (inside : a < g .slices).
           let behind : r .end ≤ longestEnd g k a = ends-no-later a r inside (omega (arith, d .0)) (d .1 .0) (e .0) in
           let rest = no-more rs j (longestEnd g k a) (r .end) (run-of g k a long inside .within) behind (d .1 .1) (e .1) in
@@ -176,9 +178,7 @@ module _ (g : Given) (k : ℕ) where
 
       no-runs-cut : (j a : ℕ) → a ≡ g .slices → Cut a (startsFrom g k j a)
       unfolding isDivision eachLeaves runsFrom
-      no-runs-cut j a same =
-          let none : startsFrom g k j a ≡ [] = ap (startsFrom g k j) same ∙ no-run g sound k j in
-          rw none (eq-eqb a (g .slices) same, refl)
+      no-runs-cut j a same = rw (used-up j a same) (eq-eqb a (g .slices) same, refl)
 
       one-run-more : (j a : ℕ) → a < g .slices → Cut (longestEnd g k a) (startsFrom g k j (longestEnd g k a)) → Cut a (startsFrom g k (suc j) a)
       unfolding isDivision eachLeaves runsFrom leaves
@@ -208,26 +208,21 @@ module _ (g : Given) (k : ℕ) where
 -- ---- where the call answers
 
 module _ (set : List ℕ) (k room : ℕ) (p : CutParts) (h : cutReply set k room ≡ answer p) where
-  none : (firstOf (setTests set) ≡ 0) × ((badShare (widthOf set) k ≡ false) × (shortSlice (given set) k ≡ false))
-  unfolding cutReply
-  none = cut-none set k room (replied-answer (firstOf (cutTests set k room)) (cutPartsOf set k) p h .0)
-
   sound : Sound (circuitOf set)
-  sound = sound-set set (accepted set (none .0))
+  sound = sound-set set (accepted set (cut-none set k room p h .0))
 
-  parts : p ≡ cutPartsOf set k
-  unfolding cutReply
-  parts = replied-answer (firstOf (cutTests set k room)) (cutPartsOf set k) p h .1
+  count : p .runs ≡ length (startsOf set k)
+  count = ap (λ (q : CutParts). q .runs) (cut-parts set k room p h)
 
   pub cut-overlap : (rs : List Run) → isCover (given set) k rs ≡ true → p .runs ≤ length rs
   unfolding startsOf
-  cut-overlap rs c = omega (arith, ap (λ (q : CutParts). q .runs) parts, fewest (given set) k sound (none .1 .1) rs c)
+  cut-overlap rs c = omega (arith, count, fewest (given set) k sound (cut-none set k room p h .1 .1) rs c)
 
   pub cut-fewest : (rs : List Run) → isCutting (given set) k rs ≡ true → p .runs ≤ length rs
   cut-fewest rs c = cut-overlap rs (cutting-covers (given set) k rs c)
 
   pub cut-bill : p .bits ≡ widthOf set * k * p .runs
-  cut-bill = ap (λ (q : CutParts). q .bits) parts ∙ sym (ap (λ (q : CutParts). widthOf set * k * q .runs) parts)
+  cut-bill = ap (λ (q : CutParts). q .bits) (cut-parts set k room p h) ∙ sym (ap (λ (n : ℕ). widthOf set * k * n) count)
 
   pub cut-cheapest : (rs : List Run) → isCutting (given set) k rs ≡ true → p .bits ≤ widthOf set * k * length rs
   cut-cheapest rs c = rw cut-bill (mul-le-mul-left (widthOf set * k) (cut-fewest rs c))
@@ -237,10 +232,11 @@ pub cut-cutting : (set l : List ℕ) (k : ℕ) (p : CutParts) → cutReply set k
     → isCutting (given set) k (runsFrom (slicesOf set) (take (p .runs) (cutsAfter set k l))) ≡ true
 unfolding startsOf
 cut-cutting set l k p h =
-    let count : p .runs ≡ length (startsOf set k) = ap (λ (q : CutParts). q .runs) (parts set k (length l) p h) in
-    let listed = answered-part (cutReply set k (length l)) p (startsOf set k) l (cutsAfter set k l) (p .runs) h refl count in
+    let listed =
+    answered-part (cutReply set k (length l)) p (startsOf set k) l (cutsAfter set k l) (p .runs) h refl (count set k (length l) p h)
+    in
     ap (λ (x : List ℕ). isCutting (given set) k (runsFrom (slicesOf set) x)) (listed .1)
-    ∙ starts-cutting (given set) k (sound set k (length l) p h) (none set k (length l) p h .1 .1)
+    ∙ starts-cutting (given set) k (sound set k (length l) p h) (cut-none set k (length l) p h .1 .1)
 
 -- ---- 27
 

@@ -12,7 +12,6 @@ use Rattle.word.specs.Some.{anyBelow}
 use Rattle.word.specs.Reply.{answer, firstOf}
 use Rattle.word.proofs.SomeLaws.{any-below-none, any-below-false}
 use Rattle.word.proofs.BoolLaws.{or-false, or-false-left}
-use Rattle.word.proofs.TestLaws.{replied-answer}
 use Rattle.word.proofs.ReplyLaws.{replied-answered}
 use Rattle.combinations.specs.Combination.{member, rank, onlyEmpty}
 use Rattle.combinations.specs.Reduced.{reducedList}
@@ -35,7 +34,7 @@ use Rattle.signatures.proofs.ColumnLaws.{columns-ext}
 use Rattle.signatures.proofs.SetLaws.{columns-of-within}
 use Rattle.planner.specs.Planning.{wordsOf, earlierTests, planTests, wordPartsOf, wordsReply, partsOf, planReply}
 use Rattle.planner.proofs.NumberLaws.{earlier-past-set, plan-later}
-use Rattle.cutter.specs.Cutting.{wordsLeft, longestEnd, badShare, RunOf, startsOf, CutParts, cutTests, cutPartsOf, cutReply}
+use Rattle.cutter.specs.Cutting.{wordsLeft, longestEnd, badShare, RunOf, startsOf, CutParts, cutReply}
 use Rattle.cutter.proofs.Theorems.{cut-none, cut-run}
 use Rattle.guarantee.specs.Runs.{runContent, runFile, RunPlanned}
 
@@ -160,11 +159,11 @@ module _ (set : List ℕ) (whole : Accepted set) (a b : ℕ) (ordered : a ≤ b)
 
 pub each-run-planned : (set : List ℕ) (k room : ℕ) (p : CutParts) → cutReply set k room ≡ answer p → (a : ℕ) → member a (startsOf set k) ≡ true
     → RunPlanned set k a (longestEnd (given set) k a)
-unfolding cutReply startsOf badShare
+unfolding badShare
 each-run-planned set k room p h a listed =
-    let none = cut-none set k room (replied-answer (firstOf (cutTests set k room)) (cutPartsOf set k) p h .0) in
+    let none = cut-none set k room p h in
     let whole : Accepted set = accepted set (none .0) in
-    let run : RunOf (given set) k a = cut-run set k room a p h listed in
+    let run : RunOf (given set) k a = cut-run set k room p h a listed in
     let least : 1 ≤ k = ltb-false k 1 (or-false-left (ltb k 1) (ltb (widthOf set) k) (none .1 .0)) in
     let ordered : a ≤ longestEnd (given set) k a = omega (arith, run .some) in
     let some : 1 ≤ wordsLeft (given set) a (longestEnd (given set) k a) = omega (arith, run .enough) in
