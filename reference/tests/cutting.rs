@@ -176,7 +176,8 @@ impl Tried {
     }
 }
 
-/// For every k from 1 to m the call's runs and control bits are the least of all cuttings, and it gives 27 exactly where there is none.
+/// For every k from 1 to m the call's reply is one of all cuttings, with their control bits, and none has fewer runs; it gives 27 exactly
+/// where there is none.
 fn every_cutting(both: &mut Both, content: &Content, tried: &mut Tried) {
     let set = file_of(content);
     let read = read_set(&set).expect("a good set");
@@ -193,12 +194,10 @@ fn every_cutting(both: &mut Both, content: &Content, tried: &mut Tried) {
             .filter(|cutting| runs(content, cutting).iter().all(enough))
             .collect();
         let fewest = cuttings.iter().map(|cutting| cutting.cuts.len()).min();
-        let least = cuttings.iter().map(|cutting| cutting.bits).min();
         match both.cut(&set, k, ALL) {
             Ok(reply) => {
                 assert!(cuttings.contains(&reply), "{}: {reply:?}", both.at);
                 assert_eq!(Some(reply.cuts.len()), fewest, "{}", both.at);
-                assert_eq!(Some(reply.bits), least, "{}", both.at);
                 let others = cuttings.iter().filter(|&cutting| *cutting != reply);
                 tried.as_cheap += others.filter(|cutting| cutting.bits == reply.bits).count();
                 tried.several += usize::from(reply.cuts.len() > 1);

@@ -7,7 +7,8 @@
 --   columns-framed       the columns of a run are its words in the frame, clocked together
 --   left-framed          .. so it leaves as many words as these
 --   longer-fewer         a longer run never leaves more words
---   slice-most           .. and no slice of a run, alone, leaves fewer than the run
+--   later-start          nor does one that begins sooner and ends where the other does
+--   slice-most           .. so no slice of a run, alone, leaves fewer than the run
 -- Assumes nothing.
 use mathlib.Core.Path.{_≡_, refl, sym, ap, ap₂, _∙_}
 use mathlib.Core.Bool.{false}

@@ -6,7 +6,7 @@
 --   cut-fewest       .. no cutting has fewer runs
 --   cut-bill         .. the control bits are m × k × runs
 --   cut-cheapest     .. which are the fewest of all cuttings
---   cut-overlap      .. and runs that may overlap are no fewer either
+--   cut-overlap      .. and runs that may overlap, none of which begins behind the end of the one before it, are no fewer either
 --   cut-27-only      27 is given only where no cutting exists
 --   cut-27-always    .. and always then, if none of the set's numbers applies and 26 doesn't, however long the cut list is
 --
@@ -22,10 +22,10 @@ use borrow.Author.Tests.{le-leb, le-ltb, lt-ltb, eq-eqb, leb-true, ltb-true, ltb
 use lib.Dec.{eqb, leb, ltb}
 use lib.ListN.{length, take}
 use Rattle.word.specs.Reply.{Test, _when_, answer, refusal, replied, firstOf}
-use Rattle.word.proofs.BoolLaws.{and-intro, and-left, and-right, not-true, true-not-false}
+use Rattle.word.proofs.BoolLaws.{and-intro, and-both, not-true, true-not-false}
 use Rattle.word.proofs.ReplyLaws.{answered-part}
 use Rattle.word.proofs.SomeLaws.{any-below-none}
-use Rattle.word.proofs.TestLaws.{first-of-later, first-of-none, first-applies, replied-number}
+use Rattle.word.proofs.TestLaws.{first-of-later, first-of-none, refused-applies}
 use Rattle.set_layout.specs.Layout.{widthOf, slicesOf, circuitOf}
 use Rattle.set_file.specs.Reading.{setTests}
 use Rattle.set_file.proofs.Laws.{Accepted, accepted, set-numbered}
@@ -40,7 +40,7 @@ use Rattle.cutter.proofs.Theorems.{run-of, cut-none, cut-parts}
 use Rattle.guarantee.specs.Cuttings.{Run, isDivision, eachLeaves, isCutting, endBefore, runsFrom, covers, isCover}
 
 and-all : (a b c : Bool) → (a && (b && c)) ≡ true → (a ≡ true) × ((b ≡ true) × (c ≡ true))
-and-all a b c h = let rest = and-right a (b && c) h in (and-left a (b && c) h, (and-left b c rest, and-right b c rest))
+and-all a b c h = let d = and-both a (b && c) h in (d .0, and-both b c (d .1))
 
 -- ---- divisions and covers of s slices
 
@@ -95,20 +95,17 @@ module _ (s : ℕ) where
 module _ (g : Given) (k : ℕ) where
   leaving : (r : Run) (rs : List Run) → eachLeaves g k (r ∷ rs) ≡ true → (k ≤ wordsLeft g (r .first) (r .end)) × (eachLeaves g k rs ≡ true)
   unfolding eachLeaves leaves
-  leaving r rs h = (
-    leb-true k (wordsLeft g (r .first) (r .end)) (and-left (leb k (wordsLeft g (r .first) (r .end))) (eachLeaves g k rs) h),
-    and-right (leb k (wordsLeft g (r .first) (r .end))) (eachLeaves g k rs) h,
-  )
+  leaving r rs h =
+      let d = and-both (leaves g k (r .first) (r .end)) (eachLeaves g k rs) h in (leb-true k (wordsLeft g (r .first) (r .end)) (d .0), d .1)
 
   cover-parts : (rs : List Run) → isCover g k rs ≡ true → (covers (g .slices) 0 rs ≡ true) × (eachLeaves g k rs ≡ true)
   unfolding isCover
-  cover-parts rs h = (and-left (covers (g .slices) 0 rs) (eachLeaves g k rs) h, and-right (covers (g .slices) 0 rs) (eachLeaves g k rs) h)
+  cover-parts rs h = and-both (covers (g .slices) 0 rs) (eachLeaves g k rs) h
 
   cutting-covers : (rs : List Run) → isCutting g k rs ≡ true → isCover g k rs ≡ true
   unfolding isCutting isCover
   cutting-covers rs h =
-      and-intro _ _ (division-covers (g .slices) 0 rs (and-left (isDivision (g .slices) 0 rs) (eachLeaves g k rs) h) .1)
-      (and-right (isDivision (g .slices) 0 rs) (eachLeaves g k rs) h)
+      let d = and-both (isDivision (g .slices) 0 rs) (eachLeaves g k rs) h in and-intro _ _ (division-covers (g .slices) 0 rs (d .0) .1) (d .1)
 
   module _ (sound : Sound (g .wiring)) where
     -- each slice lies in a run, and alone it leaves no fewer words than the run does
@@ -248,15 +245,13 @@ module _ (set : List ℕ) (k room : ℕ) where
   abbrev behind : List Test
   behind = 28 when ltb room (length (startsOf set k)) ∷ []
 
-  short-27 : firstOf (cutTests set k room) ≡ 27 → (firstOf before ≡ 0) × (shortSlice (given set) k ≡ true)
-  unfolding cutTests setTests
-  short-27 h = first-applies 27 (shortSlice (given set) k) before behind (λ z. omega arith) refl refl h
+  short-27 : cutReply set k room ≡ refusal 27 → (firstOf before ≡ 0) × (shortSlice (given set) k ≡ true)
+  unfolding cutReply cutTests setTests
+  short-27 h = refused-applies 27 (shortSlice (given set) k) before behind (cutPartsOf set k) refl refl h
 
   pub cut-27-only : cutReply set k room ≡ refusal 27 → (rs : List Run) → isCutting (given set) k rs ≡ false
-  unfolding cutReply
   cut-27-only h rs =
-      let number : firstOf (cutTests set k room) ≡ 27 = replied-number (firstOf (cutTests set k room)) (cutPartsOf set k) 27 h in
-      let short = short-27 number in
+      let short = short-27 h in
       let taken : Accepted set = accepted set (first-of-none (setTests set) _ (short .0)) in
       not-true (isCutting (given set) k rs)
       (λ c.

@@ -3,12 +3,11 @@ use mathlib.Core.Path.{_≡_, refl, ap, _∙_}
 use mathlib.Core.Bool.{true}
 use mathlib.Core.List.{List, [], _∷_}
 use Prim.Native.Nat.{ℕ}
-use native.Mathlib.Omega.{arith}
 use lib.Dec.{ltb}
 use lib.ListN.{length}
 use Rattle.word.specs.Reply.{_when_, answer, refusal, replied, firstOf}
 use Rattle.word.proofs.Laws.{parities-lt}
-use Rattle.word.proofs.TestLaws.{replied-answer, replied-number, without, first-applies}
+use Rattle.word.proofs.TestLaws.{replied-answer, without, refused-applies}
 use Rattle.combinations.specs.Combination.{onlyEmpty}
 use Rattle.set_layout.specs.Layout.{widthOf}
 use Rattle.set_file.specs.Reading.{setTests}
@@ -33,10 +32,9 @@ module _ (set : List ℕ) (k l : ℕ) where
   pub seventeen-only-empty : planReply set k l ≡ refusal 17 → Accepted set × (onlyEmpty (widthOf set) (columnsOf set) ≡ true)
   unfolding planReply planTests
   seventeen-only-empty h =
-      let number : firstOf (planTests set k l) ≡ 17 = replied-number (firstOf (planTests set k l)) (partsOf set) 17 h in
       let found =
-      first-applies 17 (onlyEmpty (widthOf set) (columnsOf set)) (earlierTests set k) (18 when ltb l (length (wordsOf set)) ∷ []) (λ z. omega arith)
-      (earlier-without-seventeen set k) refl number
+      refused-applies 17 (onlyEmpty (widthOf set) (columnsOf set)) (earlierTests set k) (18 when ltb l (length (wordsOf set)) ∷ []) (partsOf set)
+      (earlier-without-seventeen set k) refl h
       in
       (accepted set (earlier-set set k (found .0)), found .1)
 

@@ -8,11 +8,11 @@
 --   expectedIn r       the expected bits in planning's reply r
 --   bitsIn r           the expected bits in the reply r of the call that gives them; a refusal's number twice
 --   cutIn r            the number of runs and the control bits in cutting's reply r; a refusal's number alone
---   cutInto rs         whether these runs are a cutting of the set with several runs that leaves 2 words each: 1, or 0 where they aren't
+--   cutInto set k rs   1 where the runs rs are a cutting of the set for k words, 0 where they aren't
 --   indexIn r          judging's reply r as a list: nothing where the signature passes, the index where it fails
 use mathlib.Core.Path.{_≡_, refl}
 use mathlib.Core.Bool.{true, cond}
-use mathlib.Core.List.{List, [], _∷_, _++_}
+use mathlib.Core.List.{List, [], _∷_}
 use Prim.Native.Nat.{ℕ}
 use lib.Count.{ones, onesIn, leadingZeros}
 use lib.ListN.{replicate}
@@ -94,7 +94,7 @@ several : List ℕ
 several =
     4 ∷ 0 ∷ 3 ∷ 0 ∷ 0 ∷ 0 ∷ 0 ∷ 0 ∷ 0 ∷ 0 ∷ 0 ∷ 0 ∷ 0 ∷ 0 ∷ 0 ∷ 0 ∷ 0 ∷ 0 ∷ 3 ∷ 0 ∷ 1 ∷ 0 ∷ 0 ∷ 0 ∷ 0 ∷ 0 ∷ 0 ∷ 0 ∷ 2 ∷ 0 ∷ 0 ∷ 0 ∷ 0 ∷ 0 ∷ 0 ∷ 0 ∷ 4 ∷ 0 ∷ 0 ∷ 0 ∷ 0 ∷ 0 ∷ 0 ∷ 0 ∷ 8 ∷ 0 ∷ 0 ∷ 4 ∷ 2 ∷ 1 ∷ 2 ∷ 0 ∷ 1 ∷ 4 ∷ 1 ∷ 2 ∷ 4 ∷ 1 ∷ 7 ∷ 0 ∷ 1 ∷ 2 ∷ []
 
--- the sample's register and chains without a slice: 36 bytes
+-- the sample's register and chains without a slice: 38 bytes
 sliceless : List ℕ
 sliceless =
     3 ∷ 0 ∷ 3 ∷ 0 ∷ 0 ∷ 0 ∷ 0 ∷ 0 ∷ 0 ∷ 0 ∷ 0 ∷ 0 ∷ 0 ∷ 0 ∷ 0 ∷ 0 ∷ 0 ∷ 0 ∷ 2 ∷ 0 ∷ 1 ∷ 0 ∷ 0 ∷ 0 ∷ 0 ∷ 0 ∷ 0 ∷ 0 ∷ 4 ∷ 0 ∷ 0 ∷ 0 ∷ 0 ∷ 0 ∷ 0 ∷ 0 ∷ 0 ∷ 0 ∷ []
@@ -103,8 +103,8 @@ sliceless =
 abbrev run : ℕ → ℕ → Run
 run a b = record { first = a; end = b }
 
-abbrev cutInto : List Run → List ℕ
-cutInto rs = cond (isCutting (given several) 2 rs) 1 0 ∷ []
+abbrev cutInto : List ℕ → ℕ → List Run → List ℕ
+cutInto set k rs = cond (isCutting (given set) k rs) 1 0 ∷ []
 
 -- what judging gives for the plan made of the sample and the signature y
 abbrev sampleJudged : ℕ → ℕ → Reply Finding
@@ -150,16 +150,16 @@ worked =
     ∷ record { given = wrote (cutReply several 2 3) (startsOf several 2); printed = 0 ∷ 4 ∷ 7 ∷ [] }
     ∷ record { given = cutIn (cutReply several 2 3); printed = 3 ∷ 24 ∷ [] }
     ∷ record { given = cutIn (cutReply several 4 8); printed = 27 ∷ [] }
-    ∷ record { given = cutInto (runsFrom 8 (0 ∷ 4 ∷ 7 ∷ [])); printed = 1 ∷ [] }
-    ∷ record { given = cutInto (runsFrom 8 (0 ∷ 1 ∷ 5 ∷ [])); printed = 1 ∷ [] }
-    ∷ record { given = cutInto (runsFrom 8 (0 ∷ 4 ∷ [])); printed = 0 ∷ [] }
-    ∷ record { given = cutInto (run 1 5 ∷ run 5 8 ∷ []); printed = 0 ∷ [] }
-    ∷ record { given = cutInto (run 0 4 ∷ run 4 7 ∷ []); printed = 0 ∷ [] }
-    ∷ record { given = cutInto (run 0 4 ∷ run 3 5 ∷ run 5 8 ∷ []); printed = 0 ∷ [] }
-    ∷ record { given = cutInto (run 0 4 ∷ run 4 4 ∷ run 4 7 ∷ run 7 8 ∷ []); printed = 0 ∷ [] }
-    ∷ record { given = cutInto []; printed = 0 ∷ [] }
+    ∷ record { given = cutInto several 2 (runsFrom 8 (0 ∷ 4 ∷ 7 ∷ [])); printed = 1 ∷ [] }
+    ∷ record { given = cutInto several 2 (runsFrom 8 (0 ∷ 1 ∷ 5 ∷ [])); printed = 1 ∷ [] }
+    ∷ record { given = cutInto several 2 (runsFrom 8 (0 ∷ 4 ∷ [])); printed = 0 ∷ [] }
+    ∷ record { given = cutInto several 2 (run 1 5 ∷ run 5 8 ∷ []); printed = 0 ∷ [] }
+    ∷ record { given = cutInto several 2 (run 0 4 ∷ run 4 7 ∷ []); printed = 0 ∷ [] }
+    ∷ record { given = cutInto several 2 (run 0 4 ∷ run 3 5 ∷ run 5 8 ∷ []); printed = 0 ∷ [] }
+    ∷ record { given = cutInto several 2 (run 0 4 ∷ run 4 4 ∷ run 4 7 ∷ run 7 8 ∷ []); printed = 0 ∷ [] }
+    ∷ record { given = cutInto several 2 []; printed = 0 ∷ [] }
     ∷ record { given = cutIn (cutReply sliceless 3 0); printed = 0 ∷ 0 ∷ [] }
-    ∷ record { given = cond (isCutting (given sliceless) 3 []) 1 0 ∷ []; printed = 1 ∷ [] }
+    ∷ record { given = cutInto sliceless 3 []; printed = 1 ∷ [] }
     ∷ []
 
 pub worked-agrees : agrees worked ≡ true

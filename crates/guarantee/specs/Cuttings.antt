@@ -3,13 +3,14 @@
 --
 --   Run                 a run: its first slice, and the slice behind its last
 --   isDivision s a rs   the runs rs, in this order, divide the slices a to s - 1: the first begins at a and each later one where the one before it
---                       ends, each has a slice, and the last ends with the last slice
+--                       ends, each has a slice, and the last ends with the last slice; without runs, no slice is left and a is s
 --   eachLeaves g k rs   each of the runs leaves at least k words
 --   isCutting g k rs    a division of all slices into runs that leave at least k words each
 --   runsFrom s l        the runs that are given by their first slices l: each ends where the next begins, and the last with the last of s slices
 --   endBefore s l       where a run ends before runs with the first slices l
---   covers s a rs       the runs rs reach over the slices a to s - 1 and may overlap: none begins behind the end of the one before it
---   isCover g k rs      runs that reach over all slices, may overlap, and leave at least k words each
+--   covers s a rs       the runs rs, in this order, go from slice a to s - 1 and may overlap: the first begins no later than a, each later one no
+--                       later than where the one before it ends, and none ends behind slice s - 1
+--   isCover g k rs      such runs for all slices, that leave at least k words each
 use mathlib.Core.Bool.{Bool, true, _&&_}
 use mathlib.Core.List.{List, [], _∷_}
 use Prim.Native.Nat.{ℕ}

@@ -33,6 +33,9 @@ pub and-right : (a b : Bool) → (a && b) ≡ true → b ≡ true
 and-right true b h = h
 and-right false b h = cc
 
+pub and-both : (a b : Bool) → (a && b) ≡ true → (a ≡ true) × (b ≡ true)
+and-both a b h = (and-left a b h, and-right a b h)
+
 pub or-false-left : (a b : Bool) → (a || b) ≡ false → a ≡ false
 or-false-left true b h = h
 or-false-left false b h = refl

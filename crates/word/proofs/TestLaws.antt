@@ -114,14 +114,20 @@ first-of-without n [] d h = sym h
 first-of-without n ((k when b) ∷ ts) d h =
     without-next n k b ts d h (first-of-without n ts (and-right (not (eqb k n && b)) (without n ts) d))
 
--- .. and where n is the first of a list in which it stands once, none before it applies, and its own test does
-pub first-applies : (n : ℕ) (b : Bool) (ts us : List Test) → (n ≡ 0 → ⊥) → without n ts ≡ true → without n us ≡ true
+-- .. so where n is the first number, and no other test with it applies, none before it applies and its own test does
+first-applies : (n : ℕ) (b : Bool) (ts us : List Test) → (n ≡ 0 → ⊥) → without n ts ≡ true → without n us ≡ true
     → firstOf (ts ++ n when b ∷ us) ≡ n → (firstOf ts ≡ 0) × (b ≡ true)
 first-applies n true [] us z d e h = (refl, refl)
 first-applies n false [] us z d e h = absurd (z (first-of-without n us e h))
 first-applies n b (k when true ∷ ts) us z d e h = absurd (z (first-of-without n (k when true ∷ ts) d h))
 first-applies n b (k when false ∷ ts) us z d e h =
     first-applies n b ts us z (and-right (not (eqb k n && false)) (without n ts) d) e h
+
+-- .. which is what a refusal with the number n says
+pub refused-applies : {A : Type 0} (n : ℕ) (b : Bool) (ts us : List Test) (a : A) → without n ts ≡ true → without n us ≡ true
+    → replied (firstOf (ts ++ n when b ∷ us)) a ≡ refusal n → (firstOf ts ≡ 0) × (b ≡ true)
+refused-applies n b ts us a d e h =
+    first-applies n b ts us (replied-not-zero (firstOf (ts ++ n when b ∷ us)) a n h) d e (replied-number (firstOf (ts ++ n when b ∷ us)) a n h)
 
 -- a number that doesn't apply is not the refusal's
 pub never : {A : Type 0} (n : ℕ) (ts : List Test) (a : A) → (n ≡ 0 → ⊥) → without n ts ≡ true → replied (firstOf ts) a ≡ refusal n → ⊥
