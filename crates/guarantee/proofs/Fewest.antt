@@ -10,7 +10,11 @@
 --   cut-27-only      27 is given only where no cutting exists
 --   cut-27-always    .. and always then, if none of the set's numbers applies and 26 doesn't, however long the cut list is
 --
--- Beside them firsts-give: a division is given by the first slices of its runs. Assumes nothing.
+-- Beside them, for cuttings given by their first slices:
+--
+--   firsts-give      any division is given by the first slices of its runs
+--   runs-count       a list of first slices gives as many runs as it has slices
+-- Assumes nothing.
 use mathlib.Core.Path.{_≡_, refl, sym, ap, ap₂, _∙_}
 use mathlib.Core.Bool.{Bool, true, false, _&&_}
 use mathlib.Core.Logic.{⊎-elim}
@@ -20,7 +24,7 @@ use native.Mathlib.Nat.{eq-or-lt-of-le, mul-le-mul-left}
 use native.Mathlib.Omega.{arith}
 use borrow.Author.Tests.{le-leb, le-ltb, lt-ltb, eq-eqb, leb-true, ltb-true, ltb-false, eqb-true}
 use lib.Dec.{eqb, leb, ltb}
-use lib.ListN.{length, take}
+use lib.ListN.{length, length-map, take}
 use Rattle.word.specs.Reply.{Test, _when_, answer, refusal, replied, firstOf}
 use Rattle.word.proofs.BoolLaws.{and-intro, and-both, not-true, true-not-false}
 use Rattle.word.proofs.ReplyLaws.{answered-part}
@@ -86,6 +90,9 @@ module _ (s : ℕ) where
   unfolding runsFrom
   runs-firsts [] = refl
   runs-firsts (b ∷ l) = ap (λ (x : List ℕ). b ∷ x) (runs-firsts l)
+
+  pub runs-count : (l : List ℕ) → length (runsFrom s l) ≡ length l
+  runs-count l = sym (length-map (runsFrom s l) (λ r. r .first)) ∙ ap length (runs-firsts l)
 
   next-at : (e : ℕ) (l : List ℕ) → isDivision s e (runsFrom s l) ≡ true → endBefore s l ≡ e
   next-at e l h = ap (endBefore s) (sym (runs-firsts l)) ∙ firsts-at e (runsFrom s l) h
