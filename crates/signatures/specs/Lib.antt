@@ -1,5 +1,6 @@
 pub mod Signature
 pub mod Later
 pub mod Columns
+pub mod Symbols
 pub mod Given
 pub mod Sets

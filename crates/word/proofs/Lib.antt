@@ -5,6 +5,7 @@ pub mod Laws
 pub mod ParityLaws
 pub mod WordLaws
 pub mod SpanLaws
+pub mod XorLaws
 pub mod FrontLaws
 pub mod ReplyLaws
 pub mod TestLaws

@@ -7,7 +7,7 @@ use Prim.Native.Nat.{ℕ, zero, suc, _<_, suc-le-suc}
 use native.Mathlib.Nat.{not-suc-le-zero, zero-lt-suc, lt-suc-self, le-step, eq-or-lt-of-le, le-of-suc-le-suc}
 use lib.ListN.{length, getD}
 use Rattle.word.specs.Some.{anyBelow, anyOf}
-use Rattle.word.proofs.BoolLaws.{or-false-left, or-false-right, or-false, or-true-left, or-true-right}
+use Rattle.word.proofs.BoolLaws.{true-not-false, or-cases, or-false-left, or-false-right, or-false, or-true-left, or-true-right}
 
 -- ---- a range
 
@@ -29,6 +29,15 @@ any-below-true zero f k l h = absurd (not-suc-le-zero l)
 any-below-true (suc n) f k l h =
     ⊎-elim (λ (e : k ≡ n). or-true-right (anyBelow n f) (f n) (rw e at h))
     (λ (m : k < n). or-true-left (anyBelow n f) (f n) (any-below-true n f k m h)) (eq-or-lt-of-le (le-of-suc-le-suc l))
+
+-- .. and then some number below n does
+pub any-below-some : (n : ℕ) (f : ℕ → Bool) → anyBelow n f ≡ true → (k : ℕ) × (k < n) × (f k ≡ true)
+unfolding anyBelow
+any-below-some zero f h = absurd (true-not-false true refl (sym h))
+any-below-some (suc n) f h =
+    ⊎-elim
+    (λ (p : anyBelow n f ≡ true). let found = any-below-some n f p in (found .0, le-step (found .1), found .2))
+    (λ (p : f n ≡ true). (n, lt-suc-self n, p)) (or-cases (anyBelow n f) (f n) h)
 
 pub any-below-ext : (n : ℕ) (f g : ℕ → Bool) → ((k : ℕ) → k < n → f k ≡ g k) → anyBelow n f ≡ anyBelow n g
 unfolding anyBelow

@@ -1,0 +1,1 @@
+// Ties: entries in a list of bytes.
