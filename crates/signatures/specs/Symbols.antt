@@ -2,6 +2,8 @@
 -- listed where its first cell was".
 --
 --   symbolColumn k s e j      the column of symbol number j: the XOR of the columns of the cells that entries of e name with it
+--   namedColumns k s e        the columns of the named symbols, in the order of their first cells
+--   sideColumns k s e         the XOR of the columns of the cells that take the opposite of their symbol
 --   columnAt k s e t c        the column that is listed at the cell of slice t and chain c: its symbol's, or its own where it is free
 --   listing f u n t           f's words of the cells that u marks in the first t slices of n chains, by slice and then by chain
 --   symbolColumns k s u e     the columns of all symbols, where u marks the unknown cells
@@ -16,12 +18,19 @@ use Rattle.numbers.specs.Joined.{joined}
 use Rattle.rows.specs.Row.{Cells}
 use Rattle.rows.specs.Marks.{listed, total}
 use Rattle.ties.specs.Ties.{Ties}
-use Rattle.ties.specs.Symbols.{naming, firstMarks}
+use Rattle.ties.specs.Symbols.{flag, naming, firstMarks}
+use Rattle.chains.specs.Driven.{chosen}
 use Rattle.register.specs.Circuit.{Circuit, chains}
 use Rattle.signatures.specs.Signature.{Response, column}
 
 unfoldable pub symbolColumn : Circuit → ℕ → Ties → ℕ → ℕ
 symbolColumn k s e j = xorBelow (e .count) (λ i. cond {A = ℕ} (eqb (e .symbol i) j) (column k s (e .slice i) (e .chain i)) 0)
+
+unfoldable pub namedColumns : Circuit → ℕ → Ties → List ℕ
+namedColumns k s e = joined (λ i. listed (flag e i) (symbolColumn k s e (e .symbol i))) (e .count)
+
+unfoldable pub sideColumns : Circuit → ℕ → Ties → ℕ
+sideColumns k s e = xorBelow (e .count) (λ i. chosen (e .side i) (column k s (e .slice i) (e .chain i)))
 
 abbrev pub sourceColumn : Circuit → ℕ → Ties → ℕ → ℕ → Option ℕ → ℕ
 sourceColumn k s e t c none = column k s t c

@@ -8,10 +8,17 @@
 --   namedSymbols e      the number of named symbols
 --   freeMarks u e t c   the marks of the unnamed cells among those that u marks
 --   firstMarks u e t c  .. with those of the first cell of each named symbol: where a symbol's column is listed
-use mathlib.Core.Bool.{Bool, cond, not, _&&_}
+--   flag e i            1 where entry i is the first with its symbol number, and else 0
+--   unmarked u e ks t c the marks u without those of the cells that entries of e name whose flag in the list ks is 0; past its end it is
+--   Within s n e        the entries of e are at most 256, and their cells lie in s slices and n chains
+--   Sound s n u e       what 29 to 31 leave: each entry names an unknown cell that is there, no two the same, and its side is 0 or 1
+use mathlib.Core.Path.{_≡_}
+use mathlib.Core.Bool.{Bool, cond, not, false, _&&_}
+use mathlib.Core.List.{List}
 use mathlib.Core.Option.{Option, none, some}
-use Prim.Native.Nat.{ℕ, zero, suc}
+use Prim.Native.Nat.{ℕ, zero, suc, _≤_, _<_}
 use lib.Dec.{eqb}
+use lib.ListN.{getD}
 use Rattle.word.specs.Some.{anyBelow}
 use Rattle.rows.specs.Row.{Cells}
 use Rattle.rows.specs.Marks.{total}
@@ -34,8 +41,11 @@ naming e t c = namingBelow e (e .count) t c
 unfoldable pub opens : Ties → ℕ → Bool
 opens e i = not (anyBelow i (λ h. eqb (e .symbol h) (e .symbol i)))
 
+abbrev pub flag : Ties → ℕ → ℕ
+flag e i = cond (opens e i) 1 0
+
 unfoldable pub namedSymbols : Ties → ℕ
-namedSymbols e = total (e .count) (λ i. cond (opens e i) 1 0)
+namedSymbols e = total (e .count) (flag e)
 
 abbrev pub freeMark : ℕ → Option ℕ → ℕ
 freeMark d none = d
@@ -46,7 +56,22 @@ freeMarks u e t c = freeMark (u t c) (naming e t c)
 
 abbrev pub firstMark : Ties → ℕ → Option ℕ → ℕ
 firstMark e d none = d
-firstMark e d (some i) = cond (opens e i) 1 0
+firstMark e d (some i) = flag e i
 
 unfoldable pub firstMarks : (ℕ → Cells) → Ties → ℕ → Cells
 firstMarks u e t c = firstMark e (u t c) (naming e t c)
+
+abbrev pub unmarked : (ℕ → Cells) → Ties → List ℕ → ℕ → Cells
+unmarked u e ks t c = cond (anyBelow (e .count) (λ i. names e i t c && eqb (getD ks i 0) 0)) 0 (u t c)
+
+pub record Within (s n : ℕ) (e : Ties) : Type 0 where
+  pub few : e .count ≤ 256
+  pub slices : (i : ℕ) → i < e .count → e .slice i < s
+  pub chains : (i : ℕ) → i < e .count → e .chain i < n
+
+pub record Sound (s n : ℕ) (u : ℕ → Cells) (e : Ties) : Type 0 where
+  pub slices : (i : ℕ) → i < e .count → e .slice i < s
+  pub chains : (i : ℕ) → i < e .count → e .chain i < n
+  pub unknown : (i : ℕ) → i < e .count → u (e .slice i) (e .chain i) ≡ 1
+  pub apart : (h i : ℕ) → h < i → i < e .count → names e h (e .slice i) (e .chain i) ≡ false
+  pub sides : (i : ℕ) → i < e .count → e .side i < 2
