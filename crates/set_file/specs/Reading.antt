@@ -1,12 +1,16 @@
 -- The set reader. Document 01: "The set reader answers with m, the tap word, n, s and 256 spread words, zero from n on"; "A word later
 -- added to the set's register section is answered by the set reader", the inversion word of document 02, No. 1, whose 25 is "checked
 -- after 3" and with which refusal 1 "now means fewer than 18 bytes"; "An array that belongs to an answer stands beside it and is all
--- zero in a refusal"; the register "starts at zero".
+-- zero in a refusal"; the register "starts at zero". Document 02, No. 7: "Refusal 8 takes in the new section, and a count that is absent or
+-- above 256"; 29, 30 and 31 "in that order directly after 10".
 --
 --   badSlices set        document 01, 7: the slice count is absent or above 512
+--   wrongLength set      document 02, 8: the set's length isn't what its counts give, or the count of ties is above 256. Where that count is
+--                        absent, the length isn't what the counts give either: it takes 2 bytes
 --   spareInRows set      document 01, 9: a row of the set has a spare bit set
 --   valuedInRows set     document 01, 10: an unknown cell has its value bit set
---   setTests set         the numbers 1, 2, 3, 25 and 4 to 10, in order
+--   wrongTies set        document 02, 29: an entry names a cell that is absent or not unknown
+--   setTests set         the numbers 1, 2, 3, 25, 4 to 10, and 29 to 31, in order
 --   SetParts             what the reader answers
 --   setPartsOf set       .. of the set: m, the tap word, the inversion word, n and s
 --   setReply set         its reply
@@ -24,9 +28,10 @@ use lib.ListN.{length, take}
 use Rattle.word.specs.Word.{badWidth}
 use Rattle.word.specs.Reply.{Test, _when_, Reply, answer, refusal, firstOf, reply, lent}
 use Rattle.rows.specs.Lists.{spareIn, valuedUnknown}
+use Rattle.ties.specs.Ties.{mostTies, wrongCells, wrongOrder, wrongSides}
 use Rattle.register.specs.Circuit.{Circuit, circuit, badTaps, badInversion, badChains, tooManySlices}
 use Rattle.chains.specs.Driven.{badSpread}
-use Rattle.set_layout.specs.Layout.{chainsAt, spreadAt, slicesAt, headLength, setLength, widthOf, tapsOf, inversionOf, chainsOf, spreadOf, slicesOf, circuitOf, valueRow, markRow, noWords}
+use Rattle.set_layout.specs.Layout.{chainsAt, spreadAt, slicesAt, headLength, setLength, widthOf, tapsOf, inversionOf, chainsOf, spreadOf, slicesOf, circuitOf, valueRow, markRow, marks, tieCountOf, tiesOf, noWords}
 use Rattle.set_file.specs.declared.SetAnswer.{SetAnswer}
 use Rattle.set_file.specs.declared.SetAnswer.the-variants.{Read, Refused}
 use Rattle.set_file.specs.declared.Taken.{Taken}
@@ -34,11 +39,17 @@ use Rattle.set_file.specs.declared.Taken.{Taken}
 unfoldable pub badSlices : List ℕ → Bool
 badSlices set = ltb (length set) (headLength (chainsOf set)) || tooManySlices (slicesOf set)
 
+abbrev pub wrongLength : List ℕ → Bool
+wrongLength set = ltb mostTies (tieCountOf set) || not (eqb (length set) (setLength (chainsOf set) (slicesOf set) (tieCountOf set)))
+
 abbrev pub spareInRows : List ℕ → Bool
 spareInRows set = spareIn (chainsOf set) (valueRow set) (slicesOf set) || spareIn (chainsOf set) (markRow set) (slicesOf set)
 
 abbrev pub valuedInRows : List ℕ → Bool
 valuedInRows set = valuedUnknown (chainsOf set) (valueRow set) (markRow set) (slicesOf set)
+
+abbrev pub wrongTies : List ℕ → Bool
+wrongTies set = wrongCells (slicesOf set) (chainsOf set) (marks set) (tiesOf set)
 
 unfoldable pub setTests : List ℕ → List Test
 setTests set =
@@ -50,9 +61,12 @@ setTests set =
     ∷ 5 when ltb (length set) (slicesAt (chainsOf set))
     ∷ 6 when badSpread (widthOf set) (spreadOf set)
     ∷ 7 when badSlices set
-    ∷ 8 when not (eqb (length set) (setLength (chainsOf set) (slicesOf set)))
+    ∷ 8 when wrongLength set
     ∷ 9 when spareInRows set
     ∷ 10 when valuedInRows set
+    ∷ 29 when wrongTies set
+    ∷ 30 when wrongOrder (tiesOf set)
+    ∷ 31 when wrongSides (tiesOf set)
     ∷ []
 
 pub record SetParts : Type 0 where

@@ -1,6 +1,7 @@
 -- The set file. Document 01, "Files": "Set: m, then the tap word; n, then n spread words; s, then s slices, each a value row
 -- and a row of unknown marks. An unknown cell's value bit is 0." Document 02, No. 1: "The set's register section gets an inversion
--- word after the tap word".
+-- word after the tap word". Document 02, No. 7: "After its slices a set carries a count of 0 to 256, then entries: slice, chain and symbol number
+-- (2 bytes each) and a byte, 0 for as is, 1 for opposite."
 --
 --   tapsAt              the place of the tap word; m stands at place 0
 --   inversionAt         the place of the inversion word
@@ -11,7 +12,9 @@
 --   rowsAt n            the place of the first row
 --   valueAt n t         the place of slice t's value row
 --   markAt n t          the place of slice t's row of unknown marks
---   setLength n s       the bytes of a set of n chains and s slices
+--   tieCountAt n s      the place of the count of ties, behind the last of s slices
+--   tiesAt n s          the place of the first entry
+--   setLength n s k     the bytes of a set of n chains, s slices and k entries
 --   widthOf set         document 01: m
 --   tapsOf set          the tap word
 --   inversionOf set     the inversion word
@@ -25,6 +28,9 @@
 --   marksOf set         .. and their rows of unknown marks
 --   values set t c      the value bit of chain c in slice t
 --   marks set t c       its mark: 1 where the cell is unknown
+--   tieCountOf set      the count of ties
+--   tieBytes set        the entries, without their count
+--   tiesOf set          .. as ties
 --   noWords             256 zero words
 use mathlib.Core.List.{List}
 use Prim.Native.Nat.{ℕ, _+_, _*_}
@@ -32,6 +38,7 @@ use lib.ListN.{take, drop, replicate}
 use Rattle.numbers.specs.Bytes.{countAt, wordAt, wordsAt}
 use Rattle.numbers.specs.Joined.{joined}
 use Rattle.rows.specs.Row.{Cells, cell, rowBytes}
+use Rattle.ties.specs.Ties.{Ties, entryBytes, tiesIn}
 use Rattle.register.specs.Circuit.{Circuit, circuit}
 
 -- ---- the places, each from the one before
@@ -63,8 +70,14 @@ valueAt n t = rowsAt n + 2 * rowBytes n * t
 abbrev pub markAt : ℕ → ℕ → ℕ
 markAt n t = valueAt n t + rowBytes n
 
-abbrev pub setLength : ℕ → ℕ → ℕ
-setLength n s = rowsAt n + 2 * rowBytes n * s
+abbrev pub tieCountAt : ℕ → ℕ → ℕ
+tieCountAt n s = valueAt n s
+
+abbrev pub tiesAt : ℕ → ℕ → ℕ
+tiesAt n s = tieCountAt n s + 2
+
+abbrev pub setLength : ℕ → ℕ → ℕ → ℕ
+setLength n s k = tiesAt n s + entryBytes * k
 
 -- ---- the parts
 
@@ -106,6 +119,15 @@ values set t = cell (valueRow set t)
 
 abbrev pub marks : List ℕ → ℕ → Cells
 marks set t = cell (markRow set t)
+
+abbrev pub tieCountOf : List ℕ → ℕ
+tieCountOf set = countAt set (tieCountAt (chainsOf set) (slicesOf set))
+
+unfoldable pub tieBytes : List ℕ → List ℕ
+tieBytes set = take (entryBytes * tieCountOf set) (drop (tiesAt (chainsOf set) (slicesOf set)) set)
+
+abbrev pub tiesOf : List ℕ → Ties
+tiesOf set = tiesIn (tieBytes set) (tieCountOf set)
 
 unfoldable pub noWords : List ℕ
 noWords = replicate 256 0

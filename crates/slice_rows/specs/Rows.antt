@@ -1,12 +1,14 @@
--- One slice's rows. Document 01: "A caller may have the value row or mark row of one slice. That answer is the stretch of the
+-- One slice's rows, and the entries of ties. Document 01: "A caller may have the value row or mark row of one slice. That answer is the stretch of the
 -- set file itself. Where the call declines, the stretch is empty (a row has at least one byte), and a companion call on the
--- same input gives the number."
+-- same input gives the number." And: "A list later added to the set [..] comes back as the file's own stretch", which may be empty in an
+-- answer too: there the companion tells.
 --
 --   rowTests set t      the set's numbers, then 11: the slice number isn't below s
 --   Stretch             a part of the set: its first byte and how many
 --   rowReply set t i    the companion's reply, for the row of slice t that stands at place i
 --   valueReply set t    .. for its value row
 --   markReply set t     .. for its row of unknown marks
+--   tiesReply set       .. for the entries of ties, without their count: it meets the set's numbers alone
 --   stretch r set       the part of the set that the reply r names; nothing in a refusal
 --   stretchAt r         the place of its first byte in the set; 0 in a refusal
 --   saidPlace p         the paper's reading of what the companion hands back
@@ -17,7 +19,8 @@ use lib.Dec.{ltb}
 use lib.ListN.{take, drop}
 use Rattle.word.specs.Reply.{Test, _when_, Reply, answer, refusal, reply}
 use Rattle.rows.specs.Row.{rowBytes}
-use Rattle.set_layout.specs.Layout.{chainsOf, slicesOf, valueAt, markAt}
+use Rattle.ties.specs.Ties.{entryBytes}
+use Rattle.set_layout.specs.Layout.{chainsOf, slicesOf, valueAt, markAt, tiesAt, tieCountOf}
 use Rattle.set_file.specs.Reading.{setTests}
 use Rattle.slice_rows.specs.declared.Place.{Place}
 use Rattle.slice_rows.specs.declared.Place.the-variants.{At, Declined}
@@ -37,6 +40,9 @@ valueReply set t = rowReply set t (valueAt (chainsOf set) t)
 
 abbrev pub markReply : List ℕ → ℕ → Reply Stretch
 markReply set t = rowReply set t (markAt (chainsOf set) t)
+
+unfoldable pub tiesReply : List ℕ → Reply Stretch
+tiesReply set = reply (setTests set) (record { start = tiesAt (chainsOf set) (slicesOf set); bytes = entryBytes * tieCountOf set })
 
 abbrev pub stretch : Reply Stretch → List ℕ → List ℕ
 stretch (answer p) set = take (p .bytes) (drop (p .start) set)
