@@ -1,22 +1,24 @@
--- The set's chains and spread words: how many, and which stands where. Assumes nothing.
+-- The set's chains, spread words and ties: how many, and which stands where. Assumes nothing.
 use mathlib.Core.Path.{_≡_, refl, sym, ap, ap₂, _∙_}
 use mathlib.Core.Bool.{false}
 use mathlib.Core.List.{List, []}
 use Prim.Native.Nat.{ℕ, _+_, _*_, _≤_, _<_}
-use native.Mathlib.Nat.{mul-le-mul-left, le-trans}
+use native.Mathlib.Nat.{mul-assoc, mul-le-mul-left, le-trans}
 use native.Mathlib.Numerals.{add-one}
 use native.Mathlib.Omega.{arith}
 use borrow.Author.Tests.{ltb-false}
 use lib.Dec.{ltb}
-use lib.ListN.{length, getD, take, set}
+use lib.ListN.{length, getD, take, drop, set}
 use lib.Seq.{take-all}
-use Rattle.numbers.specs.Bytes.{wordAt, wordsAt}
+use Rattle.numbers.specs.Bytes.{countAt, wordAt, wordsAt}
 use Rattle.word.specs.Reply.{front}
 use Rattle.word.proofs.BoolLaws.{or-false-left, or-false-right}
 use Rattle.word.proofs.FrontLaws.{front-next, front-nothing}
 use Rattle.numbers.proofs.FileLaws.{word-at-place}
+use Rattle.rows.specs.Row.{rowBytes}
+use Rattle.ties.specs.Ties.{entryBytes}
 use Rattle.register.specs.Circuit.{badChains}
-use Rattle.set_layout.specs.Layout.{spreadAt, chainsOf, spreadOf, noWords}
+use Rattle.set_layout.specs.Layout.{spreadAt, tieCountAt, tiesAt, chainsOf, spreadOf, slicesOf, tieCountOf, tieBytes, noWords}
 use Rattle.numbers.proofs.ByteLaws.{length-words-at}
 
 pub good-chains : (n : ℕ) → badChains n ≡ false → (1 ≤ n) × (n ≤ 256)
@@ -24,9 +26,13 @@ unfolding badChains
 good-chains n h =
     (ltb-false n 1 (or-false-left (ltb n 1) (ltb 256 n) h), ltb-false 256 n (or-false-right (ltb n 1) (ltb 256 n) h))
 
--- counts of 2 bytes keep a set's length small
+-- counts of 2 bytes keep the rows small, and with them the place behind the last of them
 pub rows-small : (b s : ℕ) → b ≤ 8192 → s ≤ 65536 → b * s ≤ 536870912
 rows-small b s hb hs = le-trans (mul-le-mul-left b hs) (omega arith)
+
+pub slices-end-small : (n s : ℕ) → n < 65536 → s < 65536 → tieCountAt n s ≤ 1074266126
+slices-end-small n s hn hs =
+    omega (arith, rows-small (rowBytes n) s (omega arith) (omega arith), mul-assoc 2 (rowBytes n) s)
 
 pub spread-length : (set : List ℕ) → length (spreadOf set) ≡ chainsOf set
 spread-length set = length-words-at set spreadAt (chainsOf set)
@@ -70,3 +76,14 @@ pub spread-whole : (l ws : List ℕ) → ws ≡ front (take 256 (spreadOf l)) no
 spread-whole l ws e h =
     let few : length (spreadOf l) ≤ 256 = omega (arith, spread-length l, h) in
     e ∙ ap (λ (x : List ℕ). front x noWords) (take-all 256 (spreadOf l) few)
+
+-- ---- the ties
+
+module _ (set : List ℕ) (n s : ℕ) (en : n ≡ chainsOf set) (es : s ≡ slicesOf set) where
+  pub tie-count-of : (at k : ℕ) → at ≡ tieCountAt n s → k ≡ countAt set at → k ≡ tieCountOf set
+  tie-count-of at k ea ek = ek ∙ ap (countAt set) (ea ∙ ap₂ tieCountAt en es)
+
+  pub tie-bytes-of : (at k : ℕ) (l : List ℕ) → at ≡ tiesAt n s → k ≡ tieCountOf set → l ≡ take (entryBytes * k) (drop at set) → l ≡ tieBytes set
+  unfolding tieBytes
+  tie-bytes-of at k l ea ek el =
+      el ∙ ap₂ (λ (x y : ℕ). take (entryBytes * x) (drop y set)) ek (ea ∙ ap₂ tiesAt en es)

@@ -1,4 +1,4 @@
--- The slices of a set: its rows lie one after the other, value row and mark row in turn.
+-- The slices of a set: its rows lie one after the other, value row and mark row in turn; its ties lie behind them.
 --
 --   rowsOf set          the rows of a set, from its first
 --   value-row-of        slice t's value row is row 2 t of them
@@ -6,6 +6,7 @@
 --   slice-of            slice t is a part of two rows of them
 --   slice-inside        a set of the right length holds each of its slices
 --   value-row-length    .. and each row has its bytes
+--   tie-bytes-length    .. and its entries theirs
 --   value-rows-row      row t of the value rows, by their place and stride
 -- Assumes nothing.
 use mathlib.Core.Path.{_≡_, sym, ap, ap₂, _∙_}
@@ -20,7 +21,8 @@ use Rattle.rows.specs.Row.{rowBytes}
 use Rattle.rows.specs.Lists.{listRow, rowOf}
 use Rattle.rows.specs.declared.Rows.{Rows}
 use Rattle.rows.proofs.CellLaws.{row-step}
-use Rattle.set_layout.specs.Layout.{rowsAt, setLength, chainsOf, slicesOf, valueAt, markAt, valueRow, markRow}
+use Rattle.ties.specs.Ties.{entryBytes}
+use Rattle.set_layout.specs.Layout.{rowsAt, setLength, chainsOf, slicesOf, valueAt, markAt, valueRow, markRow, tieCountOf, tieBytes}
 
 abbrev pub rowsOf : List ℕ → List ℕ
 rowsOf set = drop (rowsAt (chainsOf set)) set
@@ -62,7 +64,7 @@ module _ (set : List ℕ) where
 
   -- ---- a set of the right length
 
-  module _ (long : length set ≡ setLength (chainsOf set) (slicesOf set)) where
+  module _ (long : length set ≡ setLength (chainsOf set) (slicesOf set) (tieCountOf set)) where
     pub slice-inside : (t : ℕ) → t < slicesOf set → markAt (chainsOf set) t + rowBytes (chainsOf set) ≤ length set
     slice-inside t l = omega (arith, row-step (2 * rowBytes (chainsOf set)) t (slicesOf set) l)
 
@@ -73,6 +75,10 @@ module _ (set : List ℕ) where
     pub mark-row-length : (t : ℕ) → t < slicesOf set → length (markRow set t) ≡ rowBytes (chainsOf set)
     unfolding markRow
     mark-row-length t l = simp (length-take, length-drop) (omega (arith, slice-inside t l))
+
+    pub tie-bytes-length : length (tieBytes set) ≡ entryBytes * tieCountOf set
+    unfolding tieBytes
+    tie-bytes-length = simp (length-take, length-drop) (omega (arith, long))
 
   -- ---- the rows by their place and stride: what `value_rows` and `mark_rows` promise of r
 

@@ -1,12 +1,12 @@
-// The set file of document 01: where each of its parts stands, and the parts before its rows, as the set gives them. It sees
-// numbers, rows and the register's limits; it knows no refusal. A part past the end of the set counts as 0. Every function is
+// The set file of document 01: where each of its parts stands, and the parts before and behind its rows, as the set gives them. It sees
+// numbers, rows, ties and the register's limits; it knows no refusal. A part past the end of the set counts as 0. Every function is
 // total.
 ghost use mathlib.Core.Path.{_≡_};
 ghost use Prim.Native.Nat.{_*_, _≤_};
 ghost use lib.ListN.{take};
 ghost use Rattle.word.specs.Reply.{front};
 ghost use Rattle.rows.specs.Row.{rowBytes};
-ghost use Rattle.set_layout.specs.Layout.{slicesAt, rowsAt, setLength, widthOf, tapsOf, inversionOf, chainsOf, spreadOf, slicesOf, valueAt, markAt, noWords};
+ghost use Rattle.set_layout.specs.Layout.{slicesAt, rowsAt, tieCountAt, tiesAt, setLength, widthOf, tapsOf, inversionOf, chainsOf, spreadOf, slicesOf, valueAt, markAt, tieCountOf, tieBytes, noWords};
 
 // The places of the tap word, of the inversion word, of n and of the first spread word; m stands at place 0.
 pub const TAPS_AT: usize = 2;
@@ -47,11 +47,26 @@ pub fn value_at(n: u16, t: u16) -> usize
     rows_at(n) + 2 * rows_length(n, t)
 }
 
-// The bytes of a set of n chains and s slices.
-pub fn set_length(n: u16, s: u16) -> usize
-    ensures { λ r. ⌜ r ≡ setLength n s ⌝ }
+// The place of the count of ties, for n chains: behind the last of s slices.
+pub fn tie_count_at(n: u16, s: u16) -> usize
+    ensures { λ r. ⌜ r ≡ tieCountAt n s ⌝ }
 {
     value_at(n, s)
+}
+
+// The place of the first entry of ties, for n chains and s slices.
+pub fn ties_at(n: u16, s: u16) -> usize
+    ensures { λ r. ⌜ r ≡ tiesAt n s ⌝ }
+{
+    tie_count_at(n, s) + 2
+}
+
+// The bytes of a set of n chains, s slices and k entries of ties.
+pub fn set_length(n: u16, s: u16, k: u16) -> usize
+    ensures { λ r. ⌜ r ≡ setLength n s k ⌝ }
+{
+    let entries = k as usize;
+    ties_at(n, s) + ties::ENTRY_BYTES * entries
 }
 
 // m, as the set gives it.
@@ -87,6 +102,25 @@ pub fn slice_count(set: &[u8]) -> u16
     ensures { λ r. ⌜ r ≡ slicesOf (now (set .entry)) ⌝ }
 {
     numbers::read_count(set, slices_at(chain_count(set))) as u16
+}
+
+// The count of ties, as the set gives it.
+pub fn tie_count(set: &[u8]) -> u16
+    ensures { λ r. ⌜ r ≡ tieCountOf (now (set .entry)) ⌝ }
+{
+    let n = chain_count(set);
+    let s = slice_count(set);
+    numbers::read_count(set, tie_count_at(n, s)) as u16
+}
+
+// The entries of ties, without their count, as far as they are there: a part of the set itself.
+pub fn tie_bytes(set: &[u8]) -> &[u8]
+    ensures { λ r. ⌜ now r ≡ tieBytes (now (set .entry)) ⌝ }
+{
+    let n = chain_count(set);
+    let s = slice_count(set);
+    let entries = tie_count(set) as usize;
+    numbers::part(set, ties_at(n, s), ties::ENTRY_BYTES * entries)
 }
 
 // 256 zero words.
