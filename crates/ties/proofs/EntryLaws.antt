@@ -1,22 +1,27 @@
--- One entry's tests, from what its readers ensure.
+-- One entry's tests, from what its readers ensure, and the tests of all entries.
 --
 --   wrong-cell-of      the cell's mark as it is read
 --   precedes-of        the next entry's slice and chain as they are read
 --   side-above         a last byte above 1, as it is read
 --   side-within        .. and one that isn't
+--   tie-tests-none     no number applies where there is no entry
+--   tie-tests-marks    the same marks give the same numbers
 -- Assumes nothing.
-use mathlib.Core.Path.{_≡_, ap, ap₂, _∙_}
-use mathlib.Core.Bool.{true, false, not, _&&_, _||_}
+use mathlib.Core.Path.{_≡_, refl, ap, ap₂, _∙_}
+use mathlib.Core.Bool.{Bool, true, false, cond, not, _&&_, _||_}
 use mathlib.Core.List.{List}
 use Prim.Native.Nat.{ℕ, suc, _+_, _*_, _≤_, _<_}
 use native.Mathlib.Numerals.{add-one}
 use borrow.Author.Tests.{lt-ltb, le-ltb}
 use lib.Dec.{eqb, ltb}
+use Rattle.word.specs.Reply.{firstOf}
+use Rattle.word.specs.Some.{anyBelow}
+use Rattle.word.proofs.SomeLaws.{any-below-ext}
 use Rattle.numbers.specs.Bytes.{countAt}
-use Rattle.rows.specs.Row.{cell}
+use Rattle.rows.specs.Row.{Cells, cell}
 use Rattle.rows.specs.Lists.{rowOf, cellsOf}
 use Rattle.rows.specs.declared.Rows.{Rows}
-use Rattle.ties.specs.Ties.{entryBytes, tiesIn, wrongCell, precedes}
+use Rattle.ties.specs.Ties.{Ties, entryBytes, tiesIn, wrongCell, wrongCells, precedes, wrongOrder, wrongSides, tieTests}
 
 pub wrong-cell-of : (s n : ℕ) (list row ties : List ℕ) (marks : Rows) (i t c d : ℕ) → t ≡ countAt ties (entryBytes * i)
     → c ≡ countAt ties (entryBytes * i + 2) → row ≡ rowOf list marks t → d ≡ cell row c
@@ -42,3 +47,16 @@ module _ (b x : ℕ) (e : b ≡ x) where
 
   pub side-within : b ≤ 1 → ltb 1 x ≡ false
   side-within h = le-ltb 1 x (rw e at h)
+
+-- ---- all entries
+
+pub tie-tests-none : (s n : ℕ) (u : ℕ → Cells) (e : Ties) → e .count ≡ 0 → 0 ≡ firstOf (tieTests s n u e)
+unfolding wrongCells wrongOrder wrongSides anyBelow
+tie-tests-none s n u e z = rw z refl
+
+pub tie-tests-marks : (s n : ℕ) (u v : ℕ → Cells) (e : Ties) → ((t c : ℕ) → u t c ≡ v t c) → firstOf (tieTests s n u e) ≡ firstOf (tieTests s n v e)
+unfolding wrongCells wrongCell
+tie-tests-marks s n u v e same =
+    ap (λ (b : Bool). cond b 29 (cond (wrongOrder e) 30 (cond (wrongSides e) 31 0)))
+    (any-below-ext (e .count) (wrongCell s n u e) (wrongCell s n v e)
+    (λ i l. ap (λ (x : ℕ). not (ltb (e .slice i) s && (ltb (e .chain i) n && eqb x 1))) (same (e .slice i) (e .chain i))))

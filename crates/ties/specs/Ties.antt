@@ -14,11 +14,13 @@
 --   precedes e i        entry i comes before the next one, by slice and then by chain
 --   wrongOrder e        document 02, 30: some entry doesn't
 --   wrongSides e        document 02, 31: a last byte is above 1
+--   tieTests s n u e    the numbers 29 to 31, in order
 use mathlib.Core.Bool.{Bool, not, _&&_, _||_}
-use mathlib.Core.List.{List}
+use mathlib.Core.List.{List, [], _∷_}
 use Prim.Native.Nat.{ℕ, suc, _+_, _-_, _*_}
 use lib.Dec.{eqb, ltb}
 use lib.ListN.{getD}
+use Rattle.word.specs.Reply.{Test, _when_}
 use Rattle.word.specs.Some.{anyBelow}
 use Rattle.numbers.specs.Bytes.{countAt}
 use Rattle.rows.specs.Row.{Cells}
@@ -63,3 +65,6 @@ wrongOrder e = anyBelow (e .count - 1) (λ i. not (precedes e i))
 
 unfoldable pub wrongSides : Ties → Bool
 wrongSides e = anyBelow (e .count) (λ i. ltb 1 (e .side i))
+
+abbrev pub tieTests : ℕ → ℕ → (ℕ → Cells) → Ties → List Test
+tieTests s n u e = 29 when wrongCells s n u e ∷ 30 when wrongOrder e ∷ 31 when wrongSides e ∷ []

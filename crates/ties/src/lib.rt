@@ -3,9 +3,10 @@
 ghost use mathlib.Core.Path.{_≡_};
 ghost use Prim.Native.Nat.{ℕ, _+_, _*_};
 ghost use lib.ListN.{getD};
+ghost use Rattle.word.specs.Reply.{firstOf};
 ghost use Rattle.numbers.specs.Bytes.{countAt};
 ghost use Rattle.rows.specs.Lists.{cellsOf};
-ghost use Rattle.ties.specs.Ties.{entryBytes, tiesIn, wrongCell, wrongCells, precedes, wrongOrder, wrongSides};
+ghost use Rattle.ties.specs.Ties.{entryBytes, tiesIn, wrongCell, wrongCells, precedes, wrongOrder, wrongSides, tieTests};
 use rows::Rows;
 
 // The bytes of an entry, and the most entries that a set has.
@@ -115,4 +116,24 @@ pub fn has_wrong_sides(ties: &[u8], count: u16) -> bool
         i += 1;
     }
     false
+}
+
+// The first of 29, 30 and 31 that applies to the first `count` entries, with s slices and n chains; 0 where none does. The rows `marks` of
+// the list mark the unknown cells.
+pub fn ties_refusal(ties: &[u8], count: u16, list: &[u8], marks: Rows, n: u16, s: u16) -> u64
+    ensures { λ r. ⌜ r ≡ firstOf (tieTests s n (cellsOf (now (list .entry)) marks) (tiesIn (now (ties .entry)) count)) ⌝ }
+{
+    if count == 0 {
+        return 0;
+    }
+    if has_wrong_cells(ties, count, list, marks, n, s) {
+        return 29;
+    }
+    if has_wrong_order(ties, count) {
+        return 30;
+    }
+    if has_wrong_sides(ties, count) {
+        return 31;
+    }
+    0
 }
