@@ -6,21 +6,24 @@ use Prim.Native.Nat.{ℕ, suc, _+_, _-_, _*_, _≤_, _<_}
 use native.Mathlib.Nat.{mul-add, mul-one, mul-zero}
 use native.Mathlib.Numerals.{add-one}
 use native.Mathlib.Omega.{arith}
-use borrow.Author.Tests.{eqb-true, not-false}
-use lib.Dec.{eqb}
+use lib.Dec.{eqb, ltb}
 use lib.ListN.{length, getD, take, drop, length-drop}
 use lib.Seq.{take-all}
 use Rattle.word.specs.Some.{anyBelow}
-use Rattle.rows.specs.Row.{rowBytes}
+use Rattle.word.specs.Reply.{firstOf}
+use Rattle.rows.specs.Row.{cell, rowBytes}
+use Rattle.rows.specs.declared.Rows.{Rows}
+use Rattle.ties.specs.Ties.{mostTies, tiesIn, tieTests}
+use Rattle.ties.proofs.EntryLaws.{tie-tests-none, tie-tests-marks}
 use Rattle.chains.specs.Driven.{badSpread}
 use Rattle.chains.proofs.Laws.{bad-spread-turn, bad-spread-ended}
-use Rattle.set_layout.specs.Layout.{spreadAt, rowsAt, setLength, widthOf, chainsOf, spreadOf, slicesOf, valueAt, markAt, valueRow, markRow}
-use Rattle.set_file.specs.Reading.{spareInRows, valuedInRows}
-use Rattle.rows.specs.Lists.{sharesBit}
+use Rattle.set_layout.specs.Layout.{spreadAt, rowsAt, setLength, widthOf, chainsOf, spreadOf, slicesOf, valueAt, markAt, valueRow, markRow, marks, tieCountOf, tieBytes, tiesOf}
+use Rattle.set_file.specs.Reading.{wrongLength, spareInRows, valuedInRows}
+use Rattle.rows.specs.Lists.{cellsOf, sharesBit}
 use Rattle.word.proofs.RangeLaws.{none-passed, one-passed, one-found, all-passed}
 use Rattle.rows.proofs.RowLaws.{SpareRow, spare-rows-none}
-use Rattle.set_layout.proofs.SliceLaws.{rowsOf, slice-inside}
-use Rattle.set_file.proofs.RowTests.{spare-of-rows, valued-of-bytes}
+use Rattle.set_layout.proofs.SliceLaws.{rowsOf, slice-inside, mark-rows-row}
+use Rattle.set_file.proofs.RowTests.{length-fits, spare-of-rows, valued-of-bytes}
 use Rattle.word.specs.Word.{beyond}
 use Rattle.numbers.specs.Bytes.{wordAt, wordsAt}
 use Rattle.numbers.proofs.FileLaws.{word-at-place}
@@ -56,9 +59,11 @@ sought-none set m n c em en i l =
 
 -- ---- number 8
 
-pub wrong-length-of : (set : List ℕ) (n s r : ℕ) → n ≡ chainsOf set → s ≡ slicesOf set → r ≡ setLength n s
-    → not (eqb (length set) r) ≡ not (eqb (length set) (setLength (chainsOf set) (slicesOf set)))
-wrong-length-of set n s r en es er = ap (λ (x : ℕ). not (eqb (length set) x)) (er ∙ ap₂ setLength en es)
+pub wrong-length-of : (set : List ℕ) (n s k r : ℕ) → n ≡ chainsOf set → s ≡ slicesOf set → k ≡ tieCountOf set → r ≡ setLength n s k
+    → (ltb mostTies k || not (eqb (length set) r)) ≡ wrongLength set
+wrong-length-of set n s k r en es ek er =
+    ap₂ (λ (x y : ℕ). ltb mostTies x || not (eqb (length set) y)) ek
+    (er ∙ ap₂ (λ (x y : ℕ). setLength x y k) en es ∙ ap (setLength (chainsOf set) (slicesOf set)) ek)
 
 -- ---- number 9
 
@@ -116,12 +121,12 @@ module _ (set : List ℕ) (t at bytes : ℕ) (u : Unshared set t at) (eb : bytes
 -- ---- the three ways out: the set ends too soon, a bit is shared, no slice shares one
 
 abbrev pub Valued : List ℕ → Bool → Type 0
-Valued set r = length set ≡ setLength (chainsOf set) (slicesOf set) → spareInRows set ≡ false → r ≡ valuedInRows set
+Valued set r = wrongLength set ≡ false → spareInRows set ≡ false → r ≡ valuedInRows set
 
 pub valued-short : (set : List ℕ) (t at bytes s : ℕ) → Unshared set t at → bytes ≡ rowBytes (chainsOf set) → s ≡ slicesOf set → t < s
     → length set < at + bytes + bytes → Valued set false
 valued-short set t at bytes s u eb es l short long clean =
-    let z : ⊥ = omega (arith, slice-inside set long t (rw es at l), u .place) in absurd z
+    let z : ⊥ = omega (arith, slice-inside set (length-fits set long) t (rw es at l), u .place) in absurd z
 
 module _ (set : List ℕ) (small : (i : ℕ) → getD set i 0 < 256) where
   pub valued-found : (t at bytes s : ℕ) (r : Bool) → Unshared set t at → bytes ≡ rowBytes (chainsOf set) → s ≡ slicesOf set → t < s
@@ -129,14 +134,24 @@ module _ (set : List ℕ) (small : (i : ℕ) → getD set i 0 < 256) where
       → r ≡ true → Valued set true
   valued-found t at bytes s r u eb es l er on long clean =
       one-found (SharedIn set) (slicesOf set) t (rw es at l) (sym (rows-lent set t at bytes u eb r er) ∙ on)
-      ∙ valued-of-bytes set clean long small
+      ∙ valued-of-bytes set clean (length-fits set long) small
 
   pub valued-none : (t at s : ℕ) → Unshared set t at → s ≡ slicesOf set → t ≡ s → Valued set false
   valued-none t at s u es e long clean =
-      all-passed (SharedIn set) (slicesOf set) t (u .none) (e ∙ es) ∙ valued-of-bytes set clean long small
+      all-passed (SharedIn set) (slicesOf set) t (u .none) (e ∙ es) ∙ valued-of-bytes set clean (length-fits set long) small
 
--- ---- what the tests before leave
+-- ---- numbers 29 to 31
 
-pub length-fits : (set : List ℕ) (r : Bool) → r ≡ not (eqb (length set) (setLength (chainsOf set) (slicesOf set))) → r ≡ false
-    → length set ≡ setLength (chainsOf set) (slicesOf set)
-length-fits set r e h = eqb-true (length set) _ (not-false _ (sym e ∙ h))
+abbrev pub Tied : List ℕ → ℕ → Type 0
+Tied set r = r ≡ firstOf (tieTests (slicesOf set) (chainsOf set) (marks set) (tiesOf set))
+
+pub tied-none : (set : List ℕ) (k : ℕ) → k ≡ tieCountOf set → k ≡ 0 → Tied set 0
+tied-none set k e z = tie-tests-none (slicesOf set) (chainsOf set) (marks set) (tiesOf set) (sym e ∙ z)
+
+pub tied-of : (set l : List ℕ) (n s k x : ℕ) (r : Rows) → n ≡ chainsOf set → s ≡ slicesOf set → k ≡ tieCountOf set → l ≡ tieBytes set
+    → (r .at ≡ markAt n 0) × (r .stride ≡ 2 * rowBytes n) × (r .bytes ≡ rowBytes n) → x ≡ firstOf (tieTests s n (cellsOf set r) (tiesIn l k)) → Tied set x
+tied-of set l n s k x r en es ek el er ex =
+    ex
+    ∙ tie-tests-marks s n (cellsOf set r) (marks set) (tiesIn l k) (λ t c. ap (λ (row : List ℕ). cell row c) (mark-rows-row set n r en er t))
+    ∙ ap₂ (λ (x y : ℕ). firstOf (tieTests x y (marks set) (tiesIn l k))) es en
+    ∙ ap₂ (λ (y : List ℕ) (x : ℕ). firstOf (tieTests (slicesOf set) (chainsOf set) (marks set) (tiesIn y x))) el ek

@@ -1,11 +1,11 @@
 -- The laws that the crates above cite: what an accepted set knows, and what the reader's reply says of its set. A set is
 -- accepted where none of the set's numbers applies to it. Assumes nothing.
 use mathlib.Core.Path.{_≡_, refl, sym}
-use mathlib.Core.Bool.{true, false, not, _&&_, _||_}
+use mathlib.Core.Bool.{true, false, _&&_, _||_}
 use mathlib.Core.List.{List}
 use Prim.Native.Nat.{ℕ, _≤_, _<_}
 use native.Mathlib.Omega.{arith}
-use borrow.Author.Tests.{eq-eqb, le-ltb, ltb-false, eqb-true, not-false}
+use borrow.Author.Tests.{eq-eqb, le-ltb, ltb-false}
 use lib.Dec.{eqb, ltb}
 use lib.ListN.{length}
 use Rattle.word.specs.Word.{badWidth}
@@ -17,10 +17,11 @@ use Rattle.word.proofs.BoolLaws.{or-false-right}
 use Rattle.word.proofs.ReplyLaws.{replied-answered, refused-reply}
 use Rattle.word.proofs.TestLaws.{none-and-rest, numbered, replied-answer, replied-number}
 use Rattle.rows.specs.Row.{rowBytes, spareSet}
+use Rattle.ties.specs.Ties.{mostTies, wrongOrder, wrongSides}
 use Rattle.register.specs.Circuit.{badTaps, badInversion, badChains}
 use Rattle.chains.specs.Driven.{badSpread}
-use Rattle.set_layout.specs.Layout.{chainsAt, spreadAt, slicesAt, headLength, setLength, widthOf, tapsOf, inversionOf, chainsOf, spreadOf, slicesOf, valueRow, markRow, values, marks}
-use Rattle.set_file.specs.Reading.{badSlices, spareInRows, valuedInRows, setTests, SetParts, setPartsOf, setReply}
+use Rattle.set_layout.specs.Layout.{chainsAt, spreadAt, slicesAt, headLength, setLength, widthOf, tapsOf, inversionOf, chainsOf, spreadOf, slicesOf, valueRow, markRow, values, marks, tieCountOf, tiesOf}
+use Rattle.set_file.specs.Reading.{badSlices, wrongLength, spareInRows, valuedInRows, wrongTies, setTests, SetParts, setPartsOf, setReply}
 use Rattle.set_layout.proofs.LayoutLaws.{good-chains}
 use Rattle.set_layout.proofs.SliceLaws as slices
 use Rattle.set_file.proofs.RowTests as tests
@@ -61,9 +62,13 @@ pub record Accepted (set : List ℕ) : Type 0 where
   pub chains : badChains (chainsOf set) ≡ false
   pub spread : badSpread (widthOf set) (spreadOf set) ≡ false
   pub slices : slicesOf set ≤ 512
-  pub long : length set ≡ setLength (chainsOf set) (slicesOf set)
+  pub few : tieCountOf set ≤ 256
+  pub long : length set ≡ setLength (chainsOf set) (slicesOf set) (tieCountOf set)
   pub clean : spareInRows set ≡ false
   pub unvalued : valuedInRows set ≡ false
+  pub ties : wrongTies set ≡ false
+  pub order : wrongOrder (tiesOf set) ≡ false
+  pub sides : wrongSides (tiesOf set) ≡ false
 
 pub accepted : (set : List ℕ) → firstOf (setTests set) ≡ 0 → Accepted set
 unfolding setTests badSlices
@@ -76,9 +81,12 @@ accepted set h =
     let p5 = none-and-rest (ltb (length set) (slicesAt (chainsOf set))) 4 _ (p4 .1) in
     let p6 = none-and-rest (badSpread (widthOf set) (spreadOf set)) 5 _ (p5 .1) in
     let p7 = none-and-rest (badSlices set) 6 _ (p6 .1) in
-    let p8 = none-and-rest (not (eqb (length set) (setLength (chainsOf set) (slicesOf set)))) 7 _ (p7 .1) in
+    let p8 = none-and-rest (wrongLength set) 7 _ (p7 .1) in
     let p9 = none-and-rest (spareInRows set) 8 _ (p8 .1) in
     let p10 = none-and-rest (valuedInRows set) 9 _ (p9 .1) in
+    let p29 = none-and-rest (wrongTies set) 28 _ (p10 .1) in
+    let p30 = none-and-rest (wrongOrder (tiesOf set)) 29 _ (p29 .1) in
+    let p31 = none-and-rest (wrongSides (tiesOf set)) 30 _ (p30 .1) in
     record {
       width = p2 .0;
       taps = p3 .0;
@@ -86,9 +94,13 @@ accepted set h =
       chains = or-false-right (ltb (length set) spreadAt) (badChains (chainsOf set)) (p4 .0);
       spread = p6 .0;
       slices = ltb-false 512 (slicesOf set) (or-false-right (ltb (length set) (headLength (chainsOf set))) (ltb 512 (slicesOf set)) (p7 .0));
-      long = eqb-true (length set) _ (not-false _ (p8 .0));
+      few = tests.ties-few set (p8 .0);
+      long = tests.length-fits set (p8 .0);
       clean = p9 .0;
       unvalued = p10 .0;
+      ties = p29 .0;
+      order = p30 .0;
+      sides = p31 .0;
     }
 
 module _ (set : List ℕ) (a : Accepted set) where
@@ -130,6 +142,7 @@ accepted-back set a =
     let b4 : ltb (length set) spreadAt ≡ false = le-ltb (length set) spreadAt (omega (arith, a .long)) in
     let b5 : ltb (length set) (slicesAt n) ≡ false = le-ltb (length set) (slicesAt n) (omega (arith, a .long)) in
     let b7 : ltb (length set) (headLength n) ≡ false = le-ltb (length set) (headLength n) (omega (arith, a .long)) in
-    let few : ltb 512 (slicesOf set) ≡ false = le-ltb 512 (slicesOf set) (a .slices) in
-    let b8 = eq-eqb (length set) (setLength n (slicesOf set)) (a .long) in
-    rw (b1, a .width, a .taps, a .inversion, b4, a .chains, b5, a .spread, b7, few, b8, a .clean, a .unvalued)
+    let slices : ltb 512 (slicesOf set) ≡ false = le-ltb 512 (slicesOf set) (a .slices) in
+    let few : ltb mostTies (tieCountOf set) ≡ false = le-ltb mostTies (tieCountOf set) (a .few) in
+    let b8 = eq-eqb (length set) (setLength n (slicesOf set) (tieCountOf set)) (a .long) in
+    rw (b1, a .width, a .taps, a .inversion, b4, a .chains, b5, a .spread, b7, slices, few, b8, a .clean, a .unvalued, a .ties, a .order, a .sides)

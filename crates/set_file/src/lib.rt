@@ -1,15 +1,16 @@
-// The set file of document 01: the tests of its parts, 1 to 10 and 25, and its reader. It sees where the parts stand (`set_layout`); the
+// The set file of document 01: the tests of its parts, 1 to 10, 25 and 29 to 31, and its reader. It sees where the parts stand (`set_layout`); the
 // rows of one slice and the writer are crates above it. Every function is total.
 ghost use mathlib.Core.Path.{_≡_};
-ghost use mathlib.Core.Bool.{false, not, _||_};
-ghost use lib.Dec.{eqb, ltb};
+ghost use mathlib.Core.Bool.{false, _||_};
+ghost use lib.Dec.{ltb};
 ghost use lib.ListN.{length};
 ghost use Rattle.word.specs.Word.{badWidth};
 ghost use Rattle.word.specs.Reply.{firstOf, numberOf};
+ghost use Rattle.ties.specs.Ties.{tieTests};
 ghost use Rattle.register.specs.Circuit.{badTaps, badInversion, badChains};
 ghost use Rattle.chains.specs.Driven.{badSpread};
-ghost use Rattle.set_layout.specs.Layout.{chainsAt, spreadAt, slicesAt, setLength, widthOf, tapsOf, inversionOf, chainsOf, spreadOf, slicesOf};
-ghost use Rattle.set_file.specs.Reading.{badSlices, spareInRows, valuedInRows, setTests, setReply, spreadBeside, said, startOf};
+ghost use Rattle.set_layout.specs.Layout.{chainsAt, spreadAt, slicesAt, widthOf, tapsOf, inversionOf, chainsOf, spreadOf, slicesOf, marks, tiesOf};
+ghost use Rattle.set_file.specs.Reading.{badSlices, wrongLength, spareInRows, valuedInRows, setTests, setReply, spreadBeside, said, startOf};
 use register::Register;
 
 // What the set reader answers: the register of the set's width m, tap word and inversion word, fresh, n and s, or the first number
@@ -107,11 +108,14 @@ fn has_bad_slices(set: &[u8]) -> bool
         | register::is_bad_slices(set_layout::slice_count(set) as u64)
 }
 
-// Number 8: whether the set's length isn't what its counts give.
+// Number 8: whether the count of ties is above 256, or the set's length isn't what its counts give.
 fn has_wrong_length(set: &[u8]) -> bool
-    ensures { λ r. ⌜ r ≡ not (eqb (length (now (set .entry))) (setLength (chainsOf (now (set .entry))) (slicesOf (now (set .entry))))) ⌝ }
+    ensures { λ r. ⌜ r ≡ wrongLength (now (set .entry)) ⌝ }
 {
-    set.len() != set_layout::set_length(set_layout::chain_count(set), set_layout::slice_count(set))
+    let n = set_layout::chain_count(set);
+    let s = set_layout::slice_count(set);
+    let count = set_layout::tie_count(set);
+    (ties::MOST_TIES < count) | (set.len() != set_layout::set_length(n, s, count))
 }
 
 // Number 9: whether a row of the set has a spare bit set.
@@ -130,7 +134,7 @@ fn has_spare_bits(set: &[u8]) -> bool
 // Number 10, for a set of the right length in which no spare bit is set: whether an unknown cell has its value bit set. Whole
 // bytes are compared.
 fn has_valued_unknown(set: &[u8]) -> bool
-    ensures { λ r. ⌜ (length (now (set .entry)) ≡ setLength (chainsOf (now (set .entry))) (slicesOf (now (set .entry))) → spareInRows (now (set .entry)) ≡ false → r ≡ valuedInRows (now (set .entry))) ⌝ }
+    ensures { λ r. ⌜ (wrongLength (now (set .entry)) ≡ false → spareInRows (now (set .entry)) ≡ false → r ≡ valuedInRows (now (set .entry))) ⌝ }
 {
     let n = set_layout::chain_count(set);
     let s = set_layout::slice_count(set);
@@ -150,6 +154,26 @@ fn has_valued_unknown(set: &[u8]) -> bool
         t += 1;
     }
     false
+}
+
+// The first of 29, 30 and 31 that applies to the set's ties; 0 where none does. A set without an entry is done at once.
+fn ties_refusal(set: &[u8]) -> u64
+    ensures { λ r. ⌜ r ≡ firstOf (tieTests (slicesOf (now (set .entry))) (chainsOf (now (set .entry))) (marks (now (set .entry))) (tiesOf (now (set .entry)))) ⌝ }
+{
+    let count = set_layout::tie_count(set);
+    if count == 0 {
+        return 0;
+    }
+    let n = set_layout::chain_count(set);
+    let s = set_layout::slice_count(set);
+    ties::ties_refusal(
+        set_layout::tie_bytes(set),
+        count,
+        set,
+        set_layout::mark_rows(n),
+        n,
+        s,
+    )
 }
 
 // The first number that applies to the set; 0 where none does.
@@ -189,11 +213,11 @@ pub fn set_refusal(set: &[u8]) -> u64
     if has_valued_unknown(set) {
         return 10;
     }
-    0
+    ties_refusal(set)
 }
 
-// The set reader: the fresh register of m, the tap word and the inversion word, n, s and the spread words. It meets 1, 2, 3, 25 and
-// 4 to 10, in that order; the spread words beside a refusal are all zero.
+// The set reader: the fresh register of m, the tap word and the inversion word, n, s and the spread words. It meets 1, 2, 3, 25,
+// 4 to 10 and 29 to 31, in that order; the spread words beside a refusal are all zero.
 pub fn read_set(set: &[u8]) -> SetRead
     ensures answer { λ r. ⌜ said (r .answer) ≡ setReply (now (set .entry)) ⌝ }
     ensures spread { λ r. ⌜ r .spread ≡ spreadBeside (now (set .entry)) ⌝ }

@@ -1,5 +1,4 @@
 -- `set_refusal` meets its contract: one test for each number, in the order of the list.
-use Rattle.set_file.proofs.CodeLaws.{length-fits}
 use Rattle.set_file.specs.Reading.{valuedInRows, setTests}
 use Rattle.word.proofs.ReplyLaws.{refusals}
 use mathlib.Core.Path.{_≡_, sym, _∙_}
@@ -58,7 +57,7 @@ valued : (c : tie.After-has-valued-unknown) → c .has-valued-unknown .result �
 valued c =
     let clean = c .before in
     let fits = clean .before .before in
-    c .has-valued-unknown .ensures (length-fits _ _ (fits .before .has-wrong-length .ensures) (fits .if9 .left))
+    c .has-valued-unknown .ensures (sym (fits .before .has-wrong-length .ensures) ∙ fits .if9 .left)
     (sym (clean .before .has-spare-bits .ensures) ∙ clean .if10 .left)
 
 returns-11 : tie.Need-returns-11
@@ -67,7 +66,7 @@ returns-11 c = let unknown = valued (c .before) in search refusals depth 24 fits
 
 returns-12 : tie.Need-returns-12
 unfolding setTests
-returns-12 c = let unknown = valued (c .before) in search refusals depth 24 fits 40000
+returns-12 c = let unknown = valued (c .before .before) in search refusals depth 24 fits 40000
 
 pub set-refusal-spec : {M : Type 1} → statement M
 set-refusal-spec =
@@ -95,4 +94,5 @@ set-refusal-spec =
     returns-10
     (λ c κs. search needs)
     returns-11
+    (λ c κs. search needs)
     returns-12)
