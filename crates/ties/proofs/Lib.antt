@@ -1,1 +1,3 @@
 pub mod EntryLaws
+pub mod SymbolLaws
+pub mod SoundLaws
