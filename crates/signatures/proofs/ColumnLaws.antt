@@ -2,10 +2,11 @@
 -- is; there are as many as unknown cells, and none leaves the width. Assumes nothing.
 use mathlib.Core.Path.{_≡_, refl, sym, ap, ap₂, _∙_}
 use mathlib.Core.Bool.{Bool, false, true, cond, _&&_}
-use mathlib.Core.Logic.{⊎-elim}
+use mathlib.Core.Logic.{⊎-elim, dite}
 use mathlib.Core.List.{_++_}
 use Prim.Native.Nat.{ℕ, zero, suc, _+_, _-_, _^_, _≤_, _<_}
 use native.Mathlib.Nat.{eq-or-lt-of-le, le-of-suc-le-suc, not-suc-le-zero}
+use native.Mathlib.Decide.{ℕ-discrete}
 use native.Mathlib.Omega.{arith}
 use borrow.Author.Tests.{eq-eqb, ne-eqb}
 use lib.Bits.{bitXor}
@@ -44,6 +45,11 @@ only-cell-other-slice t c u d h = rw (ne-eqb u t h)
 
 pub only-cell-other-chain : (t c u d : ℕ) → (d ≡ c → ⊥) → onlyCell t c u d ≡ 0
 only-cell-other-chain t c u d h = rw (ne-eqb d c h, and-none (eqb u t))
+
+pub only-cell-other : (t c u d : ℕ) → (u ≡ t → d ≡ c → ⊥) → onlyCell t c u d ≡ 0
+only-cell-other t c u d h =
+    dite (ℕ-discrete u t)
+    (λ (p : u ≡ t). dite (ℕ-discrete d c) (λ (q : d ≡ c). absurd (h p q)) (only-cell-other-chain t c u d)) (only-cell-other-slice t c u d)
 
 pub only-cell-same : (t c : ℕ) → onlyCell t c t c ≡ 1
 only-cell-same t c = rw (eq-eqb t t refl, eq-eqb c c refl)

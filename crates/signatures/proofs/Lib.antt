@@ -1,5 +1,10 @@
 pub mod SignatureLaws
 pub mod ColumnLaws
+pub mod ListingLaws
+pub mod MemberLaws
 pub mod DifferenceLaws
+pub mod TieLaws
 pub mod FillingLaws
+pub mod SymbolLaws
+pub mod FreeLaws
 pub mod SetLaws
