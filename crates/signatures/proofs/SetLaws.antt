@@ -1,31 +1,32 @@
--- The columns and the signature for all unknowns 0 of a taken set. Assumes nothing.
-use mathlib.Core.Path.{_≡_, refl, sym, ap, ap₂, _∙_}
-use mathlib.Core.Bool.{Bool, true, false, cond}
+-- The columns and the signature for all symbols 0 of a taken set. Assumes nothing.
+use mathlib.Core.Path.{_≡_, sym, ap, _∙_, subst}
+use mathlib.Core.Bool.{false}
 use mathlib.Core.Logic.{⊎-elim}
 use mathlib.Core.List.{List}
-use Prim.Native.Nat.{ℕ, zero, suc, _<_, _^_}
+use Prim.Native.Nat.{ℕ, _<_, _^_}
 use native.Mathlib.Omega.{arith}
-use lib.Dec.{eqb, eqb·suc-zero}
+use lib.Bits.{bitXor}
 use lib.ListN.{length}
 use Rattle.word.specs.Word.{beyond}
 use Rattle.word.specs.Some.{anyOf}
 use Rattle.word.proofs.Laws.{bit-cases}
 use Rattle.rows.proofs.CellLaws.{cell-lt}
 use Rattle.rows.proofs.MarkLaws.{total-ext, row-total}
-use Rattle.rows.specs.Row.{cell}
 use Rattle.rows.specs.Marks.{total}
-use Rattle.register.specs.Circuit.{Circuit, chains}
+use Rattle.ties.specs.Symbols.{namedSymbols, Within, Sound}
+use Rattle.ties.proofs.SoundLaws.{sound-ties, sound-within}
+use Rattle.register.specs.Circuit.{chains}
 use Rattle.register.proofs.Laws.{good-taps, good-inversion}
 use Rattle.chains.proofs.Laws.{good-spread}
-use Rattle.set_layout.specs.Layout.{widthOf, tapsOf, inversionOf, chainsOf, spreadOf, slicesOf, circuitOf, valueRow, markRow, values, marks}
+use Rattle.set_layout.specs.Layout.{widthOf, tapsOf, inversionOf, chainsOf, spreadOf, slicesOf, circuitOf, valueRow, markRow, values, marks, tiesOf}
 use Rattle.set_layout.proofs.LayoutLaws.{spread-length}
 use Rattle.set_file.proofs.Laws.{Accepted, accepted-chains, mark-row-length, mark-row-clean, unknown-unvalued}
 use Rattle.signatures.specs.Signature.{Response, signature}
-use Rattle.signatures.specs.Columns.{columnsBelow}
-use Rattle.signatures.specs.Given.{zeroed}
-use Rattle.signatures.specs.Sets.{given, columnsOf, unknownsOf, placesOf, zeroSignature, Revised}
-use Rattle.signatures.proofs.SignatureLaws.{signature-ext, signature-lt}
-use Rattle.signatures.proofs.ColumnLaws.{length-columns-below, columns-ext, columns-within}
+use Rattle.signatures.specs.Symbols.{sideColumns}
+use Rattle.signatures.specs.Sets.{given, columnsOf, symbolsOf, namedOf, unknownsOf, zeroSignature, Revised}
+use Rattle.signatures.proofs.SignatureLaws.{signature-lt}
+use Rattle.signatures.proofs.FillingLaws.{SoundFor}
+use Rattle.signatures.proofs.SymbolLaws.{length-symbol-columns, symbol-columns-within, zero-by-sides, revised-symbols}
 
 module _ (set : List ℕ) where
   pub values-lt : (t c : ℕ) → values set t c < 2
@@ -34,51 +35,53 @@ module _ (set : List ℕ) where
   pub marks-lt : (t c : ℕ) → marks set t c < 2
   marks-lt t c = cell-lt (markRow set t) c
 
-  -- document 01: the columns are those of the unknown cells, one for each
-  pub length-columns : length (columnsOf set) ≡ unknownsOf set
-  unfolding columnsOf unknownsOf
-  length-columns = length-columns-below (circuitOf set) (slicesOf set) (marks set) marks-lt (slicesOf set)
+  -- document 02: the columns are those of the symbols, one for each
+  pub length-columns : length (columnsOf set) ≡ symbolsOf set
+  unfolding columnsOf symbolsOf
+  length-columns = length-symbol-columns (circuitOf set) (slicesOf set) (marks set) (tiesOf set) marks-lt
 
--- a set with other values has the same columns, and as many unknown cells
+-- a set with other values has the same columns, and as many symbols and unknown cells
 pub revised-columns : (old new : List ℕ) → Revised old new → columnsOf old ≡ columnsOf new
 unfolding columnsOf
-revised-columns old new r =
-    columns-ext (circuitOf old) (slicesOf old) (marks old) (marks new) (slicesOf old) (r .marks)
-    ∙ ap₂ (λ (k : Circuit) (s : ℕ). columnsBelow k s (marks new) s) (r .wiring) (r .slices)
+revised-columns old new r = revised-symbols (given old) (given new) r
 
-pub revised-unknowns : (old new : List ℕ) → Revised old new → unknownsOf old ≡ unknownsOf new
-revised-unknowns old new r = sym (length-columns old) ∙ ap length (revised-columns old new r) ∙ length-columns new
+pub revised-named : (old new : List ℕ) → Revised old new → namedOf old ≡ namedOf new
+unfolding namedOf
+revised-named old new r = ap namedSymbols (r .ties)
 
 module _ (set : List ℕ) (a : Accepted set) where
+  -- 29 to 31 leave sound ties
+  pub set-ties : SoundFor (given set)
+  set-ties =
+      subst (λ (n : ℕ). Sound (slicesOf set) n (marks set) (tiesOf set)) (sym (spread-length set))
+      (sound-ties (slicesOf set) (chainsOf set) (marks set) (tiesOf set) (a .ties) (a .order) (a .sides))
+
+  pub set-ties-within : Within (slicesOf set) (chains (circuitOf set)) (tiesOf set)
+  set-ties-within = sound-within (slicesOf set) (chains (circuitOf set)) (marks set) (tiesOf set) set-ties (a .few)
+
   -- no column has a bit at or above the width
   pub columns-of-within : anyOf (beyond (widthOf set)) (columnsOf set) ≡ false
   unfolding columnsOf
   columns-of-within =
-      columns-within (circuitOf set) (slicesOf set) (marks set) (good-taps (widthOf set) (tapsOf set) (a .taps) .1)
-      (good-spread (widthOf set) (spreadOf set) (a .spread)) (slicesOf set)
+      symbol-columns-within (circuitOf set) (slicesOf set) (tiesOf set) (good-taps (widthOf set) (tapsOf set) (a .taps) .1)
+      (good-spread (widthOf set) (spreadOf set) (a .spread)) (marks set)
 
   pub signature-within : (x : Response) → signature (circuitOf set) x (slicesOf set) < 2 ^ widthOf set
   signature-within x =
       signature-lt (circuitOf set) x (slicesOf set) (good-taps (widthOf set) (tapsOf set) (a .taps) .1)
       (good-inversion (widthOf set) (inversionOf set) (a .inversion)) (good-spread (widthOf set) (spreadOf set) (a .spread))
 
-  -- the value rows as they stand give the signature for all unknowns 0: an unknown cell's value bit is 0
-  pub zero-of-values : zeroSignature set ≡ signature (circuitOf set) (values set) (slicesOf set)
+  -- the value rows as they stand, XORed with the columns of the cells tied as opposite, give the signature for all symbols 0: an unknown
+  -- cell's value bit is 0
+  pub zero-of-values : zeroSignature set
+      ≡ bitXor (signature (circuitOf set) (values set) (slicesOf set)) (sideColumns (circuitOf set) (slicesOf set) (tiesOf set))
   unfolding zeroSignature
   zero-of-values =
-      signature-ext (circuitOf set) (zeroed (given set)) (values set) (slicesOf set)
-      (λ t c l m. same t c l (m′ c m) (marks set t c) refl)
-    where
-      m′ : (c : ℕ) → c < chains (circuitOf set) → c < chainsOf set
-      m′ c m = omega (arith, spread-length set)
-
-      same : (t c : ℕ) → t < slicesOf set → c < chainsOf set → (d : ℕ) → marks set t c ≡ d → cond (eqb d 0) (values set t c) 0 ≡ values set t c
-      same t c l m zero e = refl
-      same t c l m (suc d) e =
-          let one : marks set t c ≡ 1 = omega (arith, marks-lt set t c) in
-          ap (λ (b : Bool). cond b (values set t c) 0) (eqb·suc-zero d)
-          ∙ ⊎-elim (λ (z : values set t c ≡ 0). sym z) (λ (o : values set t c ≡ 1). absurd (unknown-unvalued set a t c l m o one))
-          (bit-cases (values set t c) (values-lt set t c))
+      zero-by-sides (given set) set-ties (values-lt set) (marks-lt set)
+      (λ t c l m one.
+      ⊎-elim (λ (z : values set t c ≡ 0). z)
+      (λ (o : values set t c ≡ 1). absurd (unknown-unvalued set a t c l (omega (arith, m, spread-length set)) o one))
+      (bit-cases (values set t c) (values-lt set t c)))
 
   -- the marks counted by rows of 256 cells are the unknown cells
   pub marks-counted : total (slicesOf set) (λ t. total 256 (marks set t)) ≡ unknownsOf set

@@ -15,13 +15,12 @@ use mathlib.Core.List.{List}
 use Prim.Native.Nat.{ℕ}
 use Rattle.rows.specs.Row.{cell}
 use Rattle.rows.specs.Lists.{listRow}
-use Rattle.set_layout.specs.Layout.{circuitOf, slicesOf, values, marks}
-use Rattle.ties.specs.Ties.{noTies}
+use Rattle.set_layout.specs.Layout.{circuitOf, slicesOf, values, marks, tiesOf}
 use Rattle.signatures.specs.Signature.{Response}
 use Rattle.signatures.specs.Given.{Given, KnownCell, FillingOf, ExplainedBy, columnsFor, symbolsFor, namedFor, unknownsFor, zeroSignatureFor, RevisedFrom}
 
 abbrev pub given : List ℕ → Given
-given set = record { wiring = circuitOf set; slices = slicesOf set; values = values set; marks = marks set; ties = noTies }
+given set = record { wiring = circuitOf set; slices = slicesOf set; values = values set; marks = marks set; ties = tiesOf set }
 
 abbrev pub Known : List ℕ → ℕ → ℕ → Type 0
 Known set = KnownCell (given set)
