@@ -20,14 +20,14 @@ use Rattle.chains.proofs.Laws.{good-spread}
 use Rattle.set_layout.specs.Layout.{widthOf, tapsOf, spreadOf, circuitOf}
 use Rattle.set_file.proofs.Laws.{Accepted, accepted-width}
 use Rattle.signatures.specs.Columns.{columnsBelow}
-use Rattle.signatures.specs.Given.{Given, RevisedFrom}
+use Rattle.signatures.specs.Given.{Given, SameMarks}
 use Rattle.signatures.proofs.ColumnLaws.{columns-ext}
 use Rattle.cutter.specs.Greatest.{greatest}
 use Rattle.cutter.specs.Cutting.{wordsLeft, leaves, longestEnd, startsFrom, startsFor, shortSlice}
 use Rattle.cutter.specs.Turns.{Sound}
 use Rattle.cutter.proofs.GreatestLaws.{greatest-ext}
 
-module _ (g h : Given) (r : RevisedFrom g h) where
+module _ (g h : Given) (r : SameMarks g h) where
   pub same-left : (a b : ℕ) → b ≤ g .slices → wordsLeft g a b ≡ wordsLeft h a b
   unfolding wordsLeft
   same-left a b l =

@@ -18,7 +18,7 @@ use Rattle.set_layout.proofs.SliceLaws.{mark-rows-row}
 use Rattle.set_file.specs.Reading.{TakenFrom}
 use Rattle.set_file.specs.declared.Taken.{Taken}
 use Rattle.set_file.proofs.Laws.{Accepted, accepted}
-use Rattle.signatures.specs.Given.{Given, RevisedFrom}
+use Rattle.signatures.specs.Given.{Given, SameMarks}
 use Rattle.signatures.specs.Sets.{given}
 use Rattle.unclocking.specs.Unclocked.{earlier, EightBack}
 use Rattle.slice_columns.specs.Frame.{eights, markedEarlier, NextFrom}
@@ -55,7 +55,7 @@ module _ (set : List ℕ) (k : Taken) (taken : TakenFrom set k) (rows : Rows)
   pub seen-sound : Sound (seen (k .register) (take chains words) slices set rows .wiring)
   seen-sound = subst Sound (sym own-circuit) (sound-set set whole)
 
-  pub seen-revised : RevisedFrom (seen (k .register) (take chains words) slices set rows) (given set)
+  pub seen-revised : SameMarks (seen (k .register) (take chains words) slices set rows) (given set)
   seen-revised = record {
     wiring = own-circuit;
     slices = omega (arith, taken .slices, whole .slices);

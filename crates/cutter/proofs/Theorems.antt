@@ -1,6 +1,6 @@
 -- What the cutting promises of its reply. Crates above cite these.
 --
---   same-starts-of    sets with the same register, chains, slice count and marks are cut at the same slices, whatever their values
+--   same-starts-of    sets with the same register, chains, slice count and marks are cut at the same slices, whatever their values and ties
 --   same-cut-reply    .. so where both meet none of the set's numbers the whole reply is the same. Document 02, No. 5: "once the set is
 --                     taken no cell's value bears on the answer"
 --   same-cuts-after   .. and the cut list
@@ -31,17 +31,17 @@ use Rattle.register.specs.Circuit.{Circuit}
 use Rattle.set_layout.specs.Layout.{widthOf}
 use Rattle.set_file.specs.Reading.{setTests}
 use Rattle.set_file.proofs.Laws.{set-numbered}
-use Rattle.signatures.specs.Given.{Given}
-use Rattle.signatures.specs.Sets.{given, Revised}
+use Rattle.signatures.specs.Given.{Given, SameMarks}
+use Rattle.signatures.specs.Sets.{given}
 use Rattle.cutter.specs.Cutting.{badShare, wordsLeft, leaves, longestEnd, startsFrom, startsFor, shortSlice, RunOf, startsOf, CutParts, cutPartsOf, cutTests, cutReply, cutsAfter}
 use Rattle.cutter.specs.Turns.{Sound}
 use Rattle.cutter.proofs.GreatestLaws.{GreatestOf, greatest-of}
 use Rattle.cutter.proofs.RunLaws.{longest-at}
 use Rattle.cutter.proofs.SameLaws.{same-starts, same-short}
 
--- ---- no cell's value bears on the answer
+-- ---- no cell's value bears on the answer, and no tie. Document 02, No. 7: "The cutter goes on with every cell free"
 
-module _ (old new : List ℕ) (r : Revised old new) where
+module _ (old new : List ℕ) (r : SameMarks (given old) (given new)) where
   width : widthOf old ≡ widthOf new
   width = ap (λ (k : Circuit). k .width) (r .wiring)
 

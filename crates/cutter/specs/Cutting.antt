@@ -1,9 +1,10 @@
 -- Cutting a response into runs. Document 02, No. 5: "From the marks alone, cut the slices into runs, each clocked from zero, each leaving at
 -- least k words. Every run is the longest that does so from its start. The answer is the first slice of each run, the number of runs, and
 -- the control bits in all, m × k for each run. [..] A set without slices has no runs. Each run is later judged as a set of its own. Errors:
--- 26 for k not 1 to m; 27 for a slice that alone leaves fewer than k; 28 for a cut list too short; in that order after 10."
+-- 26 for k not 1 to m; 27 for a slice that alone leaves fewer than k; 28 for a cut list too short; in that order after 10." Document 02, No. 7:
+-- "The cutter goes on with every cell free".
 --
---   alone g a b          what is given of the slices a to b - 1: a response of its own, the run from a up to b
+--   alone g a b          what is given of the slices a to b - 1, every unknown cell free: a response of its own, the run from a up to b
 --   wordsLeft g a b      the words that this run leaves: m less the rank of its own columns
 --   leaves g k a b       .. are at least k
 --   longestEnd g k a     where the longest run from a on ends that leaves at least k words: the greatest b up to s
@@ -28,7 +29,9 @@ use Rattle.word.specs.Reply.{Test, _when_, Reply, answer, refusal, reply, lent}
 use Rattle.combinations.specs.Combination.{rank}
 use Rattle.set_layout.specs.Layout.{widthOf}
 use Rattle.set_file.specs.Reading.{setTests}
-use Rattle.signatures.specs.Given.{Given, columnsFor}
+use Rattle.ties.specs.Ties.{noTies}
+use Rattle.signatures.specs.Given.{Given}
+use Rattle.signatures.specs.Free.{freeColumnsFor}
 use Rattle.signatures.specs.Sets.{given}
 use Rattle.cutter.specs.Greatest.{greatest}
 use Rattle.cutter.specs.declared.Cutting.{Cutting}
@@ -36,10 +39,10 @@ use Rattle.cutter.specs.declared.Cutting.the-variants.{Runs, Refused}
 
 abbrev pub alone : Given → ℕ → ℕ → Given
 alone g a b =
-    record { wiring = g .wiring; slices = b - a; values = λ t. g .values (a + t); marks = λ t. g .marks (a + t) }
+    record { wiring = g .wiring; slices = b - a; values = λ t. g .values (a + t); marks = λ t. g .marks (a + t); ties = noTies }
 
 unfoldable pub wordsLeft : Given → ℕ → ℕ → ℕ
-wordsLeft g a b = g .wiring .width - rank (columnsFor (alone g a b))
+wordsLeft g a b = g .wiring .width - rank (freeColumnsFor (alone g a b))
 
 unfoldable pub leaves : Given → ℕ → ℕ → ℕ → Bool
 leaves g k a b = leb k (wordsLeft g a b)

@@ -17,6 +17,7 @@ use Rattle.combinations.specs.Step.{steps, units}
 use Rattle.word.specs.Reply.{_when_, Reply, answer, refusal, reply}
 use Rattle.rows.specs.Lists.{cellsOf}
 use Rattle.rows.specs.declared.Rows.{Rows}
+use Rattle.ties.specs.Ties.{noTies}
 use Rattle.register.specs.Circuit.{Circuit, circuit}
 use Rattle.register.specs.declared.Register.{Register}
 use Rattle.signatures.specs.Given.{Given}
@@ -41,7 +42,7 @@ pub record Sound (k : Circuit) : Type 0 where
 
 abbrev pub seen : Register → List ℕ → ℕ → List ℕ → Rows → Given
 seen r ws s l rows =
-    record { wiring = circuit (min (r .m) 64) (r .taps) (r .inversion) ws; slices = s; values = λ t c. 0; marks = cellsOf l rows }
+    record { wiring = circuit (min (r .m) 64) (r .taps) (r .inversion) ws; slices = s; values = λ t c. 0; marks = cellsOf l rows; ties = noTies }
 
 -- the slices have been gone through: the first slice of each run, of at most 512, stands at the front of the list l
 pub record SlicedFor (g : Given) (k : ℕ) (l : List ℕ) (r : Slices) : Type 0 where

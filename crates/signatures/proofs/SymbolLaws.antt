@@ -140,7 +140,7 @@ revised-symbols g h r =
     listing-ext (columnAt (g .wiring) (g .slices) (g .ties)) (columnAt (g .wiring) (g .slices) (g .ties)) (firstMarks (g .marks) (g .ties))
     (firstMarks (h .marks) (g .ties)) (chains (g .wiring)) (g .slices)
     (λ t c lt lc.
-    ap (λ (d : ℕ). listed (firstMark (g .ties) d (naming (g .ties) t c)) (columnAt (g .wiring) (g .slices) (g .ties) t c)) (r .marks t c lt lc))
-    ∙ ap (λ (k : Circuit). symbolColumns k (g .slices) (h .marks) (g .ties)) (r .wiring)
-    ∙ ap (λ (s : ℕ). symbolColumns (h .wiring) s (h .marks) (g .ties)) (r .slices)
+    ap (λ (d : ℕ). listed (firstMark (g .ties) d (naming (g .ties) t c)) (columnAt (g .wiring) (g .slices) (g .ties) t c)) (r .same .marks t c lt lc))
+    ∙ ap (λ (k : Circuit). symbolColumns k (g .slices) (h .marks) (g .ties)) (r .same .wiring)
+    ∙ ap (λ (s : ℕ). symbolColumns (h .wiring) s (h .marks) (g .ties)) (r .same .slices)
     ∙ ap (symbolColumns (h .wiring) (h .slices) (h .marks)) (r .ties)

@@ -17,6 +17,7 @@
 --   unknownsFor g       document 01: the number of unknown cells
 --   zeroed g            the filling that gives every symbol a 0: a cell tied as opposite is 1 there
 --   zeroSignatureFor g  document 02: the signature for all symbols 0
+--   SameMarks g h       h has the register, the chains, the number of slices and the marks of g
 --   RevisedFrom g h     h has the register, the chains, the number of slices, the marks and the ties of g; its values may be others. Document 02,
 --                       No. 2: "Designers correct expected values weekly while the unknown marks stay."
 use mathlib.Core.Path.{_≡_}
@@ -82,8 +83,11 @@ zeroed g t c = cond (eqb (g .marks t c) 0) (g .values t c) (sideOf (g .ties) (na
 abbrev pub zeroSignatureFor : Given → ℕ
 zeroSignatureFor g = signature (g .wiring) (zeroed g) (g .slices)
 
-pub record RevisedFrom (g h : Given) : Type 0 where
+pub record SameMarks (g h : Given) : Type 0 where
   pub wiring : g .wiring ≡ h .wiring
   pub slices : g .slices ≡ h .slices
   pub marks : (t c : ℕ) → t < g .slices → c < chains (g .wiring) → g .marks t c ≡ h .marks t c
+
+pub record RevisedFrom (g h : Given) : Type 0 where
+  pub same : SameMarks g h
   pub ties : g .ties ≡ h .ties
