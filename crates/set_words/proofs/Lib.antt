@@ -1,2 +1,1 @@
 pub mod ReduceLaws
-pub mod KeptLaws

@@ -1,14 +1,13 @@
-// The words of a taken set's unknown cells, from portions of their columns. It sees the portions, the elimination and a taken set.
+// The words of marked cells, from portions of their columns. It sees the portions, the elimination and a taken set.
 ghost use mathlib.Core.Path.{_≡_};
 ghost use mathlib.Core.Bool.{true};
-ghost use mathlib.Core.List.{List, [], _∷_};
+ghost use mathlib.Core.List.{List};
 ghost use Prim.Native.Nat.{ℕ, _+_, _-_, _*_, _≤_, _<_};
 ghost use lib.ListN.{length, take};
-ghost use Rattle.word.specs.Reply.{lent, numberOf};
 ghost use Rattle.combinations.specs.Step.{units};
 ghost use Rattle.rows.specs.Lists.{cellsOf};
 ghost use Rattle.portions.specs.Portions.{wiring, slicesIn};
-ghost use Rattle.set_words.specs.Working.{workingTest, workingAfter, takenWidth, takenWords, keptReply, said};
+ghost use Rattle.set_words.specs.Working.{takenWidth, takenWords};
 ghost use Rattle.set_words.specs.Reducing.{Reduced, Done};
 use portions::Portion;
 use portions::Source;
@@ -20,12 +19,6 @@ const WORKING_PLACES: usize = 64;
 
 // Up to so many columns are made one by one; from there on it is faster to advance all the chains' words together.
 const FEW_COLUMNS: u64 = 512;
-
-// What making the words answers: q, or the first number that applies.
-pub enum Kept {
-    Words { q: u64 },
-    Refused { number: u64 },
-}
 
 // How far the work has come: the columns that are left, as after a portion; how many words are left, and about how many columns; whether
 // the last portion took at most one word away.
@@ -239,49 +232,21 @@ fn reduce_marked(
     )
 }
 
-// The words of the cells that the rows of a list mark, for the register and the chains of a taken set. Answers with q, and writes the q
-// words over the front of `words`. Meets 14, 17 and 18, in that order; past 14 the first 64 places of `working` hold 0, and a refusal
-// writes nothing else.
-pub fn fill_words(
+// The words of the cells that the rows of a list mark, for the register and the chains of a taken set, from the words of single bits on,
+// which stand in `held`; by portions in a working list of 64 places. Answers with how many words are left, which stand at the front of
+// `held`. With fewer working places it does nothing.
+pub fn reduce_cells(
     taken: Taken,
     list: &[u8],
     marks: Rows,
     working: &mut [u64],
-    words: &mut [u64],
-) -> Kept
-    ensures answer { λ r. ⌜ said r ≡ keptReply taken (now (list .entry)) marks (length (now (working .entry))) (length (now (words .entry))) ⌝ }
-    ensures working { λ _. ⌜ now (working .exit) ≡ workingAfter (workingTest (length (now (working .entry))) ∷ []) (now (working .entry)) ⌝ }
-    ensures words { λ _. ⌜ now (words .exit) ≡ lent (keptReply taken (now (list .entry)) marks (length (now (working .entry))) (length (now (words .entry)))) (takenWords taken (now (list .entry)) marks) (now (words .entry)) ⌝ }
+    held: &mut [u64],
+) -> usize
+    ensures left { λ r. ⌜ r ≤ length (now (held .entry)) ⌝ }
+    ensures words { λ r. ⌜ (64 ≤ length (now (working .entry)) → now (held .entry) ≡ units (takenWidth taken) → (r ≡ length (takenWords taken (now (list .entry)) marks)) × (take r (now (held .exit)) ≡ takenWords taken (now (list .entry)) marks)) ⌝ }
 {
     if working.len() < WORKING_PLACES {
-        return Kept::Refused { number: 14 };
+        return held.len();
     }
-    let width = register::width_limit(taken.register.m) as usize;
-    let mut held = elimination::unit_words();
-    let q = reduce_marked(
-        taken,
-        list,
-        marks,
-        &mut working[..WORKING_PLACES],
-        &mut held[..width],
-    );
-    word::clear_words(&mut working[..WORKING_PLACES]);
-    if q == 0 {
-        return Kept::Refused { number: 17 };
-    }
-    if words.len() < q {
-        return Kept::Refused { number: 18 };
-    }
-    elimination::write_front(words, &held[..q]);
-    Kept::Words { q: q as u64 }
-}
-
-// The refusal's number; 0 of an answer.
-pub fn number_of(kept: Kept) -> u64
-    ensures { λ r. ⌜ r ≡ numberOf (said kept) ⌝ }
-{
-    match kept {
-        Kept::Words { q: _ } => 0,
-        Kept::Refused { number } => number,
-    }
+    reduce_marked(taken, list, marks, working, held)
 }
