@@ -9,15 +9,14 @@
 -- Assumes nothing.
 use mathlib.Core.Path.{_≡_, refl, sym, ap, ap₂, _∙_}
 use mathlib.Core.Bool.{cond}
-use mathlib.Core.Option.{Option, none, some}
+use mathlib.Core.Option.{Option}
 use Prim.Native.Nat.{ℕ, zero, _<_}
 use native.Mathlib.Omega.{arith}
 use lib.Dec.{eqb}
 use Rattle.rows.specs.Marks.{total}
 use Rattle.rows.proofs.MarkLaws.{total-ext}
-use Rattle.ties.specs.Ties.{Ties}
-use Rattle.ties.specs.Symbols.{flag, naming, namedSymbols, firstMark, firstMarks}
-use Rattle.ties.proofs.SymbolLaws.{naming-some}
+use Rattle.ties.specs.Symbols.{flag, namedSymbols, firstMark, firstMarks}
+use Rattle.ties.proofs.SymbolLaws.{unnamed}
 use Rattle.register.specs.Circuit.{chains}
 use Rattle.signatures.specs.Signature.{Response, column}
 use Rattle.signatures.specs.Symbols.{sourceColumn, columnAt}
@@ -25,14 +24,6 @@ use Rattle.signatures.specs.Given.{Given, FillingOf, columnsFor, symbols
 use Rattle.signatures.specs.Free.{FreeFillingOf, freeColumnsFor, freeZeroed, freeZeroSignatureFor}
 use Rattle.signatures.proofs.SignatureLaws.{signature-ext}
 use Rattle.signatures.proofs.ListingLaws.{listing-ext, same-listed, listing-columns}
-
--- without entries no cell is named
-unnamed : (e : Ties) → e .count ≡ 0 → (t c : ℕ) → naming e t c ≡ none
-unnamed e z t c = go (naming e t c) refl
-  where
-    go : (o : Option ℕ) → naming e t c ≡ o → naming e t c ≡ none
-    go none q = q
-    go (some i) q = let found = naming-some e (e .count) t c i q in let clash : ⊥ = omega (arith, found .0) in absurd clash
 
 module _ (g : Given) (bare : g .ties .count ≡ 0) where
   pub filling-free : (x : Response) → FillingOf g x → FreeFillingOf g x

@@ -4,6 +4,7 @@
 --   names-own       an entry names its own cell
 --   naming-some     the entry that is found names the cell
 --   naming-none     where none is found, none does
+--   unnamed         without entries no cell is named
 --   naming-own      in sound ties the entry that names its cell is found there
 --   opening         each entry's symbol has a first entry
 --   unmarked-free   without flags the marks of all named cells are taken out
@@ -62,6 +63,14 @@ naming-none e (suc k) t c h i l = go (names e k t c) refl (naming-none e k t c) 
     go true p f q = let z : _≡_ {A = ℕ} 0 1 = cc in let g : ⊥ = omega arith in absurd g
     go false p f q =
         ⊎-elim (λ (same : i ≡ k). ap (λ (j : ℕ). names e j t c) same ∙ p) (λ (m : i < k). f q i m) (eq-or-lt-of-le (le-of-suc-le-suc l))
+
+-- without entries no cell is named
+pub unnamed : (e : Ties) → e .count ≡ 0 → (t c : ℕ) → naming e t c ≡ none
+unnamed e z t c = go (naming e t c) refl
+  where
+    go : (o : Option ℕ) → naming e t c ≡ o → naming e t c ≡ none
+    go none q = q
+    go (some i) q = let found = naming-some e (e .count) t c i q in let clash : ⊥ = omega (arith, found .0) in absurd clash
 
 -- no other entry names the cell of one
 module _ (s n : ℕ) (u : ℕ → Cells) (e : Ties) (sound : Sound s n u e) where

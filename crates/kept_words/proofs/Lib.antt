@@ -1,0 +1,3 @@
+pub mod FreeLaws
+pub mod JoinLaws
+pub mod KeptLaws
