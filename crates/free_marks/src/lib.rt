@@ -88,8 +88,8 @@ fn clear_entry(copy: &mut [u8], n: u16, ties: &[u8], flags: &[u64], i: u16)
 }
 
 // The rows of marks of s slices of n chains, one after the other, without the marks of the cells that the first `count` entries name whose
-// flag is 0; an entry past the flags' end has flag 0. The rows of 512 slices of 256 chains are all there; the cells of more than 256 chains
-// or 512 slices are copied as far as the list goes.
+// flag is 0; an entry past the flags' end has flag 0. All rows are there up to 256 chains and 512 slices, and of more as far as 16,384 bytes
+// go.
 pub fn unmark(
     list: &[u8],
     marks: Rows,

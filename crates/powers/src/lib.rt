@@ -53,7 +53,7 @@ pub fn powers(register: Register) -> [u64; 576]
 }
 
 // The XOR of the powers whose bit in w is 1.
-fn from_powers(powers: &[u64], w: u64) -> u64
+pub fn from_powers(powers: &[u64], w: u64) -> u64
     ensures { λ r. ⌜ r ≡ fromPowers (now (powers .entry)) w ⌝ }
 {
     let mut left = w;

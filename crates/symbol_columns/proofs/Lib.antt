@@ -1,0 +1,2 @@
+pub mod SymbolLaws
+pub mod FillLaws
