@@ -12,7 +12,7 @@ use Rattle.rows.specs.Row.{cell, rowBytes}
 use Rattle.rows.specs.Lists.{listRow, cellsOf}
 use Rattle.rows.specs.declared.Rows.{Rows}
 use Rattle.ties.specs.Ties.{tiesIn}
-use Rattle.ties.specs.Symbols.{freeMark, freeMarks, unmarked}
+use Rattle.ties.specs.Symbols.{naming, freeMark, freeMarks, unmarked}
 use Rattle.ties.proofs.SymbolLaws.{unnamed, unmarked-free}
 use Rattle.register.specs.Circuit.{Circuit, chains}
 use Rattle.set_layout.specs.Layout.{widthOf, circuitOf, chainsOf, slicesOf, markAt, marks, tieCountOf, tieBytes, tiesOf}
@@ -46,7 +46,7 @@ module _ (set : List ℕ) (k : Taken) (taken : TakenFrom set k) where
   pub own-width : takenWidth k ≡ widthOf set
   own-width = omega (arith, taken .width, accepted-width set whole .1)
 
-  own-slices : min (k .s) 512 ≡ slicesOf set
+  pub own-slices : min (k .s) 512 ≡ slicesOf set
   own-slices = omega (arith, taken .slices, whole .slices)
 
   -- rows that mark the set's free cells
@@ -73,6 +73,7 @@ module _ (set : List ℕ) (k : Taken) (taken : TakenFrom set k) where
         → (k .n ≤ 256 → k .s ≤ 512 → r .bytes ≡ rowBytes (k .n)
         → (t c : ℕ) → t < k .s → cell (listRow (k .n) copy t) c ≡ unmarked (cellsOf set r) (tiesIn ties count) [] t c)
         → takenWords k copy r′ ≡ freeWords set
+    unfolding freeMarks
     copied-words copy ties count r′ e′ ec et made =
         free-words copy r′
         (λ t c lt lc.
@@ -80,10 +81,4 @@ module _ (set : List ℕ) (k : Taken) (taken : TakenFrom set k) where
         ∙ made (omega (arith, taken .chains, accepted-chains set whole .1)) (omega (arith, taken .slices, whole .slices)) (e .2) t c (omega (arith, taken .slices))
         ∙ ap₂ (λ (l : List ℕ) (i : ℕ). unmarked (cellsOf set r) (tiesIn l i) [] t c) et ec
         ∙ unmarked-free (cellsOf set r) (tiesOf set) t c
-        ∙ same t c)
-      where
-        same : (t c : ℕ) → freeMarks (cellsOf set r) (tiesOf set) t c ≡ freeMarks (marks set) (tiesOf set) t c
-        same t c = marked t c
-
-        marked : (t c : ℕ) → freeMarks (cellsOf set r) (tiesOf set) t c ≡ freeMarks (marks set) (tiesOf set) t c
-        marked t c = ap (λ (row : List ℕ). freeMarks (λ (i : ℕ). cell row) (tiesOf set) t c) (mark-rows-row set (k .n) r (taken .chains) e t)
+        ∙ ap (λ (d : ℕ). freeMark d (naming (tiesOf set) t c)) (own-marks t c))

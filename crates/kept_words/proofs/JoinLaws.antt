@@ -1,10 +1,14 @@
--- The words of the free cells, and then the columns of the named symbols: the words of the set. Assumes nothing.
+-- The words of the free cells, and then the columns of the named symbols: the words of the set.
+--
+--   joined-words      the columns of the named symbols make the words of the free cells those of the set
+--   symbols-reduced   .. where they stand behind the first 64 working places
+-- Assumes nothing.
 use mathlib.Core.Path.{_≡_, sym, ap, ap₂, _∙_}
 use mathlib.Core.List.{List, _++_}
 use Prim.Native.Nat.{ℕ, _-_, _≤_}
 use native.Mathlib.Omega.{arith}
-use lib.ListN.{length, take, drop}
-use lib.Seq.{take-append-le, drop-at}
+use lib.ListN.{length, take, drop, length-take, length-drop}
+use lib.Seq.{take-all, take-append-le, drop-at, length-take-le}
 use Rattle.word.specs.Zeros.{filled}
 use Rattle.combinations.specs.Reduced.{reducedList}
 use Rattle.combinations.specs.Step.{steps}
@@ -28,3 +32,29 @@ joined-words set a =
     sym (portion-after (widthOf set) (columnsBelow (circuitOf set) (slicesOf set) (freeMarks (marks set) (tiesOf set)) (slicesOf set))
     (namedColumns (circuitOf set) (slicesOf set) (tiesOf set)))
     ∙ sym (order-alike (widthOf set) _ _ (same-members (circuitOf set) (slicesOf set) (marks set) (tiesOf set) (set-ties set a)))
+
+-- the columns stand behind the first 64 places of w, of which `part` was written; the words h of the free cells became h′
+module _ (set : List ℕ) (a : Accepted set) (w part h h′ : List ℕ) (free q : ℕ) (room : 64 ≤ length w) (behind : drop 64 w ≡ namedOfSet set)
+    (long : length part ≡ length (take 64 w)) (words : take free h ≡ freeWords set)
+    (count : q ≡ length (steps (take (length (part ++ drop 64 w) - 64) (drop 64 (part ++ drop 64 w))) (take free h)))
+    (list : h′ ≡ filled (steps (take (length (part ++ drop 64 w) - 64) (drop 64 (part ++ drop 64 w))) (take free h)) (length (take free h))) where
+  many : length part ≡ 64
+  many = long ∙ length-take-le 64 w room
+
+  symbols : drop 64 (part ++ drop 64 w) ≡ namedOfSet set
+  symbols = drop-at part (drop 64 w) 64 many ∙ behind
+
+  all : take (length (part ++ drop 64 w) - 64) (drop 64 (part ++ drop 64 w)) ≡ namedOfSet set
+  all = take-all (length (part ++ drop 64 w) - 64) (drop 64 (part ++ drop 64 w)) (omega (arith, length-drop 64 (part ++ drop 64 w))) ∙ symbols
+
+  own : steps (namedOfSet set) (take free h) ≡ wordsOf set
+  own = ap (steps (namedOfSet set)) words ∙ joined-words set a
+
+  in-front : take q h′ ≡ wordsOf set
+  in-front = front-words (part ++ drop 64 w) (take free h) h′ 64 q count list ∙ ap (λ (cs : List ℕ). steps cs (take free h)) symbols ∙ own
+
+  pub symbols-reduced : (q ≡ length (wordsOf set)) × (take q (h′ ++ drop free h) ≡ wordsOf set)
+  symbols-reduced =
+      let number : q ≡ length (wordsOf set) = count ∙ ap (λ (cs : List ℕ). length (steps cs (take free h))) all ∙ ap length own in
+      let inside : q ≤ length h′ = omega (arith, number, ap length in-front, length-take q h′) in
+      (number, take-append-le q h′ (drop free h) inside ∙ in-front)

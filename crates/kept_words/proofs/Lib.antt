@@ -1,3 +1,4 @@
 pub mod FreeLaws
+pub mod PutLaws
 pub mod JoinLaws
 pub mod KeptLaws
