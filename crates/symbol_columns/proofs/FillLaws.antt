@@ -137,6 +137,12 @@ module _ (k : Circuit) (s : ℕ) (e : Ties) (l₀ : List ℕ) (room : length (na
   unfolding namedColumns
   named-ends i place l w e′ = filled-ends (namedPart k s e) l₀ (e .count) i place l room w e′
 
+-- for a number of slices that is another's
+pub named-slices : (k : Circuit) (s s′ : ℕ) (e : Ties) (l l′ : List ℕ) → s ≡ s′ → length (namedColumns k s′ e) ≤ length l
+    → (length (namedColumns k s e) ≤ length l → l′ ≡ front (namedColumns k s e) l) → l′ ≡ front (namedColumns k s′ e) l
+named-slices k s s′ e l l′ es room made =
+    made (subst (λ (x : ℕ). length (namedColumns k x e) ≤ length l) (sym es) room) ∙ ap (λ (x : ℕ). front (namedColumns k x e) l) es
+
 flag-lt : (b : Bool) → cond {A = ℕ} b 1 0 < 2
 flag-lt true = omega arith
 flag-lt false = omega arith
