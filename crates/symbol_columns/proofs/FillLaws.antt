@@ -1,20 +1,25 @@
 -- The columns of the named symbols written one after the other, and the lists that they are made from in a taken set.
 --
 --   Filled f l₀ l place i   the words that the first i lists of f have stand in l from place 0 on, and l is else as l₀; `place` is behind them
+--   filled-starts           .. of none; filled-turns, filled-ends: the loop that writes them
 --   flagged-none, flagged-one   an entry's list, by its flag
+--   put-none, put-past, put-one   what is put, by the flag and the room; put-room: the list's length stays
+--   namedPart k s e i       what entry i adds to the columns of the named symbols
+--   named-turns, named-ends   the loop that writes these; named-slices: for a number of slices that is another's
 --   named-length            there are as many columns as named symbols
 --   taken-powered           a taken set's powers and spread words
+--   taken-within            its ties' cells lie in its slices and chains
 --   taken-symbols           .. and its ties' symbol numbers
 -- Assumes nothing.
 use mathlib.Core.Path.{_≡_, refl, sym, ap, ap₂, subst, _∙_}
 use mathlib.Core.Bool.{Bool, true, false, cond}
 use mathlib.Core.Logic.{⊎-elim}
-use mathlib.Core.List.{List, [], _∷_, _++_}
-use Prim.Native.Nat.{ℕ, zero, suc, _+_, _-_, _*_, _≤_, _<_, min}
-use native.Mathlib.Nat.{eq-or-lt-of-le, le-of-suc-le-suc, not-suc-le-zero}
+use mathlib.Core.List.{List, [], _∷_}
+use Prim.Native.Nat.{ℕ, zero, suc, _+_, _*_, _≤_, _<_, min}
+use native.Mathlib.Nat.{eq-or-lt-of-le, le-of-suc-le-suc}
 use native.Mathlib.Numerals.{add-one}
 use native.Mathlib.Omega.{arith}
-use lib.ListN.{length, getD, take, drop, set, length-append}
+use lib.ListN.{length, getD, take, set, length-append}
 use lib.Seq.{sets, length-sets, length-take-le, getD-take, set-out}
 use Rattle.word.specs.Reply.{front}
 use Rattle.numbers.specs.Bytes.{countAt}
@@ -32,7 +37,7 @@ use Rattle.set_file.specs.declared.Taken.{Taken}
 use Rattle.signatures.specs.Later.{later}
 use Rattle.signatures.specs.Symbols.{symbolColumn, namedColumns}
 use Rattle.powers.proofs.PowerLaws.{later-same}
-use Rattle.symbol_columns.specs.Powered.{Powered, NumbersIn, SymbolsFrom}
+use Rattle.symbol_columns.specs.Powered.{Powered, SymbolsFrom}
 
 -- ---- one word, where its flag is set
 
