@@ -1,21 +1,22 @@
 -- Cells cleared in rows of n chains.
 --
+--   others k         the byte with all bits set but bit k
 --   cleared-cell     one store clears one cell and leaves the others
 --   cleared-past     a row without that byte has nothing to clear
 --   cleared-end      nor has a list that ends before it
 --   entry-clears     the cell of an entry whose flag is 0 is cleared
 --   entry-leaves     .. of one whose flag isn't, left
---   entries-turn     one entry more
+--   entries-start, entries-turn, entries-end   the loop over the entries
 -- Assumes nothing.
 use mathlib.Core.Path.{_≡_, refl, sym, ap, ap₂, subst, _∙_}
 use mathlib.Core.Bool.{Bool, true, false, not, cond, _&&_, _||_}
-use mathlib.Core.Logic.{dite, ⊎-elim}
+use mathlib.Core.Logic.{dite}
 use mathlib.Core.List.{List}
-use Prim.Native.Nat.{ℕ, zero, suc, _+_, _-_, _*_, _/_, _%_, _^_, _≤_, _<_, min}
+use Prim.Native.Nat.{ℕ, _+_, _-_, _*_, _/_, _%_, _^_, _≤_, _<_, min}
 use native.Mathlib.Numerals.{add-one}
 use native.Mathlib.Decide.{decLt, ℕ-discrete}
 use native.Mathlib.Omega.{arith}
-use borrow.Author.Tests.{eq-eqb, ne-eqb, eqb-true, eqb-false, not-false}
+use borrow.Author.Tests.{eq-eqb, ne-eqb, eqb-true, not-false}
 use lib.Bits.{bitAnd, and-step, and-shr}
 use lib.Dec.{eqb}
 use lib.ListN.{length, getD, set, List·getD-eq-default}
@@ -35,7 +36,6 @@ use Rattle.free_marks.proofs.CopyLaws.{row-byte, row-byte-past}
 
 -- ---- a bit of a byte
 
--- the byte with all bits set but bit k
 abbrev pub others : ℕ → ℕ
 others k = 255 - (1 * 2 ^ k) % 256
 

@@ -1,17 +1,20 @@
 -- Bytes written into a list, and rows copied one after the other.
 --
 --   BytesLeft l₀ l bs at i   once the bytes bs from place i on are written into l, all of bs stand in l₀ from place `at` on
---   Copied b f l t           the rows f 0 to f (t - 1) stand in l, b bytes each, and there is nothing behind them
+--   bytes-start, bytes-turn, bytes-end   the loop that writes them
+--   row-byte, row-byte-past  a byte of a row is one of the list; past the row's end it is 0
+--   Copied b f l t           the rows f 0 to f (t - 1) stand in l, b bytes each, and zeros behind them
+--   copied-starts, rows-turn, rows-end   the loop that copies rows: at its end every cell is that of the row that was copied
 -- Assumes nothing.
-use mathlib.Core.Path.{_≡_, refl, sym, ap, ap₂, subst, _∙_}
+use mathlib.Core.Path.{_≡_, refl, sym, ap, ap₂, _∙_}
 use mathlib.Core.Logic.{dite}
 use mathlib.Core.List.{List, [], _∷_}
 use Prim.Native.Nat.{ℕ, zero, suc, _+_, _-_, _*_, _/_, _%_, _≤_, _<_, min}
-use native.Mathlib.Nat.{add-zero, mul-suc, mul-zero, mul-le-mul-left, mul-le-mul-right}
+use native.Mathlib.Nat.{add-zero, mul-suc, mul-le-mul-left, mul-le-mul-right}
 use native.Mathlib.Numerals.{add-one}
-use native.Mathlib.Decide.{decLt, ℕ-discrete}
+use native.Mathlib.Decide.{decLt}
 use native.Mathlib.Omega.{arith}
-use lib.ListN.{length, getD, take, drop, set, replicate, length-set, length-take, drop-of-length-le, getD-replicate, List·getD-eq-default, length-replicate}
+use lib.ListN.{length, getD, drop, set, replicate, length-set, length-take, drop-of-length-le, getD-replicate, List·getD-eq-default, length-replicate}
 use lib.Seq.{drop-cons, sets, getD-set-same, getD-set-other, getD-take, getD-drop}
 use Rattle.word.specs.Word.{digit}
 use Rattle.numbers.proofs.ByteLaws.{sets-past-end}
@@ -96,7 +99,7 @@ module _ (b : ℕ) (f : ℕ → List ℕ) where
     rows = λ u j h. let z : ⊥ = omega arith in absurd z;
   }
 
-  pub copied-turns : (l l′ : List ℕ) (t at : ℕ) → Copied l t → length (f t) ≤ b → b * t + b ≤ length l → at ≡ b * t → l′ ≡ sets l at (f t)
+  copied-turns : (l l′ : List ℕ) (t at : ℕ) → Copied l t → length (f t) ≤ b → b * t + b ≤ length l → at ≡ b * t → l′ ≡ sets l at (f t)
       → Copied l′ (t + 1)
   copied-turns l l′ t at w short room ea e = record { clear = behind; rows = inside }
     where
@@ -127,7 +130,7 @@ module _ (b : ℕ) (f : ℕ → List ℕ) where
           (λ (q : u < t → ⊥). let last : u ≡ t = omega arith in ap (λ (x : ℕ). getD l′ (b * x + j) 0) last ∙ here j k ∙ ap (λ (x : ℕ). getD (f x) j 0) (sym last))
 
 -- every cell is that of the row that was copied
-pub copied-cell : (n : ℕ) (f : ℕ → List ℕ) (l : List ℕ) (s t : ℕ) → Copied (rowBytes n) f l s → t < s → length (f t) ≤ rowBytes n
+copied-cell : (n : ℕ) (f : ℕ → List ℕ) (l : List ℕ) (s t : ℕ) → Copied (rowBytes n) f l s → t < s → length (f t) ≤ rowBytes n
     → (c : ℕ) → cell (listRow n l t) c ≡ cell (f t) c
 copied-cell n f l s t w h short c = ap (digit (c % 8)) byte
   where
@@ -141,7 +144,7 @@ copied-cell n f l s t w h short c = ap (digit (c % 8)) byte
         row-byte-past n l t (c / 8) past ∙ sym (List·getD-eq-default (f t) 0 end))
 
 -- 512 rows of 256 chains have room
-pub rows-room : (n s t : ℕ) → n ≤ 256 → s ≤ 512 → t < s → rowBytes n * t + rowBytes n ≤ 16384
+rows-room : (n s t : ℕ) → n ≤ 256 → s ≤ 512 → t < s → rowBytes n * t + rowBytes n ≤ 16384
 rows-room n s t hn hs h =
     omega (arith, row-step (rowBytes n) t s h, mul-le-mul-left (rowBytes n) hs, mul-le-mul-right 512 (few n hn))
   where
@@ -151,7 +154,7 @@ rows-room n s t hn hs h =
 -- ---- the rows that stand in a list
 
 module _ (n : ℕ) (list : List ℕ) (marks : Rows) (whole : marks .bytes ≡ rowBytes n) where
-  pub row-short : (t : ℕ) → length (rowOf list marks t) ≤ rowBytes n
+  row-short : (t : ℕ) → length (rowOf list marks t) ≤ rowBytes n
   row-short t = omega (arith, length-take (marks .bytes) (drop (marks .at + marks .stride * t) list))
 
   pub rows-turn : (s t bytes : ℕ) (l l′ row : List ℕ) → n ≤ 256 → s ≤ 512 → t < s → length l ≡ 16384 → bytes ≡ rowBytes n

@@ -1,20 +1,25 @@
 -- The columns of the named symbols written one after the other, and the lists that they are made from in a taken set.
 --
 --   Filled f l₀ l place i   the words that the first i lists of f have stand in l from place 0 on, and l is else as l₀; `place` is behind them
+--   filled-starts           .. of none; filled-turns, filled-ends: the loop that writes them
 --   flagged-none, flagged-one   an entry's list, by its flag
+--   put-none, put-past, put-one   what is put, by the flag and the room; put-room: the list's length stays
+--   namedPart k s e i       what entry i adds to the columns of the named symbols
+--   named-turns, named-ends   the loop that writes these; named-slices: for a number of slices that is another's
 --   named-length            there are as many columns as named symbols
 --   taken-powered           a taken set's powers and spread words
+--   taken-within            its ties' cells lie in its slices and chains
 --   taken-symbols           .. and its ties' symbol numbers
 -- Assumes nothing.
 use mathlib.Core.Path.{_≡_, refl, sym, ap, ap₂, subst, _∙_}
 use mathlib.Core.Bool.{Bool, true, false, cond}
 use mathlib.Core.Logic.{⊎-elim}
-use mathlib.Core.List.{List, [], _∷_, _++_}
-use Prim.Native.Nat.{ℕ, zero, suc, _+_, _-_, _*_, _≤_, _<_, min}
-use native.Mathlib.Nat.{eq-or-lt-of-le, le-of-suc-le-suc, not-suc-le-zero}
+use mathlib.Core.List.{List, [], _∷_}
+use Prim.Native.Nat.{ℕ, zero, suc, _+_, _*_, _≤_, _<_, min}
+use native.Mathlib.Nat.{eq-or-lt-of-le, le-of-suc-le-suc}
 use native.Mathlib.Numerals.{add-one}
 use native.Mathlib.Omega.{arith}
-use lib.ListN.{length, getD, take, drop, set, length-append}
+use lib.ListN.{length, getD, take, set, length-append}
 use lib.Seq.{sets, length-sets, length-take-le, getD-take, set-out}
 use Rattle.word.specs.Reply.{front}
 use Rattle.numbers.specs.Bytes.{countAt}
@@ -32,7 +37,7 @@ use Rattle.set_file.specs.declared.Taken.{Taken}
 use Rattle.signatures.specs.Later.{later}
 use Rattle.signatures.specs.Symbols.{symbolColumn, namedColumns}
 use Rattle.powers.proofs.PowerLaws.{later-same}
-use Rattle.symbol_columns.specs.Powered.{Powered, NumbersIn, SymbolsFrom}
+use Rattle.symbol_columns.specs.Powered.{Powered, SymbolsFrom}
 
 -- ---- one word, where its flag is set
 
@@ -136,6 +141,12 @@ module _ (k : Circuit) (s : ℕ) (e : Ties) (l₀ : List ℕ) (room : length (na
   pub named-ends : (i place : ℕ) (l : List ℕ) → Filled (namedPart k s e) l₀ l place i → i ≡ e .count → l ≡ front (namedColumns k s e) l₀
   unfolding namedColumns
   named-ends i place l w e′ = filled-ends (namedPart k s e) l₀ (e .count) i place l room w e′
+
+-- for a number of slices that is another's
+pub named-slices : (k : Circuit) (s s′ : ℕ) (e : Ties) (l l′ : List ℕ) → s ≡ s′ → length (namedColumns k s′ e) ≤ length l
+    → (length (namedColumns k s e) ≤ length l → l′ ≡ front (namedColumns k s e) l) → l′ ≡ front (namedColumns k s′ e) l
+named-slices k s s′ e l l′ es room made =
+    made (subst (λ (x : ℕ). length (namedColumns k x e) ≤ length l) (sym es) room) ∙ ap (λ (x : ℕ). front (namedColumns k x e) l) es
 
 flag-lt : (b : Bool) → cond {A = ℕ} b 1 0 < 2
 flag-lt true = omega arith

@@ -1,19 +1,21 @@
 -- The columns of symbols by the powers of the register: of one cell, of one symbol, and of the cells that take the opposite.
 --
 --   power-column     a cell's column from the powers
---   chosen-entry     an entry's, where it is chosen
---   symbolTerm       what entry i adds to the column of a symbol number
+--   chosen-entry     an entry's, where it is chosen; unchosen: 0 where it isn't
+--   symbolTerm k s e j i   what entry i adds to the column of symbol number j
 --   symbol-starts    entries before the first with a number add nothing to its column; symbol-turns: one entry more; symbol-ends: all of them
 --   symbol-alone     a symbol with one entry has that cell's column
---   opposites-turn   the cells that take the opposite, one more
+--   not-on, on-side, off-side   what a test says
+--   sideTerm k s e i   what entry i adds to the XOR for the cells that take the opposite
+--   opposites-start, opposites-turn, opposites-end   the loop over them; opposites-none: where there is none
 -- Assumes nothing.
 use mathlib.Core.Path.{_≡_, refl, sym, ap, ap₂, subst, _∙_}
 use mathlib.Core.Bool.{Bool, true, false, not, cond}
 use mathlib.Core.Logic.{dite}
 use mathlib.Core.List.{List}
-use Prim.Native.Nat.{ℕ, zero, suc, _+_, _-_, _*_, _≤_, _<_, min}
+use Prim.Native.Nat.{ℕ, zero, suc, _+_, _-_, _<_, min}
 use native.Mathlib.Numerals.{add-one}
-use native.Mathlib.Decide.{decLt, ℕ-discrete}
+use native.Mathlib.Decide.{decLt}
 use native.Mathlib.Omega.{arith}
 use borrow.Author.Tests.{eq-eqb, ne-eqb, eqb-true, not-false}
 use lib.Bits.{bitXor}
@@ -24,9 +26,8 @@ use Rattle.word.specs.Some.{anyBelow}
 use Rattle.word.specs.Span.{xorBelow}
 use Rattle.word.proofs.SomeLaws.{any-below-false}
 use Rattle.word.proofs.XorLaws.{xor-below-none, xor-below-suc, xor-below-zero, xor-below-one}
-use Rattle.numbers.specs.Bytes.{countAt}
 use Rattle.numbers.proofs.PartLaws.{part-clamped}
-use Rattle.ties.specs.Ties.{Ties, entryBytes, tiesIn}
+use Rattle.ties.specs.Ties.{Ties}
 use Rattle.ties.specs.Symbols.{opens, Within}
 use Rattle.chains.specs.Driven.{chosen}
 use Rattle.chains.proofs.Laws.{good-spread}
@@ -37,7 +38,7 @@ use Rattle.signatures.specs.Symbols.{symbolColumn, sideColumns}
 use Rattle.signatures.proofs.ColumnLaws.{column-closed}
 use Rattle.powers.specs.Powers.{fromPowers}
 use Rattle.powers.proofs.PowerLaws.{from-powers, powers-part}
-use Rattle.symbol_columns.specs.Powered.{Powered, NumbersIn, SymbolsFrom}
+use Rattle.symbol_columns.specs.Powered.{Powered, NumbersIn}
 
 -- ---- one cell
 

@@ -1,10 +1,10 @@
 // The columns of named symbols, and of the cells that take the opposite of theirs, one by one by the powers of the register. It sees ties and
-// their flags, the register's powers and a taken set. Every function is total.
+// their flags, the register's powers and a taken set. Every public function is total.
 ghost use mathlib.Core.Path.{_≡_};
 ghost use mathlib.Core.Bool.{true, false, not, cond};
 ghost use Prim.Native.Nat.{ℕ, _+_, _<_, _≤_, min};
 ghost use lib.Dec.{eqb};
-ghost use lib.ListN.{length, getD, take};
+ghost use lib.ListN.{length, take};
 ghost use lib.Seq.{sets};
 ghost use Rattle.word.specs.Some.{anyBelow};
 ghost use Rattle.word.specs.Reply.{front};

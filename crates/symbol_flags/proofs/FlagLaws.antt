@@ -1,17 +1,20 @@
 -- Symbol numbers and flags.
 --
 --   Made f l i        the first i places of l have what f gives, and the others 0
+--   made-starts, made-turns   the loop that makes it
+--   any-starts, any-turns, any-ends   a loop that looks at all of a range
 --   openingBy ns i    the flag of entry i by the list ns of symbol numbers
 --   numbers-any       a test over the first places of a list is one over the list
+--   found-none, missing-one   the flag by the number found or missing; opening-made: over the first places of a list
 --   flags-opened      the flags made from the symbol numbers are those of the ties
+--   counted-starts, counted-turns, counted-ends   a loop that adds up
 --   flags-counted     the number of flags that aren't 0 is that of the named symbols
 -- Assumes nothing.
 use mathlib.Core.Path.{_≡_, refl, sym, ap, ap₂, _∙_}
 use mathlib.Core.Bool.{Bool, true, false, not, cond, _||_}
 use mathlib.Core.Logic.{dite}
 use mathlib.Core.List.{List}
-use Prim.Native.Nat.{ℕ, zero, suc, _+_, _*_, _≤_, _<_, min}
-use native.Mathlib.Nat.{le-of-lt}
+use Prim.Native.Nat.{ℕ, _+_, _*_, _≤_, _<_, min}
 use native.Mathlib.Numerals.{add-one}
 use native.Mathlib.Decide.{decLt, ℕ-discrete}
 use native.Mathlib.Omega.{arith}

@@ -1,5 +1,5 @@
 -- `copy_rows` meets its contract. The loop's invariant: the first `t` rows stand in the list, and zeros behind them.
-use mathlib.Core.Path.{_≡_, refl, ap, _∙_}
+use mathlib.Core.Path.{_≡_, ap, _∙_}
 use Prim.Native.Nat.{ℕ, _≤_, _-_}
 use native.Mathlib.Omega.{arith}
 use borrow.Author.Needs.{needs}

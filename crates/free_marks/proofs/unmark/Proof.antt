@@ -1,7 +1,7 @@
 -- `unmark` meets its contract. The loop's invariant: the cells of the first `i` entries whose flag is 0 are cleared, and the others are as
 -- they were copied.
-use mathlib.Core.Path.{_≡_, refl}
-use mathlib.Core.Bool.{Bool, cond, _&&_}
+use mathlib.Core.Path.{_≡_}
+use mathlib.Core.Bool.{cond, _&&_}
 use Prim.Native.Nat.{ℕ, _≤_, _-_}
 use native.Mathlib.Omega.{arith}
 use borrow.Author.Needs.{needs}

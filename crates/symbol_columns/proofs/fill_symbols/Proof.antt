@@ -1,16 +1,12 @@
 -- `fill_symbols` meets its contract: the lists that `fill_named` is handed are those of the taken set and its ties.
-use mathlib.Core.Path.{_≡_, sym, ap, subst, _∙_}
-use mathlib.Core.List.{List}
-use Prim.Native.Nat.{ℕ, _≤_}
+use mathlib.Core.Path.{sym}
 use native.Mathlib.Omega.{arith}
 use borrow.Author.Needs.{needs}
-use lib.ListN.{length, length-take}
+use lib.ListN.{length-take}
 use lib.Seq.{length-take-le}
-use Rattle.word.specs.Reply.{front}
 use Rattle.ties.specs.Ties.{tiesIn}
 use Rattle.set_file.specs.Reading.{takenCircuit}
-use Rattle.signatures.specs.Symbols.{namedColumns}
-use Rattle.symbol_columns.proofs.FillLaws.{taken-symbols}
+use Rattle.symbol_columns.proofs.FillLaws.{named-slices, taken-symbols}
 use Rattle.symbol_columns.proofs.fill_symbols.Statement.{statement}
 use Rattle.symbol_columns.proofs.fill_symbols.Tie as tie
 
@@ -33,15 +29,12 @@ returns c inside good flagged room =
     let table = c .before .before .before .before .before .before .before .before .before .powers in
     let limit = c .before .before .before .before .before .before .before .before .tie-limit in
     let numbers = c .before .before .before .before .before .before .before .symbol-numbers in
-    let columns : ℕ → List ℕ = λ s. namedColumns (takenCircuit (args .taken)) s (tiesIn (args .ties .now) (args .count)) in
-    let fits : length (columns (slices .result)) ≤ length (args .places .now) =
-    subst (λ (s : ℕ). length (columns s) ≤ length (args .places .now)) (sym (slices .ensures)) room in
-    c .before .before .fill-named .ensures (takenCircuit (args .taken)) (args .count)
+    named-slices (takenCircuit (args .taken)) _ _ (tiesIn (args .ties .now) (args .count)) (args .places .now) _ (slices .ensures) room
+    (c .before .before .fill-named .ensures (takenCircuit (args .taken)) (args .count)
     (taken-symbols (args .taken) (width .result) (chains .result) (slices .result) (words .result) (table .result) (width .ensures) (chains .ensures)
     (slices .ensures) (words .ensures) (search needs) (table .ensures) good (args .ties .now) (args .count) (limit .result) (numbers .result) (limit .ensures)
     (search needs) (numbers .ensures) inside)
-    flagged fits
-    ∙ ap (λ (s : ℕ). front (columns s) (args .places .now)) (slices .ensures)
+    flagged)
 
 pub fill-symbols-spec : {M : Type 1} → statement M
 fill-symbols-spec =

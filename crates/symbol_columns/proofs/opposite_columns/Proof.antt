@@ -1,6 +1,6 @@
 -- `opposite_columns` meets its contract. The loop's invariant: `sum` is the XOR for the first `i` entries.
 use mathlib.Core.Path.{_≡_}
-use Prim.Native.Nat.{ℕ, _≤_, _-_}
+use Prim.Native.Nat.{_≤_, _-_}
 use native.Mathlib.Omega.{arith}
 use borrow.Author.Needs.{needs}
 use lib.ListN.{length}

@@ -1,5 +1,5 @@
 -- `side_columns` meets its contract: where no cell takes the opposite the XOR of none, and else by the powers of the taken set.
-use mathlib.Core.Path.{_≡_, sym, ap, _∙_}
+use mathlib.Core.Path.{sym, ap, _∙_}
 use Prim.Native.Nat.{ℕ}
 use borrow.Author.Needs.{needs}
 use lib.Seq.{length-take-le}
