@@ -2,7 +2,7 @@
 use mathlib.Core.Path.{_≡_, refl, sym, ap, ap₂, _∙_, subst}
 use mathlib.Core.Bool.{Bool, true, false}
 use mathlib.Core.List.{List, [], _∷_, _++_}
-use Prim.Native.Nat.{ℕ, _≤_, _<_}
+use Prim.Native.Nat.{ℕ, _+_, _≤_, _<_}
 use native.Mathlib.Omega.{arith}
 use borrow.Author.Tests.{le-ltb, lt-ltb, eq-eqb, ne-eqb}
 use lib.Dec.{eqb, ltb}
@@ -15,8 +15,9 @@ use Rattle.word.proofs.ReplyLaws.{refusal-leaves, answer-leaves}
 use Rattle.combinations.specs.Combination.{onlyEmpty}
 use Rattle.combinations.proofs.Theorems.{only-empty-list}
 use Rattle.set_layout.specs.Layout.{widthOf}
-use Rattle.signatures.specs.Sets.{columnsOf}
-use Rattle.kept_words.specs.Working.{wordsOf, workingPlaces, workingTest, workingAfter, keptTests, keptReply, said}
+use Rattle.signatures.specs.Sets.{columnsOf, namedOf}
+use Rattle.kept_words.specs.Working.{wordsOf, workingPlaces, workingTest, workingAfter, keptTests, keptReply, said, namedOfSet, withSymbols}
+use Rattle.kept_words.proofs.PutLaws.{short-symbols, symbols-behind, rest-as-was}
 use Rattle.kept_words.specs.declared.Kept.{Kept}
 use Rattle.kept_words.specs.declared.Kept.the-variants.{Words, Refused}
 
@@ -88,3 +89,27 @@ pub cleared-alike : (p : ℕ) (w v : List ℕ) → drop p w ≡ drop p v → fro
 unfolding front
 cleared-alike p w v e =
     ap (λ (i : ℕ). zeros p ++ drop i w) (length-zeros p) ∙ ap (λ (l : List ℕ). zeros p ++ l) e ∙ ap (λ (i : ℕ). zeros p ++ drop i v) (sym (length-zeros p))
+
+-- ---- the working list with the columns of the symbols: w became w′, with `symbols` of them
+
+module _ (set w w′ : List ℕ) (symbols : ℕ) (put : (symbols ≡ namedOf set) × (w′ ≡ withSymbols set w)) (long : length w′ ≡ length w) where
+  places : 64 + symbols ≡ workingPlaces set
+  places = ap (λ (i : ℕ). 64 + i) (put .0)
+
+  pub put-short-14 : length w′ < 64 + symbols → (length w < workingPlaces set) × (w′ ≡ w)
+  put-short-14 h =
+      let short : length w < workingPlaces set = omega (arith, h, long, places) in (short, put .1 ∙ sym (short-symbols set w short))
+
+  module _ (h : 64 + symbols ≤ length w′) where
+    pub put-room : workingPlaces set ≤ length w
+    put-room = omega (arith, h, long, places)
+
+    pub put-behind : drop 64 (take (64 + symbols) w′) ≡ namedOfSet set
+    put-behind = ap₂ (λ (i : ℕ) (l : List ℕ). drop 64 (take i l)) places (put .1) ∙ symbols-behind set w put-room
+
+    pub put-cleared : (part z : List ℕ) → length part ≡ length (take (64 + symbols) w′)
+        → z ≡ zeros (length (take (64 + symbols) (part ++ drop (64 + symbols) w′)))
+        → z ++ drop (64 + symbols) (part ++ drop (64 + symbols) w′) ≡ front (zeros (workingPlaces set)) w
+    put-cleared part z lp ez =
+        cleared-places (64 + symbols) w′ part z h lp ez ∙ ap (λ (i : ℕ). front (zeros i) w′) places
+        ∙ cleared-alike (workingPlaces set) w′ w (ap (drop (workingPlaces set)) (put .1) ∙ rest-as-was set w put-room)

@@ -50,7 +50,7 @@ named-of-set set = named-length (circuitOf set) (slicesOf set) (tiesOf set)
 -- ---- a working list with them
 
 module _ (set w : List ℕ) where
-  short-symbols : length w < workingPlaces set → w ≡ withSymbols set w
+  pub short-symbols : length w < workingPlaces set → w ≡ withSymbols set w
   short-symbols h = rw (lt-ltb (length w) (workingPlaces set) h)
 
   pub room-symbols : workingPlaces set ≤ length w → withSymbols set w ≡ take 64 w ++ (namedOfSet set ++ drop (workingPlaces set) w)

@@ -15,7 +15,7 @@ returns : tie.Need-returns
 returns c = (omega arith, (λ taken room. let clash : ⊥ = omega (arith, c .if1 .taken, room) in absurd clash))
 
 slice-aggregate-reduce-free : tie.Need-slice-aggregate-reduce-free
-slice-aggregate-reduce-free c = sym (length-take-le 64 (c .before .before .before .before .args .working .now) (search needs))
+slice-aggregate-reduce-free c = sym (length-take-le 64 (c .before .before .before .before .before .args .working .now) (search needs))
 
 slice-aggregate-add-columns : tie.Need-slice-aggregate-add-columns
 slice-aggregate-add-columns c = sym (length-take-le _ _ (search needs))
@@ -28,7 +28,7 @@ returns-2 c =
       omega (arith, fewer-words _ _ _ (added .ensures .0), length-take (reduced .result) (reduced .last .1 .1 .1 .0), reduced .ensures .0),
       (λ taken room behind start.
           let free = reduced .ensures .1 taken (omega (arith, length-take-le 64 (args .working .now) room)) start in
-          symbols-reduced _ (whole _ _ taken) (args .working .now) _ _ _ _ _ room behind (reduced .kept .1 .1 .0) (free .1) (added .ensures .0) (added .ensures .1)),
+          symbols-reduced _ (whole _ _ taken) (args .working .now) (reduced .last .1 .1 .0) (reduced .last .1 .1 .1 .0) _ (reduced .result) _ room behind (reduced .kept .1 .1 .0) (free .1) (added .ensures .0) (added .ensures .1)),
     )
 
 pub reduce-symbols-spec : {M : Type 1} → statement M
