@@ -62,7 +62,7 @@ pub tied-lists : (l e : List ℕ) (n s k x : ℕ) (r : Rows) → (r .at ≡ 0) �
     → x ≡ firstOf (tieTests s n (cellsOf l r) (tiesIn e k)) → x ≡ firstOf (tieTests s n (λ t. cell (listRow n l t)) (tiesIn e k))
 tied-lists l e n s k x r er ex =
     ex
-    ∙ tie-tests-marks s n (cellsOf l r) (λ t. cell (listRow n l t)) (tiesIn e k) (λ t c. ap (λ (row : List ℕ). cell row c) (row-listed l n r er t))
+    ∙ tie-tests-marks s n (cellsOf l r) (λ t. cell (listRow n l t)) (tiesIn e k) (λ t b c. ap (λ (row : List ℕ). cell row c) (row-listed l n r er t))
 
 -- ---- two lists of s rows of n chains
 
