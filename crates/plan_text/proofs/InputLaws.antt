@@ -1,5 +1,5 @@
 -- How much of its input the plan printer has to read. Document 01: "An input longer than any set counts as a set of the wrong
--- length." The longest set has 34,838 bytes, and an input that is longer prints what its first 34,839 bytes print:
+-- length." The longest set has 36,632 bytes, and an input that is longer prints what its first 36,633 bytes print:
 --
 --   longest-set       a set that meets none of its numbers has no more
 --   long-refused      a longer input prints its first number
@@ -15,20 +15,21 @@ use Prim.Native.Nat.{ℕ, suc, _*_, _<_, _≤_}
 use native.Mathlib.Nat.{mul-le-mul-right}
 use native.Mathlib.Omega.{arith}
 use borrow.Author.Tests.{le-ltb, ltb-false, ne-eqb}
-use lib.Dec.{eqb, ltb}
+use lib.Dec.{ltb}
 use lib.ListN.{length, take}
 use lib.Seq.{length-take-le}
 use Rattle.word.specs.Word.{badWidth}
 use Rattle.numbers.specs.Bytes.{numberAt, wordsAt}
 use Rattle.word.specs.Reply.{firstOf}
-use Rattle.word.proofs.BoolLaws.{or-false-right}
+use Rattle.word.proofs.BoolLaws.{or-false-right, or-true-left, or-true-right}
 use Rattle.numbers.proofs.ByteLaws.{number-at-take, words-at-take}
 use Rattle.rows.specs.Row.{rowBytes}
+use Rattle.ties.specs.Ties.{mostTies}
 use Rattle.register.specs.Circuit.{badTaps, badInversion, badChains, tooManySlices}
 use Rattle.chains.specs.Driven.{badSpread}
-use Rattle.set_layout.specs.Layout.{tapsAt, inversionAt, chainsAt, spreadAt, slicesAt, headLength, setLength, widthOf, tapsOf, inversionOf, chainsOf, spreadOf, slicesOf}
+use Rattle.set_layout.specs.Layout.{tapsAt, inversionAt, chainsAt, spreadAt, slicesAt, headLength, setLength, widthOf, tapsOf, inversionOf, chainsOf, spreadOf, slicesOf, tieCountOf}
 use Rattle.set_layout.proofs.LayoutLaws.{good-chains}
-use Rattle.set_file.specs.Reading.{badSlices, setTests}
+use Rattle.set_file.specs.Reading.{badSlices, wrongLength, setTests}
 use Rattle.set_file.proofs.Laws.{Accepted, accepted, accepted-chains}
 use Rattle.planner.proofs.NumberLaws.{set-first}
 use Rattle.plan_lines.specs.Lines.{refusedLine}
@@ -37,13 +38,26 @@ use Rattle.plan_text.proofs.RefusalLaws.{early-printed}
 
 -- ---- the longest set
 
-set-length-most : (n s : ℕ) → n ≤ 256 → s ≤ 512 → setLength n s ≤ longest
-set-length-most n s hn hs =
+set-length-most : (n s k : ℕ) → n ≤ 256 → s ≤ 512 → k ≤ mostTies → setLength n s k ≤ longest
+set-length-most n s k hn hs hk =
     let rows : 2 * rowBytes n ≤ 64 = omega arith in omega (arith, mul-le-mul-right s rows)
 
 pub longest-set : (set : List ℕ) → Accepted set → length set ≤ longest
 longest-set set a =
-    omega (arith, a .long, set-length-most (chainsOf set) (slicesOf set) (accepted-chains set a .1) (a .slices))
+    omega (arith, a .long, set-length-most (chainsOf set) (slicesOf set) (tieCountOf set) (accepted-chains set a .1) (a .slices) (a .few))
+
+-- one that is longer has a wrong length, whatever its count of ties says
+too-long : (set : List ℕ) → chainsOf set ≤ 256 → slicesOf set ≤ 512 → longest < length set → wrongLength set ≡ true
+too-long set n s h = by-count (ltb mostTies (tieCountOf set)) refl
+  where
+    by-count : (b : Bool) → ltb mostTies (tieCountOf set) ≡ b → wrongLength set ≡ true
+    by-count true e = or-true-left (ltb mostTies (tieCountOf set)) _ e
+    by-count false e =
+        or-true-right (ltb mostTies (tieCountOf set)) _
+        (ap not
+        (ne-eqb (length set) (setLength (chainsOf set) (slicesOf set) (tieCountOf set))
+        (λ (d : length set ≡ setLength (chainsOf set) (slicesOf set) (tieCountOf set)).
+        omega (arith, set-length-most (chainsOf set) (slicesOf set) (tieCountOf set) n s (ltb-false mostTies (tieCountOf set) e)))))
 
 -- ---- a longer input
 
@@ -107,14 +121,8 @@ module _ (set : List ℕ) (h : longest < length set) where
     unfolding badSlices
     few-slices e = ltb-false 512 (slicesOf set) (or-false-right (ltb (length set) (headLength (chainsOf set))) (tooManySlices (slicesOf set)) e)
 
-    too-long : (l : ℕ) → longest < l → slicesOf set ≤ 512 → not (eqb l (setLength (chainsOf set) (slicesOf set))) ≡ true
-    too-long l g s =
-        ap not (ne-eqb l (setLength (chainsOf set) (slicesOf set)) (λ (e : l ≡ setLength (chainsOf set) (slicesOf set)). omega (arith, set-length-most (chainsOf set) (slicesOf set) n s)))
-
-    front-too-long : slicesOf set ≤ 512 → not (eqb (length front) (setLength (chainsOf front) (slicesOf front))) ≡ true
-    front-too-long s =
-        ap₂ (λ (c t : ℕ). not (eqb (length front) (setLength c t))) same-chains same-slices
-        ∙ too-long (length front) (omega (arith, front-length)) s
+    front-too-long : slicesOf set ≤ 512 → wrongLength front ≡ true
+    front-too-long s = too-long front (omega (arith, same-chains, n)) (omega (arith, same-slices, s)) (omega (arith, front-length))
 
   few-chains : (ltb (length set) spreadAt || badChains (chainsOf set)) ≡ false → chainsOf set ≤ 256
   few-chains e = good-chains (chainsOf set) (or-false-right (ltb (length set) spreadAt) (badChains (chainsOf set)) e) .1
@@ -139,7 +147,7 @@ module _ (set : List ℕ) (h : longest < length set) where
       (λ e6.
       alike _ _ 7 _ _ (same-bad-slices n)
       (λ e7.
-      stops _ 8 _ (front-too-long n (few-slices n e7)) ∙ sym (stops _ 8 _ (too-long n (length set) h (few-slices n e7)))))))))))
+      stops _ 8 _ (front-too-long n (few-slices n e7)) ∙ sym (stops _ 8 _ (too-long set n (few-slices n e7) h))))))))))
 
   -- the number is 8, for the wrong length, or an earlier one
   pub long-number : UpToLength (firstOf (setTests set))
@@ -160,7 +168,7 @@ module _ (set : List ℕ) (h : longest < length set) where
       sooner (badSpread (widthOf set) (spreadOf set)) 6 _ (inl (omega arith))
       (λ e6.
       sooner (badSlices set) 7 _ (inl (omega arith))
-      (λ e7. at-last _ 8 _ (omega arith) (too-long (few-chains e4) (length set) h (few-slices (few-chains e4) e7))))))))))
+      (λ e7. at-last _ 8 _ (omega arith) (too-long set (few-chains e4) (few-slices (few-chains e4) e7) h)))))))))
 
   some-number : firstOf (setTests set) ≡ 0 → ⊥
   some-number z = let l : length set ≤ longest = longest-set set (accepted set z) in omega arith

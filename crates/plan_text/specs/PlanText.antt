@@ -22,9 +22,9 @@ textOf (refusal n) set = refusedLine n
 unfoldable pub planText : List ℕ → ℕ → ℕ → List ℕ
 planText set k l = textOf (planReply set k l) set
 
--- 256 chains and 512 slices
+-- 256 chains, 512 slices and 256 entries of ties
 abbrev pub longest : ℕ
-longest = setLength 256 512
+longest = setLength 256 512 256
 
 unfoldable pub printedText : List ℕ → List ℕ
 printedText set = planText set 4096 64

@@ -152,6 +152,6 @@ pub tied-of : (set l : List ℕ) (n s k x : ℕ) (r : Rows) → n ≡ chainsOf s
     → (r .at ≡ markAt n 0) × (r .stride ≡ 2 * rowBytes n) × (r .bytes ≡ rowBytes n) → x ≡ firstOf (tieTests s n (cellsOf set r) (tiesIn l k)) → Tied set x
 tied-of set l n s k x r en es ek el er ex =
     ex
-    ∙ tie-tests-marks s n (cellsOf set r) (marks set) (tiesIn l k) (λ t c. ap (λ (row : List ℕ). cell row c) (mark-rows-row set n r en er t))
+    ∙ tie-tests-marks s n (cellsOf set r) (marks set) (tiesIn l k) (λ t b c. ap (λ (row : List ℕ). cell row c) (mark-rows-row set n r en er t))
     ∙ ap₂ (λ (x y : ℕ). firstOf (tieTests x y (marks set) (tiesIn l k))) es en
     ∙ ap₂ (λ (y : List ℕ) (x : ℕ). firstOf (tieTests (slicesOf set) (chainsOf set) (marks set) (tiesIn y x))) el ek

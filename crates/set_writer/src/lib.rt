@@ -1,13 +1,15 @@
 // The set file of document 01: its writer. What it writes the reader (`set_file`) and the rows of one slice (`slice_rows`) give
 // back: proofs/RoundTrip. The numbers that it meets are those of its content (`set_content`). Every function is total.
 ghost use mathlib.Core.Path.{_≡_};
+ghost use mathlib.Core.List.{_++_};
 ghost use Prim.Native.Nat.{_*_, _<_};
 ghost use lib.ListN.{length};
 ghost use lib.Seq.{sets};
 ghost use Rattle.word.specs.Reply.{lent};
+ghost use Rattle.numbers.specs.Bytes.{bytesOf};
 ghost use Rattle.numbers.specs.Joined.{joined};
 ghost use Rattle.rows.specs.Row.{rowBytes};
-ghost use Rattle.set_layout.specs.Layout.{rowsAt};
+ghost use Rattle.set_layout.specs.Layout.{rowsAt, tieCountAt};
 ghost use Rattle.set_content.specs.Content.{setContent};
 ghost use Rattle.set_writer.specs.Writing.{headBytes, sliceBytes, setBytes, setWriteReply, saidSetWritten};
 
@@ -68,9 +70,17 @@ fn write_slices(out: &mut [u8], n: u16, s: u16, values: &[u8], marks: &[u8])
     }
 }
 
+// The count of ties and their entries, where a set of n chains and s slices has them; nothing past the end of out.
+fn write_ties(out: &mut [u8], n: u16, s: u16, count: u16, ties: &[u8])
+    ensures { λ _. ⌜ now (out .exit) ≡ sets (now (out .entry)) (tieCountAt n s) (bytesOf 2 count ++ now (ties .entry)) ⌝ }
+{
+    written_numbers::write_count(out, set_layout::tie_count_at(n, s), count as u64);
+    write_bytes(out, set_layout::ties_at(n, s), ties);
+}
+
 // The set writer: the set file of this content, over the front of the output; the rest of it stays. It meets 2, 3, 25, 4, 6, 7,
-// 8 (the length of a list of rows), 9, 10 and 24, in that order, and answers with the length of the file; a refusal writes
-// nothing.
+// 8 (the length of a list of rows, or of the entries of ties), 9, 10, 29, 30, 31 and 24, in that order, and answers with the length of the
+// file; a refusal writes nothing.
 pub fn write_set(
     m: u64,
     taps: u64,
@@ -79,10 +89,11 @@ pub fn write_set(
     values: &[u8],
     marks: &[u8],
     s: u64,
+    ties: &[u8],
     out: &mut [u8],
 ) -> Written
-    ensures answer { λ r. ⌜ saidSetWritten r ≡ setWriteReply (setContent m taps inversion (now (spread .entry)) (now (values .entry)) (now (marks .entry)) s) (length (now (out .entry))) ⌝ }
-    ensures file { λ _. ⌜ now (out .exit) ≡ lent (setWriteReply (setContent m taps inversion (now (spread .entry)) (now (values .entry)) (now (marks .entry)) s) (length (now (out .entry)))) (setBytes (setContent m taps inversion (now (spread .entry)) (now (values .entry)) (now (marks .entry)) s)) (now (out .entry)) ⌝ }
+    ensures answer { λ r. ⌜ saidSetWritten r ≡ setWriteReply (setContent m taps inversion (now (spread .entry)) (now (values .entry)) (now (marks .entry)) s (now (ties .entry))) (length (now (out .entry))) ⌝ }
+    ensures file { λ _. ⌜ now (out .exit) ≡ lent (setWriteReply (setContent m taps inversion (now (spread .entry)) (now (values .entry)) (now (marks .entry)) s (now (ties .entry))) (length (now (out .entry)))) (setBytes (setContent m taps inversion (now (spread .entry)) (now (values .entry)) (now (marks .entry)) s (now (ties .entry)))) (now (out .entry)) ⌝ }
 {
     let number = set_content::write_refusal(
         m,
@@ -92,6 +103,7 @@ pub fn write_set(
         values,
         marks,
         s,
+        ties,
         out.len(),
     );
     if number != 0 {
@@ -99,9 +111,11 @@ pub fn write_set(
     }
     let n = spread.len() as u16;
     let slices = s as u16;
+    let count = (ties.len() / ties::ENTRY_BYTES) as u16;
     write_head(out, m, taps, inversion, spread, s);
     write_slices(out, n, slices, values, marks);
+    write_ties(out, n, slices, count, ties);
     Written::Done {
-        length: set_layout::set_length(n, slices),
+        length: set_layout::set_length(n, slices, count),
     }
 }

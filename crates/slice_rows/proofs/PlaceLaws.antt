@@ -1,9 +1,9 @@
--- The place of one slice's row: what the companion's reply says, and the stretch of the set that it names.
+-- The place of one slice's row, and that of the ties: what the companion's reply says, and the stretch of the set that it names.
 use mathlib.Core.Path.{_≡_, refl, sym, ap, ap₂, _∙_}
 use mathlib.Core.Bool.{Bool, true, false, not}
 use mathlib.Core.List.{List, []}
 use mathlib.Core.Logic.{dite}
-use Prim.Native.Nat.{ℕ, _+_, _-_, _≤_, _<_, min}
+use Prim.Native.Nat.{ℕ, _+_, _-_, _*_, _≤_, _<_, min}
 use native.Mathlib.Decide.{ℕ-discrete}
 use native.Mathlib.Omega.{arith}
 use borrow.Author.Tests.{lt-ltb, ltb-true, not-false}
@@ -13,9 +13,10 @@ use Rattle.word.specs.Reply.{Reply, answer, refusal, firstOf}
 use Rattle.word.proofs.ReplyLaws.{refused-reply, replied-answered, refuses, passes}
 use Rattle.numbers.proofs.PartLaws.{part-clamped}
 use Rattle.rows.specs.Row.{rowBytes}
-use Rattle.set_layout.specs.Layout.{setLength, chainsOf, slicesOf, valueAt, markAt, valueRow, markRow}
+use Rattle.ties.specs.Ties.{entryBytes}
+use Rattle.set_layout.specs.Layout.{tiesAt, setLength, chainsOf, slicesOf, valueAt, markAt, valueRow, markRow, tieCountOf, tieBytes}
 use Rattle.set_file.specs.Reading.{setTests}
-use Rattle.slice_rows.specs.Rows.{Stretch, rowTests, rowReply, valueReply, markReply, stretch, stretchAt, saidPlace}
+use Rattle.slice_rows.specs.Rows.{Stretch, rowTests, rowReply, valueReply, markReply, tiesReply, stretch, stretchAt, saidPlace}
 use Rattle.slice_rows.specs.declared.Place.{Place}
 use Rattle.slice_rows.specs.declared.Place.the-variants.{At, Declined}
 use Rattle.word.proofs.TestLaws.{none-and-rest, first-sooner, first-later, none-of-both, replied-answer, replied-alike}
@@ -134,7 +135,7 @@ place-there set p a b start o e es =
     here ∙ ap (λ (x : Place). o + min (stretchAt (saidPlace x)) (length set)) (sym e)
 
 module _ (set : List ℕ) (t : ℕ) where
-  row-inside : (i : ℕ) → (t < slicesOf set → length set ≡ setLength (chainsOf set) (slicesOf set) → i ≤ length set)
+  row-inside : (i : ℕ) → (t < slicesOf set → length set ≡ setLength (chainsOf set) (slicesOf set) (tieCountOf set) → i ≤ length set)
       → stretchAt (rowReply set t i) ≤ length set
   unfolding rowReply
   row-inside i h =
@@ -159,6 +160,36 @@ module _ (set row : List ℕ) (at place : ℕ × ℕ) (p : Place) where
         h .0 ∙ ap (λ (x : Reply Stretch). stretch x set) e,
         (h .1 .0, h .1 .1 ∙ ap (λ (x : Reply Stretch). at .1 + min (stretchAt x) (length set)) e ∙ ap (λ (x : ℕ). at .1 + x) whole),
       )
+
+-- ---- the ties
+
+module _ (set : List ℕ) where
+  abbrev tiesFrom : Stretch
+  tiesFrom = record { start = tiesAt (chainsOf set) (slicesOf set); bytes = entryBytes * tieCountOf set }
+
+  pub ties-answers : firstOf (setTests set) ≡ 0 → tiesReply set ≡ answer tiesFrom
+  unfolding tiesReply
+  ties-answers z = replied-answered (firstOf (setTests set)) tiesFrom z
+
+  pub ties-refuses : (n : ℕ) → n ≡ firstOf (setTests set) → (n ≡ 0 → ⊥) → refusal n ≡ tiesReply set
+  unfolding tiesReply
+  ties-refuses n e h = refused-reply (firstOf (setTests set)) n tiesFrom e h
+
+  pub ties-named : (x n s k at : ℕ) → x ≡ firstOf (setTests set) → x ≡ 0 → n ≡ chainsOf set → s ≡ slicesOf set → k ≡ tieCountOf set → at ≡ tiesAt n s
+      → answer (record { start = at; bytes = entryBytes * k }) ≡ tiesReply set
+  ties-named x n s k at e z en es ek ea =
+      ap₂ (λ (i j : ℕ). answer (record { start = i; bytes = entryBytes * j })) (ea ∙ ap₂ tiesAt en es) ek ∙ sym (ties-answers (sym e ∙ z))
+
+  pub ties-inside-set : stretchAt (tiesReply set) ≤ length set
+  ties-inside-set =
+      dite (ℕ-discrete (firstOf (setTests set)) 0)
+      (λ (z : firstOf (setTests set) ≡ 0). rw (ties-answers z) (omega (arith, accepted set z .long)))
+      (λ (d : firstOf (setTests set) ≡ 0 → ⊥). rw (sym (ties-refuses (firstOf (setTests set)) refl d)) (omega arith))
+
+  -- the entries of an accepted set
+  pub ties-stretch : firstOf (setTests set) ≡ 0 → stretch (tiesReply set) set ≡ tieBytes set
+  unfolding tieBytes
+  ties-stretch a = ap (λ (r : Reply Stretch). stretch r set) (ties-answers a)
 
 -- ---- the rows of an accepted set
 

@@ -14,7 +14,7 @@
 --   saidPlace p         the paper's reading of what the companion hands back
 use mathlib.Core.Bool.{not}
 use mathlib.Core.List.{List, [], _∷_, _++_}
-use Prim.Native.Nat.{ℕ}
+use Prim.Native.Nat.{ℕ, _*_}
 use lib.Dec.{ltb}
 use lib.ListN.{take, drop}
 use Rattle.word.specs.Reply.{Test, _when_, Reply, answer, refusal, reply}

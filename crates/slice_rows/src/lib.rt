@@ -1,5 +1,5 @@
-// The rows of one slice of a set file: the value row, the row of unknown marks, and their places. It sees the set's tests and where
-// its parts stand. Every function is total.
+// The rows of one slice of a set file, the value row and the row of unknown marks, and the entries of its ties: their places, and the parts
+// of the set themselves. It sees the set's tests and where its parts stand. Every function is total.
 ghost use mathlib.Core.Path.{_≡_};
 ghost use mathlib.Core.Bool.{not};
 ghost use Prim.Native.Nat.{_+_, min};
@@ -7,9 +7,9 @@ ghost use lib.Dec.{ltb};
 ghost use lib.ListN.{length};
 ghost use Rattle.word.specs.Reply.{firstOf};
 ghost use Rattle.set_layout.specs.Layout.{slicesOf};
-ghost use Rattle.slice_rows.specs.Rows.{rowTests, valueReply, markReply, stretch, stretchAt, saidPlace};
+ghost use Rattle.slice_rows.specs.Rows.{rowTests, valueReply, markReply, tiesReply, stretch, stretchAt, saidPlace};
 
-// Where a row stands in the set: its first byte and how many, or the first number that applies.
+// Where a row or the entries of ties stand in the set: the first byte and how many, or the first number that applies.
 pub enum Place {
     At { start: usize, bytes: usize },
     Declined { number: u64 },
@@ -65,6 +65,23 @@ pub fn mark_place(set: &[u8], slice: u64) -> Place
     }
 }
 
+// Where the entries of ties stand in the set, without their count: no bytes where it has none. It meets the set's numbers.
+pub fn ties_place(set: &[u8]) -> Place
+    ensures { λ r. ⌜ saidPlace r ≡ tiesReply (now (set .entry)) ⌝ }
+{
+    let number = set_file::set_refusal(set);
+    if number != 0 {
+        return Place::Declined { number };
+    }
+    let n = set_layout::chain_count(set);
+    let s = set_layout::slice_count(set);
+    let entries = set_layout::tie_count(set) as usize;
+    Place::At {
+        start: set_layout::ties_at(n, s),
+        bytes: ties::ENTRY_BYTES * entries,
+    }
+}
+
 // The part of the set that a place names, as far as it is there; empty where it is declined.
 fn stretch_at(set: &[u8], place: Place) -> &[u8]
     ensures bytes { λ r. ⌜ now r ≡ stretch (saidPlace place) (now (set .entry)) ⌝ }
@@ -94,4 +111,13 @@ pub fn mark_row(set: &[u8], slice: u64) -> &[u8]
     ensures place { λ r. ⌜ (r .ptr .0 ≡ set .entry .ptr .0) × (r .ptr .1 ≡ set .entry .ptr .1 + stretchAt (markReply (now (set .entry)) slice)) ⌝ }
 {
     stretch_at(set, mark_place(set, slice))
+}
+
+// The entries of ties without their count, the stretch of the set itself: its bytes, in the memory where they stand; empty where the set
+// has none or `ties_place` declines.
+pub fn ties_stretch(set: &[u8]) -> &[u8]
+    ensures bytes { λ r. ⌜ now r ≡ stretch (tiesReply (now (set .entry))) (now (set .entry)) ⌝ }
+    ensures place { λ r. ⌜ (r .ptr .0 ≡ set .entry .ptr .0) × (r .ptr .1 ≡ set .entry .ptr .1 + stretchAt (tiesReply (now (set .entry)))) ⌝ }
+{
+    stretch_at(set, ties_place(set))
 }

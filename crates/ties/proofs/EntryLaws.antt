@@ -5,14 +5,15 @@
 --   side-above         a last byte above 1, as it is read
 --   side-within        .. and one that isn't
 --   tie-tests-none     no number applies where there is no entry
---   tie-tests-marks    the same marks give the same numbers
+--   wrong-cells-marks  29 asks only for the marks of slices that there are
+--   tie-tests-marks    .. and so do the three
 -- Assumes nothing.
 use mathlib.Core.Path.{_≡_, refl, ap, ap₂, _∙_}
 use mathlib.Core.Bool.{Bool, true, false, cond, not, _&&_, _||_}
 use mathlib.Core.List.{List}
 use Prim.Native.Nat.{ℕ, suc, _+_, _*_, _≤_, _<_}
 use native.Mathlib.Numerals.{add-one}
-use borrow.Author.Tests.{lt-ltb, le-ltb}
+use borrow.Author.Tests.{lt-ltb, le-ltb, ltb-true}
 use lib.Dec.{eqb, ltb}
 use Rattle.word.specs.Reply.{firstOf}
 use Rattle.word.specs.Some.{anyBelow}
@@ -54,9 +55,22 @@ pub tie-tests-none : (s n : ℕ) (u : ℕ → Cells) (e : Ties) → e .count ≡
 unfolding wrongCells wrongOrder wrongSides anyBelow
 tie-tests-none s n u e z = rw z refl
 
-pub tie-tests-marks : (s n : ℕ) (u v : ℕ → Cells) (e : Ties) → ((t c : ℕ) → u t c ≡ v t c) → firstOf (tieTests s n u e) ≡ firstOf (tieTests s n v e)
-unfolding wrongCells wrongCell
-tie-tests-marks s n u v e same =
-    ap (λ (b : Bool). cond b 29 (cond (wrongOrder e) 30 (cond (wrongSides e) 31 0)))
-    (any-below-ext (e .count) (wrongCell s n u e) (wrongCell s n v e)
-    (λ i l. ap (λ (x : ℕ). not (ltb (e .slice i) s && (ltb (e .chain i) n && eqb x 1))) (same (e .slice i) (e .chain i))))
+-- marks of slices that there are
+module _ (s n : ℕ) (u v : ℕ → Cells) (e : Ties) (same : (t : ℕ) → t < s → (c : ℕ) → u t c ≡ v t c) where
+  wrong-cell-marks : (i : ℕ) → wrongCell s n u e i ≡ wrongCell s n v e i
+  unfolding wrongCell
+  wrong-cell-marks i = by-slice (ltb (e .slice i) s) refl
+    where
+      by-slice : (b : Bool) → ltb (e .slice i) s ≡ b
+          → not (ltb (e .slice i) s && (ltb (e .chain i) n && eqb (u (e .slice i) (e .chain i)) 1))
+          ≡ not (ltb (e .slice i) s && (ltb (e .chain i) n && eqb (v (e .slice i) (e .chain i)) 1))
+      by-slice true h =
+          ap (λ (x : ℕ). not (ltb (e .slice i) s && (ltb (e .chain i) n && eqb x 1))) (same (e .slice i) (ltb-true (e .slice i) s h) (e .chain i))
+      by-slice false h = rw h refl
+
+  pub wrong-cells-marks : wrongCells s n u e ≡ wrongCells s n v e
+  unfolding wrongCells
+  wrong-cells-marks = any-below-ext (e .count) (wrongCell s n u e) (wrongCell s n v e) (λ i l. wrong-cell-marks i)
+
+  pub tie-tests-marks : firstOf (tieTests s n u e) ≡ firstOf (tieTests s n v e)
+  tie-tests-marks = ap (λ (b : Bool). cond b 29 (cond (wrongOrder e) 30 (cond (wrongSides e) 31 0))) wrong-cells-marks
