@@ -1,10 +1,11 @@
 -- Each way out of the call that gives the expected bits of a list of words, and what it answers; and what the call answers for a list that
 -- meets no number (expect-answered). Assumes nothing.
-use mathlib.Core.Path.{_≡_, sym, ap, ap₂, _∙_}
+use mathlib.Core.Path.{_≡_, sym, ap, ap₂, _∙_, subst}
 use mathlib.Core.Bool.{true, false}
 use mathlib.Core.List.{List}
-use Prim.Native.Nat.{ℕ, _≤_}
+use Prim.Native.Nat.{ℕ, _≤_, min}
 use native.Mathlib.Omega.{arith}
+use lib.Bits.{bitXor}
 use lib.ListN.{length, take}
 use lib.Seq.{take-all}
 use Rattle.word.specs.Parities.{parities}
@@ -14,25 +15,51 @@ use Rattle.word.proofs.TestLaws.{none-and-rest, first-of-later, first-sooner}
 use Rattle.combinations.specs.Reduced.{isReduced}
 use Rattle.reduced_list.specs.WordCount.{badWordCount}
 use Rattle.reduced_list.proofs.CountLaws.{good-count}
-use Rattle.register.specs.Circuit.{Circuit}
-use Rattle.set_layout.specs.Layout.{widthOf, circuitOf, values, valueRow}
+use Rattle.ties.specs.Ties.{Ties, tiesIn}
+use Rattle.ties.specs.Symbols.{Within}
+use Rattle.chains.specs.Driven.{badSpread}
+use Rattle.register.specs.Circuit.{Circuit, chains}
+use Rattle.set_layout.specs.Layout.{widthOf, circuitOf, slicesOf, values, valueRow, tieCountOf, tieBytes, tiesOf}
 use Rattle.set_file.specs.Reading.{setTests, takenCircuit, TakenFrom}
 use Rattle.set_file.specs.declared.Taken.{Taken}
 use Rattle.set_file.proofs.Laws.{accepted, accepted-width, set-numbered}
 use Rattle.signatures.specs.Signature.{signature}
-use Rattle.signatures.proofs.SetLaws.{zero-of-values}
+use Rattle.signatures.specs.Symbols.{sideColumns}
+use Rattle.signatures.specs.Sets.{zeroSignature}
+use Rattle.signatures.proofs.SetLaws.{set-ties-within, zero-of-values}
 use Rattle.signing.specs.Signing.{valueCells}
 use Rattle.expectation.specs.Expecting.{expectedFor, wordTests, expectTests, expectReply}
 
--- the signature of a taken set's value rows is that for all unknowns 0
-pub expected-taken : (set ws : List ℕ) (k : Taken) (y : ℕ) → TakenFrom set k → length ws ≤ 64
-    → y ≡ parities (take 64 ws) (signature (takenCircuit k) (valueCells (k .n) set) (k .s)) → y ≡ expectedFor set ws
+-- the columns of a taken set's cells that are tied as opposite
+pub opposite-taken : (set : List ℕ) (k : Taken) (ties : List ℕ) (count r : ℕ) → TakenFrom set k → ties ≡ tieBytes set → count ≡ tieCountOf set
+    → (Within (min (k .s) 512) (chains (takenCircuit k)) (tiesIn ties count) → badSpread (min (k .register .m) 64) (take (k .n) (k .spread)) ≡ false
+    → r ≡ sideColumns (takenCircuit k) (min (k .s) 512) (tiesIn ties count))
+    → r ≡ sideColumns (circuitOf set) (slicesOf set) (tiesOf set)
+opposite-taken set k ties count r taken et ec made =
+    let same : tiesIn ties count ≡ tiesOf set = ap₂ tiesIn et ec in
+    let slices : min (k .s) 512 ≡ slicesOf set = omega (arith, taken .slices, accepted set (taken .none) .slices) in
+    let width : min (k .register .m) 64 ≡ widthOf set = omega (arith, taken .width, accepted-width set (accepted set (taken .none)) .1) in
+    made
+    (subst (λ (e : Ties). Within (min (k .s) 512) (chains (takenCircuit k)) e) (sym same)
+    (subst (λ (x : Circuit). Within (min (k .s) 512) (chains x) (tiesOf set)) (sym (taken .circuit))
+    (subst (λ (s : ℕ). Within s (chains (circuitOf set)) (tiesOf set)) (sym slices) (set-ties-within set (accepted set (taken .none))))))
+    (ap₂ badSpread width (taken .spread) ∙ accepted set (taken .none) .spread)
+    ∙ ap₂ (λ (x : Circuit) (s : ℕ). sideColumns x s (tiesIn ties count)) (taken .circuit) slices ∙ ap (sideColumns (circuitOf set) (slicesOf set)) same
+
+-- .. XORed with the signature of its value rows give that for all symbols 0
+pub zero-taken : (set : List ℕ) (k : Taken) (y r : ℕ) → TakenFrom set k → y ≡ signature (takenCircuit k) (valueCells (k .n) set) (k .s)
+    → r ≡ sideColumns (circuitOf set) (slicesOf set) (tiesOf set) → bitXor y r ≡ zeroSignature set
 unfolding valueRow
-expected-taken set ws k y taken few e =
-    e ∙ ap (λ (l : List ℕ). parities l (signature (takenCircuit k) (valueCells (k .n) set) (k .s))) (take-all 64 ws few)
-    ∙ ap (parities ws)
-    (ap₂ (λ (x : Circuit) (n : ℕ). signature x (valueCells n set) (k .s)) (taken .circuit) (taken .chains)
-    ∙ ap (signature (circuitOf set) (values set)) (taken .slices) ∙ sym (zero-of-values set (accepted set (taken .none))))
+zero-taken set k y r taken e er =
+    ap₂ bitXor
+    (e ∙ ap₂ (λ (x : Circuit) (n : ℕ). signature x (valueCells n set) (k .s)) (taken .circuit) (taken .chains)
+    ∙ ap (signature (circuitOf set) (values set)) (taken .slices))
+    er
+    ∙ sym (zero-of-values set (accepted set (taken .none)))
+
+-- at most 64 words have all their bits there
+pub expected-taken : (set ws : List ℕ) (y : ℕ) → length ws ≤ 64 → y ≡ parities (take 64 ws) (zeroSignature set) → y ≡ expectedFor set ws
+expected-taken set ws y few e = e ∙ ap (λ (l : List ℕ). parities l (zeroSignature set)) (take-all 64 ws few)
 
 -- the set is refused with the number n
 pub expect-set-refused : (set ws : List ℕ) (n : ℕ) → n ≡ firstOf (setTests set) → (n ≡ 0 → ⊥) → refusal n ≡ expectReply set ws
@@ -69,8 +96,8 @@ words-limited m ws h none =
     omega (arith, good-count m (length ws) (none-and-rest (badWordCount m (length ws)) 19 _ none .0) .1)
 
 pub expect-answers : (set ws : List ℕ) (k : Taken) (n y : ℕ) → TakenFrom set k → n ≡ firstOf (wordTests (k .register .m) ws) → n ≡ 0
-    → y ≡ parities (take 64 ws) (signature (takenCircuit k) (valueCells (k .n) set) (k .s)) → answer y ≡ expectReply set ws
+    → y ≡ parities (take 64 ws) (zeroSignature set) → answer y ≡ expectReply set ws
 expect-answers set ws k n y taken e z ey =
     let neither : firstOf (wordTests (widthOf set) ws) ≡ 0 = ap (λ (x : ℕ). firstOf (wordTests x ws)) (sym (taken .width)) ∙ sym e ∙ z in
     let few : length ws ≤ 64 = words-limited (widthOf set) ws (accepted-width set (accepted set (taken .none)) .1) neither in
-    ap answer (expected-taken set ws k y taken few ey) ∙ sym (expect-answered set ws (taken .none) neither)
+    ap answer (expected-taken set ws y few ey) ∙ sym (expect-answered set ws (taken .none) neither)

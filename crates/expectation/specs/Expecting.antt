@@ -1,7 +1,7 @@
 -- The expected bits of a list of words. Document 02, No. 2: "Planning is to be split in two: one call gives the words, the other the
 -- expected bits for a set and its words"; "Handed a list that isn't the set's own, the second call still gives each word's parity, unless
 -- 20 (no words, or more than m) or 21 applies." Document 01: "The expected bit of a word is the parity of the bits it shares with the
--- signature for all unknowns 0."
+-- signature for all unknowns 0"; document 02, No. 7: "the expected signature has all symbols 0".
 --
 --   expectedFor set ws   the expected bits of the words ws for a set as one word, bit i for word i
 --   wordTests m ws       the numbers about the words, in order, for a register of m bits: 20 and 21

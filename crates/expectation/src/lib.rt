@@ -1,14 +1,15 @@
-// Expectations: the expected bits of a list of words for a set, whether or not the words are the set's own. It sees the signature for
-// all unknowns 0 and the test for a reduced list, and nothing of how words are made.
+// Expectations: the expected bits of a list of words for a set, whether or not the words are the set's own. It sees the signature of the
+// set's values, the columns of the cells tied as opposite and the test for a reduced list, and nothing of how words are made.
 ghost use mathlib.Core.Path.{_≡_};
 ghost use mathlib.Core.Bool.{not};
 ghost use lib.ListN.{take};
 ghost use Rattle.word.specs.Reply.{firstOf};
 ghost use Rattle.word.specs.Parities.{parities};
 ghost use Rattle.combinations.specs.Reduced.{isReduced};
-ghost use Rattle.set_file.specs.Reading.{takenCircuit};
-ghost use Rattle.signatures.specs.Signature.{signature};
-ghost use Rattle.signing.specs.Signing.{valueCells};
+ghost use Rattle.set_layout.specs.Layout.{circuitOf, slicesOf, tiesOf};
+ghost use Rattle.set_file.specs.Reading.{TakenFrom};
+ghost use Rattle.signatures.specs.Symbols.{sideColumns};
+ghost use Rattle.signatures.specs.Sets.{zeroSignature};
 ghost use Rattle.expectation.specs.Expecting.{wordTests, expectReply, saidExpected};
 use set_file::SetAnswer;
 use set_file::Taken;
@@ -19,12 +20,27 @@ pub enum Expected {
     Refused { number: u64 },
 }
 
-// The expected bits of the words for a taken set, bit i for word i, of the first 64 words: the parities of the words with the signature
-// of its value rows, which is that for all unknowns 0. It meets no number.
-pub fn expected_bits(taken: Taken, set: &[u8], words: &[u64]) -> u64
-    ensures { λ r. ⌜ r ≡ parities (take 64 (now (words .entry))) (signature (takenCircuit taken) (valueCells (taken .n) (now (set .entry))) (taken .s)) ⌝ }
+// The XOR of the columns of a taken set's cells that are tied as opposite.
+fn opposite_cells(taken: Taken, set: &[u8]) -> u64
+    ensures { λ r. ⌜ (TakenFrom (now (set .entry)) taken → r ≡ sideColumns (circuitOf (now (set .entry))) (slicesOf (now (set .entry))) (tiesOf (now (set .entry)))) ⌝ }
 {
-    let zero = signing::zero_signature(taken, set);
+    symbol_columns::side_columns(taken, set_layout::tie_bytes(set), set_layout::tie_count(set))
+}
+
+// The signature of a taken set for all symbols 0: that of its value rows as they stand, in which an unknown cell's bit is 0, XORed with the
+// columns of the cells that are tied as opposite.
+fn zero_signature(taken: Taken, set: &[u8]) -> u64
+    ensures { λ r. ⌜ (TakenFrom (now (set .entry)) taken → r ≡ zeroSignature (now (set .entry))) ⌝ }
+{
+    signing::sign_values(taken, set) ^ opposite_cells(taken, set)
+}
+
+// The expected bits of the words for a taken set, bit i for word i, of the first 64 words: the parities of the words with the signature for
+// all symbols 0. It meets no number.
+pub fn expected_bits(taken: Taken, set: &[u8], words: &[u64]) -> u64
+    ensures { λ r. ⌜ (TakenFrom (now (set .entry)) taken → r ≡ parities (take 64 (now (words .entry))) (zeroSignature (now (set .entry)))) ⌝ }
+{
+    let zero = zero_signature(taken, set);
     word::word_parities(words, zero)
 }
 

@@ -1,4 +1,4 @@
-// Signing: the signature of a response whose rows stand in a list of bytes, of a record, and of a set for all unknowns 0. It sees the
+// Signing: the signature of a response whose rows stand in a list of bytes, of a record, and of a set's values. It sees the
 // register, whose clock it lends each row, and the set file. Every function is total.
 ghost use mathlib.Core.Path.{_≡_};
 ghost use Rattle.rows.specs.Row.{rowBytes};
@@ -38,9 +38,8 @@ pub fn sign_rows(taken: Taken, list: &[u8], rows: Rows) -> u64
     register.state
 }
 
-// The signature of a taken set's value rows as they stand, which is that for all unknowns 0: an unknown cell's value bit is 0. It
-// meets no number.
-pub fn zero_signature(taken: Taken, set: &[u8]) -> u64
+// The signature of a taken set's value rows as they stand: an unknown cell's value bit is 0. It meets no number.
+pub fn sign_values(taken: Taken, set: &[u8]) -> u64
     ensures { λ r. ⌜ r ≡ signature (takenCircuit taken) (valueCells (taken .n) (now (set .entry))) (taken .s) ⌝ }
 {
     sign_rows(taken, set, set_layout::value_rows(taken.n))

@@ -18,7 +18,7 @@ returns-2 c =
 returns-3 : tie.Need-returns-3
 returns-3 c =
     let taken = taken-set _ _ _ _ _ _ (c .before .before .before .before .before .before .before .read-set .ensures) (c .before .before .before .before .before .answer .given .1) in
-    expect-answers _ (c .before .before .before .before .before .before .before .before .before .before .args .words .now) _ _ _ taken (c .before .before .before .words-refusal .ensures) (c .before .before .if1 .left) (c .expected-bits .ensures)
+    expect-answers _ (c .before .before .before .before .before .before .before .before .before .before .args .words .now) _ _ _ taken (c .before .before .before .words-refusal .ensures) (c .before .before .if1 .left) (c .expected-bits .ensures taken)
 
 pub expect-spec : {M : Type 1} → statement M
 expect-spec =
