@@ -20,7 +20,8 @@ use Rattle.signatures.specs.Given.{zeroed}
 use Rattle.signatures.specs.Sets.{given, Explained, columnsOf, zeroSignature, recordCells}
 use Rattle.signatures.proofs.FillingLaws.{known-differ, explained-differs, differs-explained}
 use Rattle.signatures.proofs.SetLaws.{values-lt, columns-of-within, signature-within}
-use Rattle.planner.specs.Planning.{wordsOf, expectedOf}
+use Rattle.kept_words.specs.Working.{wordsOf}
+use Rattle.planner.specs.Planning.{expectedOf}
 use Rattle.guarantee.specs.Demand.{Alike}
 
 -- ---- by the columns

@@ -13,7 +13,8 @@ use Rattle.set_layout.specs.Layout.{widthOf}
 use Rattle.set_file.specs.Reading.{setTests}
 use Rattle.set_file.proofs.Laws.{Accepted, accepted, accepted-width}
 use Rattle.signatures.specs.Sets.{columnsOf, zeroSignature}
-use Rattle.planner.specs.Planning.{wordsOf, expectedOf, earlierTests, planTests, PlanParts, partsOf, planReply}
+use Rattle.kept_words.specs.Working.{wordsOf}
+use Rattle.planner.specs.Planning.{expectedOf, earlierTests, planTests, PlanParts, partsOf, planReply}
 use Rattle.planner.proofs.NumberLaws as numbers
 use Rattle.planner.proofs.NumberLaws.{plan-later, earlier-set}
 use Rattle.planner.proofs.CallLaws.{planned-parts}

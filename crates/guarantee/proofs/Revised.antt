@@ -21,7 +21,8 @@ use Rattle.set_file.specs.Reading.{setTests}
 use Rattle.signatures.specs.Sets.{Explained, Revised}
 use Rattle.signing.specs.Signing.{signReply}
 use Rattle.expectation.specs.Expecting.{expectReply}
-use Rattle.planner.specs.Planning.{wordsOf, expectedOf, planTests, PlanParts, partsOf, planReply}
+use Rattle.kept_words.specs.Working.{wordsOf}
+use Rattle.planner.specs.Planning.{expectedOf, planTests, PlanParts, partsOf, planReply}
 use Rattle.planner.proofs.NumberLaws as numbers
 use Rattle.planner.proofs.InARow.{own-expected}
 use Rattle.planner.proofs.Revised.{same-width, same-words, same-number}

@@ -32,7 +32,8 @@ use Rattle.signatures.specs.Columns.{columnsBelow}
 use Rattle.signatures.specs.Sets.{given, columnsOf}
 use Rattle.signatures.proofs.ColumnLaws.{columns-ext}
 use Rattle.signatures.proofs.SetLaws.{columns-of-within}
-use Rattle.planner.specs.Planning.{wordsOf, earlierTests, planTests, wordPartsOf, wordsReply, partsOf, planReply}
+use Rattle.kept_words.specs.Working.{wordsOf}
+use Rattle.planner.specs.Planning.{earlierTests, planTests, wordPartsOf, wordsReply, partsOf, planReply}
 use Rattle.planner.proofs.NumberLaws.{earlier-past-set, plan-later}
 use Rattle.cutter.specs.Cutting.{wordsLeft, longestEnd, badShare, RunOf, startsOf, CutParts, cutReply}
 use Rattle.cutter.proofs.Theorems.{cut-none, cut-run}

@@ -22,7 +22,8 @@ use Rattle.set_file.specs.Reading.{setTests}
 use Rattle.signatures.specs.Sets.{Explained}
 use Rattle.signing.specs.Signing.{signTests, signReply}
 use Rattle.expectation.specs.Expecting.{wordTests, expectTests, expectReply}
-use Rattle.planner.specs.Planning.{wordsOf, WordParts, wordsReply, PlanParts, earlierTests, planReply}
+use Rattle.kept_words.specs.Working.{wordsOf}
+use Rattle.planner.specs.Planning.{WordParts, wordsReply, PlanParts, earlierTests, planReply}
 use Rattle.planner.proofs.InARow.{words-of-plan}
 use Rattle.plan_file.specs.Checking.{planFileTests}
 use Rattle.plan_writer.specs.Writing.{PlanContent, planContent, planWriteTests, planWriteReply}

@@ -28,7 +28,8 @@ use Rattle.columns.specs.Listing.{listTests, listReply}
 use Rattle.elimination.specs.Elimination.{eliminationReply}
 use Rattle.elimination.proofs.Theorems.{reply-not-16}
 use Rattle.expectation.specs.Expecting.{wordTests, expectTests, expectReply}
-use Rattle.planner.specs.Planning.{wordsOf, earlierTests, planTests, wordsReply, PlanParts, planReply}
+use Rattle.kept_words.specs.Working.{wordsOf}
+use Rattle.planner.specs.Planning.{earlierTests, planTests, wordsReply, PlanParts, planReply}
 use Rattle.planner.proofs.Sixteen.{planReplyWithSixteen, plan-sixteen-out}
 use Rattle.cutter.specs.Cutting.{cutTests, cutReply}
 use Rattle.plan_file.specs.Checking.{planFileTests}

@@ -43,7 +43,8 @@ use Rattle.signatures.specs.Signature.{signature}
 use Rattle.signatures.specs.Sets.{Explained, columnsOf, zeroSignature, recordCells}
 use Rattle.signing.specs.Signing.{signTests, signReply}
 use Rattle.signatures.proofs.SetLaws.{columns-of-within, signature-within}
-use Rattle.planner.specs.Planning.{wordsOf, expectedOf, earlierTests, PlanParts, partsOf, planReply}
+use Rattle.kept_words.specs.Working.{wordsOf}
+use Rattle.planner.specs.Planning.{expectedOf, earlierTests, PlanParts, partsOf, planReply}
 use Rattle.planner.proofs.NumberLaws.{earlier-set}
 use Rattle.planner.proofs.CallLaws as planning
 use Rattle.plan_file.specs.Layout.{planLength, fileWords}

@@ -10,7 +10,8 @@ use Rattle.word.proofs.ReplyLaws.{answered-part, after-answer}
 use Rattle.word.proofs.TestLaws.{replied-answer}
 use Rattle.signing.specs.Signing.{signReply, saidSigned}
 use Rattle.signing.specs.declared.Signed.{Signed}
-use Rattle.planner.specs.Planning.{wordsOf, expectedOf, workingLeft, PlanParts, partsOf, planReply, said as saidPlanned}
+use Rattle.kept_words.specs.Working.{wordsOf}
+use Rattle.planner.specs.Planning.{expectedOf, workingLeft, PlanParts, partsOf, planReply, said as saidPlanned}
 use Rattle.planner.specs.declared.Planned.{Planned}
 use Rattle.planner.proofs.CallLaws.{Ends, words-front}
 use Rattle.plan_file.specs.Layout.{planLength}

@@ -39,7 +39,8 @@ use Rattle.signatures.specs.Columns.{sliceColumns, columnsBelow}
 use Rattle.signatures.specs.Sets.{given, columnsOf, unknownsOf, zeroSignature}
 use Rattle.columns.specs.Listing.{listTests, listReply}
 use Rattle.expectation.specs.Expecting.{wordTests, expectTests, expectReply}
-use Rattle.planner.specs.Planning.{wordsOf, expectedOf, wordsReply, PlanParts, partsOf, earlierTests, planTests, planReply}
+use Rattle.kept_words.specs.Working.{wordsOf}
+use Rattle.planner.specs.Planning.{expectedOf, wordsReply, PlanParts, partsOf, earlierTests, planTests, planReply}
 use Rattle.cutter.specs.Greatest.{greatest}
 use Rattle.cutter.specs.Cutting.{wordsLeft, leaves, longestEnd, startsFrom, startsFor, badShare, shortSlice, startsOf, CutParts, cutTests, cutReply}
 use Rattle.reduced_list.specs.WordCount.{badWordCount}

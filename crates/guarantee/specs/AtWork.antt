@@ -14,7 +14,8 @@ use Prim.Native.Nat.{ℕ}
 use lib.ListN.{length}
 use Rattle.word.specs.Reply.{Reply, lent, after}
 use Rattle.signing.specs.Signing.{signReply}
-use Rattle.planner.specs.Planning.{partsOf, wordsOf, planReply}
+use Rattle.kept_words.specs.Working.{wordsOf}
+use Rattle.planner.specs.Planning.{partsOf, planReply}
 use Rattle.plan_writer.specs.Writing.{planContent, planWriteReply}
 use Rattle.judge.specs.Verdict.{Finding, judgeReply}
 use Rattle.guarantee.specs.Demand.{planFile}

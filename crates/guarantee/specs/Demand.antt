@@ -13,7 +13,8 @@ use lib.ListN.{length, getD}
 use Rattle.word.specs.Word.{parity}
 use Rattle.set_layout.specs.Layout.{chainsOf}
 use Rattle.signatures.specs.Sets.{Known, recordCells, zeroSignature}
-use Rattle.planner.specs.Planning.{PlanParts, wordsOf}
+use Rattle.kept_words.specs.Working.{wordsOf}
+use Rattle.planner.specs.Planning.{PlanParts}
 use Rattle.plan_file.specs.Layout.{fileWidth, fileWords}
 use Rattle.plan_writer.specs.Writing.{planContent, planBytes}
 

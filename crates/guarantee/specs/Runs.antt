@@ -14,7 +14,8 @@ use Rattle.set_file.specs.Reading.{setTests}
 use Rattle.set_content.specs.Content.{SetContent, setContent}
 use Rattle.set_writer.specs.Writing.{setBytes, setWriteReply}
 use Rattle.signatures.specs.Sets.{given}
-use Rattle.planner.specs.Planning.{wordsOf, wordsReply, partsOf, planReply}
+use Rattle.kept_words.specs.Working.{wordsOf}
+use Rattle.planner.specs.Planning.{wordsReply, partsOf, planReply}
 use Rattle.cutter.specs.Cutting.{wordsLeft}
 
 abbrev pub runContent : List ℕ → ℕ → ℕ → SetContent

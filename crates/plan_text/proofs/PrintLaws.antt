@@ -8,7 +8,8 @@ use lib.ListN.{length, take, length-append}
 use Rattle.word.specs.Reply.{Reply, answer, refusal, replied, firstOf, numberOf, front, lent}
 use Rattle.set_layout.specs.Layout.{widthOf, chainsOf, slicesOf}
 use Rattle.signatures.specs.Sets.{unknownsOf}
-use Rattle.planner.specs.Planning.{PlanParts, wordsOf, workingLeft, planTests, partsOf, planReply, said}
+use Rattle.kept_words.specs.Working.{wordsOf}
+use Rattle.planner.specs.Planning.{PlanParts, workingLeft, planTests, partsOf, planReply, said}
 use Rattle.planner.specs.declared.Planned.{Planned}
 use Rattle.planner.specs.declared.Planned.the-variants.{Plan, Refused}
 use Rattle.planner.proofs.NumberLaws.{words-few, planned-accepted}

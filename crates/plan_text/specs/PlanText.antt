@@ -11,7 +11,8 @@ use Prim.Native.Nat.{ℕ}
 use Rattle.word.specs.Reply.{Reply, answer, refusal}
 use Rattle.set_layout.specs.Layout.{setLength, widthOf, chainsOf, slicesOf}
 use Rattle.signatures.specs.Sets.{unknownsOf}
-use Rattle.planner.specs.Planning.{PlanParts, wordsOf, planReply}
+use Rattle.kept_words.specs.Working.{wordsOf}
+use Rattle.planner.specs.Planning.{PlanParts, planReply}
 use Rattle.plan_lines.specs.Lines.{setLine, wordLines, endLine, refusedLine}
 
 abbrev pub textOf : Reply PlanParts → List ℕ → List ℕ

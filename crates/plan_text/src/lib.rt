@@ -3,7 +3,8 @@
 ghost use mathlib.Core.Path.{_≡_};
 ghost use lib.ListN.{length};
 ghost use Rattle.word.specs.Reply.{front, lent};
-ghost use Rattle.planner.specs.Planning.{wordsOf, workingLeft, planReply};
+ghost use Rattle.kept_words.specs.Working.{wordsOf};
+ghost use Rattle.planner.specs.Planning.{workingLeft, planReply};
 ghost use Rattle.plan_text.specs.PlanText.{planText};
 use planner::Planned;
 use set_file::SetAnswer;

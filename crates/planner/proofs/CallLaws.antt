@@ -2,9 +2,9 @@
 -- knows of planning's answer: its parts are the set's (planned-parts), and the words stand at the front of the word list (words-front).
 -- Assumes nothing.
 use mathlib.Core.Path.{_≡_, refl, sym, ap, ap₂, _∙_}
-use mathlib.Core.Bool.{Bool, true, false, cond}
+use mathlib.Core.Bool.{Bool, true, false}
 use mathlib.Core.List.{List, [], _∷_}
-use Prim.Native.Nat.{ℕ, zero, suc, _*_, _≤_}
+use Prim.Native.Nat.{ℕ, zero, suc, _≤_}
 use native.Mathlib.Omega.{arith}
 use lib.Dec.{ltb}
 use lib.ListN.{length, take}
@@ -12,25 +12,18 @@ use Rattle.word.specs.Reply.{Reply, answer, refusal, replied, firstOf, numberOf
 use Rattle.word.specs.Zeros.{zeros}
 use Rattle.word.proofs.ReplyLaws.{refused-reply, refusal-leaves, refused-leaves, answered-part}
 use Rattle.word.proofs.TestLaws.{replied-answer, replied-alike}
-use Rattle.combinations.specs.Combination.{onlyEmpty}
-use Rattle.combinations.specs.Reduced.{reducedList}
-use Rattle.rows.specs.Row.{rowBytes}
-use Rattle.rows.specs.declared.Rows.{Rows}
-use Rattle.set_layout.specs.Layout.{widthOf, markAt}
 use Rattle.set_file.specs.Reading.{setTests, TakenFrom}
 use Rattle.set_file.specs.declared.Taken.{Taken}
-use Rattle.set_file.proofs.Laws.{Accepted, accepted, accepted-width}
-use Rattle.signatures.specs.Sets.{columnsOf}
-use Rattle.columns.proofs.CallLaws.{columns-are}
-use Rattle.set_words.specs.Working.{workingPlaces, workingTest, takenWidth, takenColumns, takenWords, keptTests, keptReply, said as keptSaid}
-use Rattle.set_words.specs.declared.Kept.{Kept}
-use Rattle.set_words.proofs.KeptLaws.{KeptEnd}
+use Rattle.set_file.proofs.Laws.{accepted}
+use Rattle.kept_words.specs.Working.{wordsOf, workingPlaces, workingTest, keptTests, keptReply, said as keptSaid}
+use Rattle.kept_words.specs.declared.Kept.{Kept}
+use Rattle.kept_words.proofs.KeptLaws.{KeptEnd}
 use Rattle.expectation.specs.Expecting.{expectedFor}
-use Rattle.planner.specs.Planning.{wordsOf, earlierTests, workingLeft, expectedOf, planTests, WordParts, wordPartsOf, wordsReply, saidWorded, PlanParts, partsOf, planReply, said}
+use Rattle.planner.specs.Planning.{earlierTests, workingLeft, expectedOf, planTests, WordParts, wordPartsOf, wordsReply, saidWorded, PlanParts, partsOf, planReply, said}
 use Rattle.planner.specs.declared.Worded.{Worded}
 use Rattle.planner.specs.declared.Planned.{Planned}
 use Rattle.planner.specs.declared.Planned.the-variants.{Plan, Refused}
-use Rattle.planner.proofs.NumberLaws.{plan-sooner, plan-later, earlier-past-set, words-few, planned-none}
+use Rattle.planner.proofs.NumberLaws.{later, plan-sooner, plan-later, earlier-past-set, words-few, planned-none}
 
 -- what the call that gives the words answers, w, and leaves in the working list cs, cs′, and in the word list ws, ws′
 abbrev pub WordsEnd : List ℕ → List ℕ → List ℕ → Worded → List ℕ → List ℕ → Type 0
@@ -55,69 +48,52 @@ unfolding wordsReply
 words-early set cs ws k e some =
     let number : k ≡ firstOf (planTests set (length cs) (length ws)) = e ∙ sym (plan-sooner set (length cs) (length ws) (λ z. some (e ∙ z))) in
     words-refused set cs ws cs k (sym (refused-reply _ k (wordPartsOf set) number some))
-    (refused-leaves (firstOf (earlierTests set (length cs))) k workingPlaces (zeros workingPlaces) cs e some .1)
+    (refused-leaves (firstOf (earlierTests set (length cs))) k (workingPlaces set) (zeros (workingPlaces set)) cs e some .1)
 
--- ---- the words: past the set's numbers, of the taken set k and the rows r of its marks
+-- ---- the words: past the set's numbers, of the taken set k
 
 lent-alike : {A : Type 0} {B : Type 0} (n : ℕ) (a : A) (b : B) (vs l : List ℕ) → lent (replied n a) vs l ≡ lent (replied n b) vs l
 lent-alike zero a b vs l = refl
 lent-alike (suc n) a b vs l = refl
 
-module _ (set : List ℕ) (k : Taken) (taken : TakenFrom set k) (r : Rows)
-    (e : (r .at ≡ markAt (k .n) 0) × (r .stride ≡ 2 * rowBytes (k .n)) × (r .bytes ≡ rowBytes (k .n))) where
-  whole : Accepted set
-  whole = accepted set (taken .none)
-
-  own-width : takenWidth k ≡ widthOf set
-  own-width = omega (arith, taken .width, accepted-width set whole .1)
-
-  own-columns : takenColumns k set r ≡ columnsOf set
-  own-columns = columns-are set k taken r e
-
-  own-words : takenWords k set r ≡ wordsOf set
-  unfolding takenWords wordsOf columnsOf
-  own-words = ap₂ reducedList own-width own-columns
-
+module _ (set : List ℕ) (k : Taken) (taken : TakenFrom set k) where
   -- the call on the taken set meets the numbers that are left
-  same-first : (p l : ℕ) → firstOf (planTests set p l) ≡ firstOf (keptTests k set r p l)
+  same-first : (p l : ℕ) → firstOf (planTests set p l) ≡ firstOf (keptTests set p l)
   unfolding keptTests
-  same-first p l = go (ltb p workingPlaces) refl
+  same-first p l = go (ltb p (workingPlaces set)) refl
     where
-      past : firstOf (earlierTests set p) ≡ firstOf (workingTest p ∷ [])
+      past : firstOf (earlierTests set p) ≡ firstOf (workingTest set p ∷ [])
       past = earlier-past-set set p (taken .none)
 
-      go : (b : Bool) → ltb p workingPlaces ≡ b → firstOf (planTests set p l) ≡ firstOf (keptTests k set r p l)
+      go : (b : Bool) → ltb p (workingPlaces set) ≡ b → firstOf (planTests set p l) ≡ firstOf (keptTests set p l)
       go true h =
-          let one : firstOf (workingTest p ∷ []) ≡ 14 = rw h in
+          let one : firstOf (workingTest set p ∷ []) ≡ 14 = rw h in
           let short : firstOf (earlierTests set p) ≡ 14 = past ∙ one in
-          let there : firstOf (keptTests k set r p l) ≡ 14 = rw h in
+          let there : firstOf (keptTests set p l) ≡ 14 = rw h in
           plan-sooner set p l (λ z. omega (arith, short, z)) ∙ short ∙ sym there
       go false h =
-          let no-test : firstOf (workingTest p ∷ []) ≡ 0 = rw h in
+          let no-test : firstOf (workingTest set p ∷ []) ≡ 0 = rw h in
           let none : firstOf (earlierTests set p) ≡ 0 = past ∙ no-test in
-          let there : firstOf (keptTests k set r p l) ≡ cond (onlyEmpty (takenWidth k) (takenColumns k set r)) 17 (cond (ltb l (length (takenWords k set r))) 18 0) = rw h in
-          plan-later set p l none
-          ∙ sym
-          (there
-          ∙ ap₂ (λ (x y : Bool). cond x 17 (cond y 18 0)) (ap₂ onlyEmpty own-width own-columns) (ap (λ (vs : List ℕ). ltb l (length vs)) own-words))
+          let there : firstOf (keptTests set p l) ≡ firstOf (later set l) = rw h in
+          plan-later set p l none ∙ sym there
 
-  module _ (cs ws cs′ ws′ : List ℕ) (kept : Kept) (end : KeptEnd k set r cs ws kept cs′ ws′) where
+  module _ (cs ws cs′ ws′ : List ℕ) (kept : Kept) (end : KeptEnd set cs ws kept cs′ ws′) where
     number : ℕ
     number = firstOf (planTests set (length cs) (length ws))
 
-    reply-there : keptReply k set r (length cs) (length ws) ≡ replied number (length (wordsOf set))
+    reply-there : keptReply set (length cs) (length ws) ≡ replied number (length (wordsOf set))
     unfolding keptReply number
-    reply-there =
-        ap₂ (λ (n : ℕ) (vs : List ℕ). replied n (length vs)) (sym (same-first (length cs) (length ws))) own-words
+    reply-there = ap (λ (n : ℕ). replied n (length (wordsOf set))) (sym (same-first (length cs) (length ws)))
 
     working-left : cs′ ≡ workingLeft set cs
     working-left =
-        end .1 .0 ∙ ap (λ (n : ℕ). lent (replied n workingPlaces) (zeros workingPlaces) cs) (sym (earlier-past-set set (length cs) (taken .none)))
+        end .1 .0
+        ∙ ap (λ (n : ℕ). lent (replied n (workingPlaces set)) (zeros (workingPlaces set)) cs) (sym (earlier-past-set set (length cs) (taken .none)))
 
     words-left : ws′ ≡ lent (wordsReply set (length cs) (length ws)) (wordsOf set) ws
     unfolding wordsReply number
     words-left =
-        end .1 .1 ∙ ap₂ (λ (a : Reply ℕ) (vs : List ℕ). lent a vs ws) reply-there own-words
+        end .1 .1 ∙ ap (λ (a : Reply ℕ). lent a (wordsOf set) ws) reply-there
         ∙ lent-alike number (length (wordsOf set)) (wordPartsOf set) (wordsOf set) ws
 
     -- j is the number that `number_of` gives

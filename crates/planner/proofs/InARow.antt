@@ -10,9 +10,10 @@ use mathlib.Core.List.{List}
 use Prim.Native.Nat.{ℕ, zero, suc}
 use Rattle.word.specs.Reply.{Reply, answer, replied, firstOf, after}
 use Rattle.reduced_list.proofs.CountLaws.{not-bad-count}
+use Rattle.kept_words.specs.Working.{wordsOf}
 use Rattle.expectation.specs.Expecting.{expectReply}
 use Rattle.expectation.proofs.CallLaws.{expect-answered, no-word-test}
-use Rattle.planner.specs.Planning.{wordsOf, expectedOf, planTests, WordParts, wordPartsOf, wordsReply, PlanParts, partsOf, planReply}
+use Rattle.planner.specs.Planning.{expectedOf, planTests, WordParts, wordPartsOf, wordsReply, PlanParts, partsOf, planReply}
 use Rattle.planner.proofs.NumberLaws.{planned-none, words-count, words-reduced}
 
 -- the expected bits e behind the parts w

@@ -18,8 +18,8 @@ use Rattle.set_file.specs.Reading.{setTests}
 use Rattle.set_file.proofs.Laws.{Accepted, accepted, accepted-width, set-numbered}
 use Rattle.signatures.specs.Sets.{columnsOf}
 use Rattle.signatures.proofs.SetLaws.{columns-of-within}
-use Rattle.set_words.specs.Working.{workingTest}
-use Rattle.planner.specs.Planning.{wordsOf, earlierTests, planTests}
+use Rattle.kept_words.specs.Working.{wordsOf, workingTest}
+use Rattle.planner.specs.Planning.{earlierTests, planTests}
 
 -- ---- in order
 
@@ -41,7 +41,7 @@ unfolding earlierTests
 set-first set k n e h = first-sooner (setTests set) _ n e h
 
 -- .. and past them only 14 is left
-pub earlier-past-set : (set : List ℕ) (k : ℕ) → firstOf (setTests set) ≡ 0 → firstOf (earlierTests set k) ≡ firstOf (workingTest k ∷ [])
+pub earlier-past-set : (set : List ℕ) (k : ℕ) → firstOf (setTests set) ≡ 0 → firstOf (earlierTests set k) ≡ firstOf (workingTest set k ∷ [])
 unfolding earlierTests
 earlier-past-set set k h = first-of-later (setTests set) _ (set-numbered set) h
 

@@ -1,5 +1,5 @@
 -- The reason for the split. Document 02, No. 2: "Designers correct expected values weekly while the unknown marks stay." Sets with the same
--- register, chains, slice count and marks have the same words, whatever their values.
+-- register, chains, slice count, marks and ties have the same words, whatever their values.
 --
 --   same-words          the words
 --   same-width          the registers' widths
@@ -9,9 +9,11 @@
 --   same-words-after    .. and the word list
 -- Assumes nothing.
 use mathlib.Core.Path.{_≡_, refl, sym, ap, ap₂, _∙_}
+use mathlib.Core.Bool.{cond}
 use mathlib.Core.List.{List}
-use Prim.Native.Nat.{ℕ, zero, suc}
+use Prim.Native.Nat.{ℕ, zero, suc, _+_}
 use native.Mathlib.Omega.{arith}
+use lib.Dec.{ltb}
 use lib.ListN.{length}
 use Rattle.word.specs.Reply.{Reply, replied, firstOf, lent}
 use Rattle.word.specs.Zeros.{zeros}
@@ -20,9 +22,9 @@ use Rattle.register.specs.Circuit.{Circuit}
 use Rattle.set_layout.specs.Layout.{widthOf}
 use Rattle.set_file.specs.Reading.{setTests}
 use Rattle.signatures.specs.Sets.{columnsOf, Revised}
-use Rattle.signatures.proofs.SetLaws.{revised-columns}
-use Rattle.set_words.specs.Working.{workingPlaces}
-use Rattle.planner.specs.Planning.{wordsOf, earlierTests, workingLeft, planTests, WordParts, wordPartsOf, wordsReply}
+use Rattle.signatures.proofs.SetLaws.{revised-columns, revised-named}
+use Rattle.kept_words.specs.Working.{wordsOf}
+use Rattle.planner.specs.Planning.{earlierTests, workingLeft, planTests, WordParts, wordPartsOf, wordsReply}
 use Rattle.planner.proofs.NumberLaws.{later, plan-sooner, plan-later, earlier-past-set}
 
 -- the first number of two lists of tests, by that of each
@@ -39,7 +41,7 @@ plan-number set k l = go (firstOf (earlierTests set k)) refl
 
 module _ (old new : List ℕ) (r : Revised old new) where
   pub same-width : widthOf old ≡ widthOf new
-  same-width = ap (λ (k : Circuit). k .width) (r .wiring)
+  same-width = ap (λ (k : Circuit). k .width) (r .same .wiring)
 
   pub same-words : wordsOf old ≡ wordsOf new
   unfolding wordsOf columnsOf
@@ -47,7 +49,8 @@ module _ (old new : List ℕ) (r : Revised old new) where
 
   module _ (ho : firstOf (setTests old) ≡ 0) (hn : firstOf (setTests new) ≡ 0) where
     same-earlier : (k : ℕ) → firstOf (earlierTests old k) ≡ firstOf (earlierTests new k)
-    same-earlier k = earlier-past-set old k ho ∙ sym (earlier-past-set new k hn)
+    same-earlier k =
+        earlier-past-set old k ho ∙ ap (λ (n : ℕ). cond (ltb k (64 + n)) 14 0) (revised-named old new r) ∙ sym (earlier-past-set new k hn)
 
     same-later : (l : ℕ) → firstOf (later old l) ≡ firstOf (later new l)
     same-later l =
@@ -65,7 +68,8 @@ module _ (old new : List ℕ) (r : Revised old new) where
         parts = ap₂ (λ (m q : ℕ). record { m = m; q = q }) same-width (ap length same-words)
 
     pub same-working-after : (l : List ℕ) → workingLeft old l ≡ workingLeft new l
-    same-working-after l = ap (λ (n : ℕ). lent (replied n workingPlaces) (zeros workingPlaces) l) (same-earlier (length l))
+    same-working-after l =
+        ap₂ (λ (n p : ℕ). lent (replied n (64 + p)) (zeros (64 + p)) l) (same-earlier (length l)) (revised-named old new r)
 
     pub same-words-after : (k : ℕ) (ws : List ℕ)
         → lent (wordsReply old k (length ws)) (wordsOf old) ws ≡ lent (wordsReply new k (length ws)) (wordsOf new) ws

@@ -22,7 +22,8 @@ use Rattle.set_layout.specs.Layout.{widthOf}
 use Rattle.set_file.proofs.Laws.{accepted}
 use Rattle.signatures.specs.Sets.{columnsOf}
 use Rattle.signatures.proofs.SetLaws.{columns-of-within}
-use Rattle.planner.specs.Planning.{wordsOf, earlierTests, planTests, WordParts, wordPartsOf, wordsReply, PlanParts, partsOf, planReply}
+use Rattle.kept_words.specs.Working.{wordsOf}
+use Rattle.planner.specs.Planning.{earlierTests, planTests, WordParts, wordPartsOf, wordsReply, PlanParts, partsOf, planReply}
 use Rattle.planner.proofs.NumberLaws.{later, earlier-set}
 
 abbrev pub planTestsWithSixteen : List ℕ → ℕ → ℕ → List Test

@@ -1,18 +1,15 @@
 // Planning: the words of a set, and its words with their expected bits. It sees the words of a taken set and the expected bits of a list
 // of words. Planning is the two calls in a row: the words, then the expected bits for them.
 ghost use mathlib.Core.Path.{_≡_};
-ghost use Prim.Native.Nat.{_*_};
 ghost use lib.ListN.{length};
 ghost use Rattle.word.specs.Reply.{firstOf, lent, numberOf};
-ghost use Rattle.rows.specs.Row.{rowBytes};
-ghost use Rattle.set_layout.specs.Layout.{markAt};
 ghost use Rattle.set_file.specs.Reading.{setTests, TakenFrom};
-ghost use Rattle.planner.specs.Planning.{wordsOf, workingLeft, wordsReply, saidWorded, planReply, said};
+ghost use Rattle.kept_words.specs.Working.{wordsOf};
+ghost use Rattle.planner.specs.Planning.{workingLeft, wordsReply, saidWorded, planReply, said};
 use register::Register;
-use rows::Rows;
 use set_file::SetAnswer;
 use set_file::Taken;
-use set_words::Kept;
+use kept_words::Kept;
 
 // What the call that gives the words answers: m and q, or the first number that applies.
 pub enum Worded {
@@ -32,13 +29,6 @@ struct Made {
     taken: Taken,
 }
 
-// Where the marks of the unknown cells stand, in a set of n chains.
-fn unknown_rows(n: u16) -> Rows
-    ensures { λ r. ⌜ (r .at ≡ markAt n 0) × (r .stride ≡ 2 * rowBytes n) × (r .bytes ≡ rowBytes n) ⌝ }
-{
-    set_layout::mark_rows(n)
-}
-
 // The words of a taken set. Past the set's numbers it meets 14, 17 and 18. The set's values change nothing of what it answers and leaves
 // (proofs/Revised.antt, same-words-reply, same-working-after).
 fn fill_words(taken: Taken, set: &[u8], working: &mut [u64], words: &mut [u64]) -> Worded
@@ -46,11 +36,10 @@ fn fill_words(taken: Taken, set: &[u8], working: &mut [u64], words: &mut [u64]) 
 {
     let register = taken.register;
     let m = register.m;
-    let marks = unknown_rows(taken.n);
-    let kept = set_words::fill_words(taken, set, marks, working, words);
+    let kept = kept_words::fill_words(taken, set, working, words);
     let Kept::Words { q } = kept else {
         return Worded::Refused {
-            number: set_words::number_of(kept),
+            number: kept_words::number_of(kept),
         };
     };
     Worded::Words { m, q }
@@ -90,8 +79,8 @@ fn make_words(set: &[u8], working: &mut [u64], words: &mut [u64]) -> Made
 }
 
 // The words of a set, the first of the two calls of document 02. Answers with m and q, and writes the q words over the front of
-// `words`. Meets the set's numbers, then 14, 17 and 18. A refusal writes nothing, but that past 14 the first 64 places of `working`
-// hold 0.
+// `words`. Meets the set's numbers, then 14, 17 and 18. A refusal writes nothing, but that past 14 the first places of `working`, 64
+// and one for each named symbol, hold 0.
 pub fn plan_words(set: &[u8], working: &mut [u64], words: &mut [u64]) -> Worded
     ensures answer { λ r. ⌜ saidWorded r ≡ wordsReply (now (set .entry)) (length (now (working .entry))) (length (now (words .entry))) ⌝ }
     ensures working { λ _. ⌜ now (working .exit) ≡ workingLeft (now (set .entry)) (now (working .entry)) ⌝ }
@@ -113,7 +102,7 @@ fn words_number(worded: Worded) -> u64
 
 // Planning of document 01: the words, then the expected bits for them (proofs/InARow.antt, plan-in-a-row); the set is read once for
 // both. Answers with m, q and the expected bits, and writes the q words over the front of `words`. Meets the set's numbers, then 14, 17
-// and 18. A refusal writes nothing, but that past 14 the first 64 places of `working` hold 0.
+// and 18. A refusal writes nothing, but that past 14 the first places of `working`, 64 and one for each named symbol, hold 0.
 pub fn plan(set: &[u8], working: &mut [u64], words: &mut [u64]) -> Planned
     ensures answer { λ r. ⌜ said r ≡ planReply (now (set .entry)) (length (now (working .entry))) (length (now (words .entry))) ⌝ }
     ensures working { λ _. ⌜ now (working .exit) ≡ workingLeft (now (set .entry)) (now (working .entry)) ⌝ }

@@ -7,21 +7,20 @@ use Rattle.planner.proofs.fill_words.Tie as tie
 
 returns : tie.Need-returns
 returns c =
-    let args = c .before .before .before .before .before .before .before .before .before .before .before .before .before .before .before .args in
+    let args = c .before .before .before .before .before .before .before .before .before .before .before .before .before .before .args in
     λ taken.
-    words-unkept _ _ taken _ (c .before .before .before .before .before .before .before .before .before .before .unknown-rows .ensures) (args .working .now) (args .words .now) _ _ _ (c .before .before .before .before .before .before .before .fill-words .ensures) _ _ (c .before .enum-told .given .1) (c .number-of .ensures)
+    words-unkept _ _ taken (args .working .now) (args .words .now) _ _ _ (c .before .before .before .before .before .before .before .fill-words .ensures taken) _ _ (c .before .enum-told .given .1) (c .number-of .ensures)
 
 returns-2 : tie.Need-returns-2
 returns-2 c =
-    let args = c .before .before .before .before .before .before .before .before .before .before .before .before .before .before .before .args in
+    let args = c .before .before .before .before .before .before .before .before .before .before .before .before .before .before .args in
     λ taken.
-    words-kept _ _ taken _ (c .before .before .before .before .before .before .before .before .before .before .unknown-rows .ensures) (args .working .now) (args .words .now) _ _ _ (c .before .before .before .before .before .before .before .fill-words .ensures) _ _ refl (c .before .kept .given .1)
+    words-kept _ _ taken (args .working .now) (args .words .now) _ _ _ (c .before .before .before .before .before .before .before .fill-words .ensures taken) _ _ refl (c .before .kept .given .1)
 
 pub fill-words-spec : {M : Type 1} → statement M
 fill-words-spec =
     tie.close
     (tie.spec
-    (λ c κs. search needs)
     (λ c κs. search needs)
     (λ c. search needs)
     (λ c. search needs)

@@ -26,8 +26,8 @@ returns-2 c =
     let made = c .before .before .before .before .before .before .before .before .before .before .make-words .ensures in
     let some = c .before .before .before .worded .given .1 in
     ends-planned _ (args .working .now) (args .words .now) _ _ _ (made .1) _ _ some _
-    (expected-taken _ _ _ _ (made .0 (worded-set _ (args .working .now) (args .words .now) _ _ _ (made .1) _ _ some))
-    (worded-few _ (args .working .now) (args .words .now) _ _ _ (made .1) _ _ some) (c .expected-bits .ensures))
+    (expected-taken _ _ _ (worded-few _ (args .working .now) (args .words .now) _ _ _ (made .1) _ _ some)
+    (c .expected-bits .ensures (made .0 (worded-set _ (args .working .now) (args .words .now) _ _ _ (made .1) _ _ some))))
 
 pub plan-spec : {M : Type 1} → statement M
 plan-spec =
