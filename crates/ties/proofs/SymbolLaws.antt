@@ -7,6 +7,7 @@
 --   unnamed         without entries no cell is named
 --   naming-own      in sound ties the entry that names its cell is found there
 --   opening         each entry's symbol has a first entry
+--   named-symbols-most   there are no more named symbols than entries
 --   unmarked-free   without flags the marks of all named cells are taken out
 --   unmarked-first  with those of the first entries, all but the first cells of the symbols
 -- Assumes nothing.
@@ -16,7 +17,7 @@ use mathlib.Core.Logic.{⊎-elim, dite}
 use mathlib.Core.List.{List, []}
 use mathlib.Core.Option.{Option, none, some}
 use Prim.Native.Nat.{ℕ, zero, suc, _≤_, _<_}
-use native.Mathlib.Nat.{not-suc-le-zero, lt-suc-self, le-step, eq-or-lt-of-le, le-of-suc-le-suc}
+use native.Mathlib.Nat.{mul-one, not-suc-le-zero, lt-suc-self, le-step, eq-or-lt-of-le, le-of-suc-le-suc}
 use native.Mathlib.Decide.{decLt, ℕ-discrete}
 use native.Mathlib.Omega.{arith}
 use borrow.Author.Tests.{eqb-true, eq-eqb}
@@ -26,8 +27,9 @@ use Rattle.word.specs.Some.{anyBelow}
 use Rattle.word.proofs.BoolLaws.{and-both, and-intro, true-not-false, not-true, or-false}
 use Rattle.word.proofs.SomeLaws.{any-below-none, any-below-true, any-below-false, any-below-some}
 use Rattle.rows.specs.Row.{Cells}
+use Rattle.rows.proofs.MarkLaws.{total-le}
 use Rattle.ties.specs.Ties.{Ties}
-use Rattle.ties.specs.Symbols.{names, namingBelow, naming, opens, flag, freeMark, freeMarks, firstMark, firstMarks, unmarked, Sound}
+use Rattle.ties.specs.Symbols.{names, namingBelow, naming, opens, flag, namedSymbols, freeMark, freeMarks, firstMark, firstMarks, unmarked, Sound}
 
 -- ---- cells
 
@@ -121,6 +123,15 @@ opening-below e (suc n) i l = go (anyBelow i (λ h. eqb (e .symbol h) (e .symbol
 
 pub opening : (e : Ties) (i : ℕ) → Opening e i
 opening e i = opening-below e (suc i) i (lt-suc-self i)
+
+-- there are no more named symbols than entries
+pub named-symbols-most : (e : Ties) → namedSymbols e ≤ e .count
+unfolding namedSymbols
+named-symbols-most e = omega (arith, total-le (e .count) 1 (flag e) (λ i. one (opens e i)), mul-one (e .count))
+  where
+    one : (b : Bool) → cond {A = ℕ} b 1 0 ≤ 1
+    one true = omega arith
+    one false = omega arith
 
 -- ---- marks
 

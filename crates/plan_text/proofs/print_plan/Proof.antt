@@ -3,7 +3,7 @@ use mathlib.Core.Path.{sym}
 use lib.Seq.{length-take-le}
 use borrow.Author.Needs.{needs}
 use Rattle.set_file.proofs.ReadLaws.{refused-set, taken-set}
-use Rattle.columns.proofs.CallLaws.{unknowns-are}
+use Rattle.signatures.proofs.SetLaws.{unknowns-counted}
 use Rattle.planner.proofs.NumberLaws.{set-first}
 use Rattle.planner.proofs.CallLaws.{ends-early}
 use Rattle.plan_text.proofs.PrintLaws.{ends-at-set, prints-refused, printed-words, prints-plan}
@@ -39,7 +39,7 @@ returns-3 c =
     let args = c .before .before .before .before .before .before .before .before .before .before .before .before .before .before .before .before .before .before .before .before .before .before .before .before .before .before .args in
     let taken = taken-set _ _ _ _ _ _ (c .before .before .before .before .before .before .before .before .before .before .before .before .before .before .before .before .before .before .before .before .before .before .read-set .ensures) (c .before .before .before .before .before .before .before .before .before .before .before .before .before .before .before .before .before .before .before .before .answer .given .1) in
     let plan = c .before .before .before .before .before .before .before .before .before .before .before .before .before .before .before .before .plan .ensures in
-    let unknowns = unknowns-are _ (args .working .now) _ taken _ (c .before .before .before .before .before .before .before .before .mark-rows .ensures) _ (c .before .before .before .before .before .before .before .count-marks .ensures) in
+    let unknowns = unknowns-counted _ _ taken _ (c .before .before .before .before .before .before .before .before .mark-rows .ensures) _ (c .before .before .before .before .before .before .before .count-marks .ensures) in
     prints-plan (args .set .now) (args .working .now) (args .words .now) _ (plan .0) _ _ _ (c .before .before .before .before .before .before .before .before .before .before .planned .given .1) _ (plan .1 .1) _ _ _
     (taken .chains) (taken .slices) unknowns (args .out .now) _ _ _ _ _ _ _ (plan .1 .0) (search needs)
     (c .before .before .before .before .before .put-set-line .ensures) (c .before .before .put-word-lines .ensures) (c .put-end-line .ensures)
