@@ -5,10 +5,7 @@ use Rattle.set_file.proofs.has_wrong_length.Statement.{statement}
 use Rattle.set_file.proofs.has_wrong_length.Tie as tie
 
 returns : tie.Need-returns
-returns c =
-    wrong-length-of _ _ _ _ _ (c .before .before .before .chain-count .ensures) (c .before .before .slice-count .ensures) (c .before .tie-count .ensures)
-    (c .set-length .ensures)
+returns c = wrong-length-of _ _ _ _ _ (c .before .before .chain-count .ensures) (c .before .slice-count .ensures) (c .set-length .ensures)
 
 pub has-wrong-length-spec : {M : Type 1} → statement M
-has-wrong-length-spec =
-    tie.close (tie.spec (λ c κs. search needs) (λ c κs. search needs) (λ c κs. search needs) (λ c κs. search needs) returns)
+has-wrong-length-spec = tie.close (tie.spec (λ c κs. search needs) (λ c κs. search needs) (λ c κs. search needs) returns)
