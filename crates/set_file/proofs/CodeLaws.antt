@@ -59,17 +59,12 @@ sought-none set m n c em en i l =
 
 -- ---- number 8
 
--- .. for k ties
-abbrev pub WrongLength : List ℕ → ℕ → Bool
-WrongLength set k = ltb mostTies k || not (eqb (length set) (setLength (chainsOf set) (slicesOf set) k))
-
-pub wrong-length-of : (set : List ℕ) (n s k r : ℕ) → n ≡ chainsOf set → s ≡ slicesOf set → r ≡ setLength n s k
-    → (ltb mostTies k || not (eqb (length set) r)) ≡ WrongLength set k
-wrong-length-of set n s k r en es er =
-    ap (λ (x : ℕ). ltb mostTies k || not (eqb (length set) x)) (er ∙ ap₂ (λ (x y : ℕ). setLength x y k) en es)
-
-pub wrong-length-counted : (set : List ℕ) (k : ℕ) (r : Bool) → k ≡ tieCountOf set → r ≡ WrongLength set k → r ≡ wrongLength set
-wrong-length-counted set k r ek er = er ∙ ap (WrongLength set) ek
+pub wrong-length-counted : (set : List ℕ) (n s k : ℕ) (r : Bool) → n ≡ chainsOf set → s ≡ slicesOf set → k ≡ tieCountOf set
+    → r ≡ (ltb mostTies k || not (eqb (length set) (setLength n s k))) → r ≡ wrongLength set
+wrong-length-counted set n s k r en es ek er =
+    er
+    ∙ ap₂ (λ (x y : ℕ). ltb mostTies k || not (eqb (length set) (setLength x y k))) en es
+    ∙ ap (λ (x : ℕ). ltb mostTies x || not (eqb (length set) (setLength (chainsOf set) (slicesOf set) x))) ek
 
 -- ---- number 9
 

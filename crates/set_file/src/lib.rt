@@ -108,12 +108,10 @@ fn has_bad_slices(set: &[u8]) -> bool
         | register::is_bad_slices(set_layout::slice_count(set) as u64)
 }
 
-// Number 8, for a set with `count` ties: whether that is above 256, or the set's length isn't what its counts give.
-fn has_wrong_length(set: &[u8], count: u16) -> bool
-    ensures { λ r. ⌜ r ≡ (ltb mostTies count || not (eqb (length (now (set .entry))) (setLength (chainsOf (now (set .entry))) (slicesOf (now (set .entry))) count))) ⌝ }
+// Number 8, for n chains, s slices and `count` ties: whether that count is above 256, or the set's length isn't what the counts give.
+fn has_wrong_length(set: &[u8], n: u16, s: u16, count: u16) -> bool
+    ensures { λ r. ⌜ r ≡ (ltb mostTies count || not (eqb (length (now (set .entry))) (setLength n s count))) ⌝ }
 {
-    let n = set_layout::chain_count(set);
-    let s = set_layout::slice_count(set);
     (ties::MOST_TIES < count) | (set.len() != set_layout::set_length(n, s, count))
 }
 
@@ -202,8 +200,10 @@ pub fn set_refusal(set: &[u8]) -> u64
     if has_bad_slices(set) {
         return 7;
     }
-    let count = set_layout::tie_count(set);
-    if has_wrong_length(set, count) {
+    let n = set_layout::chain_count(set);
+    let s = set_layout::slice_count(set);
+    let count = set_layout::tie_count_of(set, n, s);
+    if has_wrong_length(set, n, s, count) {
         return 8;
     }
     if has_spare_bits(set) {
