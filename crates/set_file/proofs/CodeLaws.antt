@@ -59,11 +59,12 @@ sought-none set m n c em en i l =
 
 -- ---- number 8
 
-pub wrong-length-of : (set : List ℕ) (n s k r : ℕ) → n ≡ chainsOf set → s ≡ slicesOf set → k ≡ tieCountOf set → r ≡ setLength n s k
-    → (ltb mostTies k || not (eqb (length set) r)) ≡ wrongLength set
-wrong-length-of set n s k r en es ek er =
-    ap₂ (λ (x y : ℕ). ltb mostTies x || not (eqb (length set) y)) ek
-    (er ∙ ap₂ (λ (x y : ℕ). setLength x y k) en es ∙ ap (setLength (chainsOf set) (slicesOf set)) ek)
+pub wrong-length-counted : (set : List ℕ) (n s k : ℕ) (r : Bool) → n ≡ chainsOf set → s ≡ slicesOf set → k ≡ tieCountOf set
+    → r ≡ (ltb mostTies k || not (eqb (length set) (setLength n s k))) → r ≡ wrongLength set
+wrong-length-counted set n s k r en es ek er =
+    er
+    ∙ ap₂ (λ (x y : ℕ). ltb mostTies k || not (eqb (length set) (setLength x y k))) en es
+    ∙ ap (λ (x : ℕ). ltb mostTies x || not (eqb (length set) (setLength (chainsOf set) (slicesOf set) x))) ek
 
 -- ---- number 9
 
@@ -142,16 +143,22 @@ module _ (set : List ℕ) (small : (i : ℕ) → getD set i 0 < 256) where
 
 -- ---- numbers 29 to 31
 
-abbrev pub Tied : List ℕ → ℕ → Type 0
-Tied set r = r ≡ firstOf (tieTests (slicesOf set) (chainsOf set) (marks set) (tiesOf set))
+-- .. for k ties
+abbrev pub Tied : List ℕ → ℕ → ℕ → Type 0
+Tied set k x = x ≡ firstOf (tieTests (slicesOf set) (chainsOf set) (marks set) (tiesIn (tieBytes set) k))
 
-pub tied-none : (set : List ℕ) (k : ℕ) → k ≡ tieCountOf set → k ≡ 0 → Tied set 0
-tied-none set k e z = tie-tests-none (slicesOf set) (chainsOf set) (marks set) (tiesOf set) (sym e ∙ z)
+pub tied-none : (set : List ℕ) (k : ℕ) → k ≡ 0 → Tied set k 0
+tied-none set k z = tie-tests-none (slicesOf set) (chainsOf set) (marks set) (tiesIn (tieBytes set) k) z
 
-pub tied-of : (set l : List ℕ) (n s k x : ℕ) (r : Rows) → n ≡ chainsOf set → s ≡ slicesOf set → k ≡ tieCountOf set → l ≡ tieBytes set
-    → (r .at ≡ markAt n 0) × (r .stride ≡ 2 * rowBytes n) × (r .bytes ≡ rowBytes n) → x ≡ firstOf (tieTests s n (cellsOf set r) (tiesIn l k)) → Tied set x
-tied-of set l n s k x r en es ek el er ex =
+pub tied-of : (set l : List ℕ) (n s k x : ℕ) (r : Rows) → n ≡ chainsOf set → s ≡ slicesOf set → l ≡ tieBytes set
+    → (r .at ≡ markAt n 0) × (r .stride ≡ 2 * rowBytes n) × (r .bytes ≡ rowBytes n) → x ≡ firstOf (tieTests s n (cellsOf set r) (tiesIn l k)) → Tied set k x
+tied-of set l n s k x r en es el er ex =
     ex
     ∙ tie-tests-marks s n (cellsOf set r) (marks set) (tiesIn l k) (λ t b c. ap (λ (row : List ℕ). cell row c) (mark-rows-row set n r en er t))
     ∙ ap₂ (λ (x y : ℕ). firstOf (tieTests x y (marks set) (tiesIn l k))) es en
-    ∙ ap₂ (λ (y : List ℕ) (x : ℕ). firstOf (tieTests (slicesOf set) (chainsOf set) (marks set) (tiesIn y x))) el ek
+    ∙ ap (λ (y : List ℕ). firstOf (tieTests (slicesOf set) (chainsOf set) (marks set) (tiesIn y k))) el
+
+pub tied-counted : (set : List ℕ) (k x : ℕ) → k ≡ tieCountOf set → Tied set k x
+    → x ≡ firstOf (tieTests (slicesOf set) (chainsOf set) (marks set) (tiesOf set))
+tied-counted set k x ek ex =
+    ex ∙ ap (λ (c : ℕ). firstOf (tieTests (slicesOf set) (chainsOf set) (marks set) (tiesIn (tieBytes set) c))) ek

@@ -1,15 +1,15 @@
 // The set file of document 01: the tests of its parts, 1 to 10, 25 and 29 to 31, and its reader. It sees where the parts stand (`set_layout`); the
 // rows of one slice and the writer are crates above it. Every function is total.
 ghost use mathlib.Core.Path.{_≡_};
-ghost use mathlib.Core.Bool.{false, _||_};
-ghost use lib.Dec.{ltb};
+ghost use mathlib.Core.Bool.{false, not, _||_};
+ghost use lib.Dec.{eqb, ltb};
 ghost use lib.ListN.{length};
 ghost use Rattle.word.specs.Word.{badWidth};
 ghost use Rattle.word.specs.Reply.{firstOf, numberOf};
-ghost use Rattle.ties.specs.Ties.{tieTests};
+ghost use Rattle.ties.specs.Ties.{mostTies, tiesIn, tieTests};
 ghost use Rattle.register.specs.Circuit.{badTaps, badInversion, badChains};
 ghost use Rattle.chains.specs.Driven.{badSpread};
-ghost use Rattle.set_layout.specs.Layout.{chainsAt, spreadAt, slicesAt, widthOf, tapsOf, inversionOf, chainsOf, spreadOf, slicesOf, marks, tiesOf};
+ghost use Rattle.set_layout.specs.Layout.{chainsAt, spreadAt, slicesAt, setLength, widthOf, tapsOf, inversionOf, chainsOf, spreadOf, slicesOf, marks, tieBytes};
 ghost use Rattle.set_file.specs.Reading.{badSlices, wrongLength, spareInRows, valuedInRows, setTests, setReply, spreadBeside, said, startOf};
 use register::Register;
 
@@ -108,13 +108,10 @@ fn has_bad_slices(set: &[u8]) -> bool
         | register::is_bad_slices(set_layout::slice_count(set) as u64)
 }
 
-// Number 8: whether the count of ties is above 256, or the set's length isn't what its counts give.
-fn has_wrong_length(set: &[u8]) -> bool
-    ensures { λ r. ⌜ r ≡ wrongLength (now (set .entry)) ⌝ }
+// Number 8, for n chains, s slices and `count` ties: whether that count is above 256, or the set's length isn't what the counts give.
+fn has_wrong_length(set: &[u8], n: u16, s: u16, count: u16) -> bool
+    ensures { λ r. ⌜ r ≡ (ltb mostTies count || not (eqb (length (now (set .entry))) (setLength n s count))) ⌝ }
 {
-    let n = set_layout::chain_count(set);
-    let s = set_layout::slice_count(set);
-    let count = set_layout::tie_count(set);
     (ties::MOST_TIES < count) | (set.len() != set_layout::set_length(n, s, count))
 }
 
@@ -156,11 +153,10 @@ fn has_valued_unknown(set: &[u8]) -> bool
     false
 }
 
-// The first of 29, 30 and 31 that applies to the set's ties; 0 where none does. A set without an entry is done at once.
-fn ties_refusal(set: &[u8]) -> u64
-    ensures { λ r. ⌜ r ≡ firstOf (tieTests (slicesOf (now (set .entry))) (chainsOf (now (set .entry))) (marks (now (set .entry))) (tiesOf (now (set .entry)))) ⌝ }
+// The first of 29, 30 and 31 that applies to the set's first `count` ties; 0 where none does. A set without an entry is done at once.
+fn ties_refusal(set: &[u8], count: u16) -> u64
+    ensures { λ r. ⌜ r ≡ firstOf (tieTests (slicesOf (now (set .entry))) (chainsOf (now (set .entry))) (marks (now (set .entry))) (tiesIn (tieBytes (now (set .entry))) count)) ⌝ }
 {
-    let count = set_layout::tie_count(set);
     if count == 0 {
         return 0;
     }
@@ -204,7 +200,10 @@ pub fn set_refusal(set: &[u8]) -> u64
     if has_bad_slices(set) {
         return 7;
     }
-    if has_wrong_length(set) {
+    let n = set_layout::chain_count(set);
+    let s = set_layout::slice_count(set);
+    let count = set_layout::tie_count_of(set, n, s);
+    if has_wrong_length(set, n, s, count) {
         return 8;
     }
     if has_spare_bits(set) {
@@ -213,7 +212,7 @@ pub fn set_refusal(set: &[u8]) -> u64
     if has_valued_unknown(set) {
         return 10;
     }
-    ties_refusal(set)
+    ties_refusal(set, count)
 }
 
 // The set reader: the fresh register of m, the tap word and the inversion word, n, s and the spread words. It meets 1, 2, 3, 25,

@@ -80,8 +80,8 @@ spread-whole l ws e h =
 -- ---- the ties
 
 module _ (set : List ℕ) (n s : ℕ) (en : n ≡ chainsOf set) (es : s ≡ slicesOf set) where
-  pub tie-count-of : (at k : ℕ) → at ≡ tieCountAt n s → k ≡ countAt set at → k ≡ tieCountOf set
-  tie-count-of at k ea ek = ek ∙ ap (countAt set) (ea ∙ ap₂ tieCountAt en es)
+  pub tie-count-of : (k : ℕ) → k ≡ countAt set (tieCountAt n s) → k ≡ tieCountOf set
+  tie-count-of k ek = ek ∙ ap (countAt set) (ap₂ tieCountAt en es)
 
   pub tie-bytes-of : (at k : ℕ) (l : List ℕ) → at ≡ tiesAt n s → k ≡ tieCountOf set → l ≡ take (entryBytes * k) (drop at set) → l ≡ tieBytes set
   unfolding tieBytes

@@ -5,6 +5,7 @@ ghost use mathlib.Core.Path.{_≡_};
 ghost use Prim.Native.Nat.{_*_, _≤_};
 ghost use lib.ListN.{take};
 ghost use Rattle.word.specs.Reply.{front};
+ghost use Rattle.numbers.specs.Bytes.{countAt};
 ghost use Rattle.rows.specs.Row.{rowBytes};
 ghost use Rattle.set_layout.specs.Layout.{slicesAt, rowsAt, tieCountAt, tiesAt, setLength, widthOf, tapsOf, inversionOf, chainsOf, spreadOf, slicesOf, valueAt, markAt, tieCountOf, tieBytes, noWords};
 
@@ -104,13 +105,20 @@ pub fn slice_count(set: &[u8]) -> u16
     numbers::read_count(set, slices_at(chain_count(set))) as u16
 }
 
+// The count of ties of a set of n chains and s slices, as the set gives it.
+pub fn tie_count_of(set: &[u8], n: u16, s: u16) -> u16
+    ensures { λ r. ⌜ r ≡ countAt (now (set .entry)) (tieCountAt n s) ⌝ }
+{
+    numbers::read_count(set, tie_count_at(n, s)) as u16
+}
+
 // The count of ties, as the set gives it.
 pub fn tie_count(set: &[u8]) -> u16
     ensures { λ r. ⌜ r ≡ tieCountOf (now (set .entry)) ⌝ }
 {
     let n = chain_count(set);
     let s = slice_count(set);
-    numbers::read_count(set, tie_count_at(n, s)) as u16
+    tie_count_of(set, n, s)
 }
 
 // The entries of ties, without their count, as far as they are there: a part of the set itself.

@@ -1,14 +1,18 @@
 -- `has_wrong_length` meets its contract.
-use Rattle.set_file.proofs.CodeLaws.{wrong-length-of}
+use mathlib.Core.Bool.{not, _||_}
+use mathlib.Core.Path.{ap}
+use Prim.Native.Nat.{ℕ}
+use lib.Dec.{eqb, ltb}
+use lib.ListN.{length}
+use Rattle.ties.specs.Ties.{mostTies}
 use borrow.Author.Needs.{needs}
 use Rattle.set_file.proofs.has_wrong_length.Statement.{statement}
 use Rattle.set_file.proofs.has_wrong_length.Tie as tie
 
 returns : tie.Need-returns
 returns c =
-    wrong-length-of _ _ _ _ _ (c .before .before .before .chain-count .ensures) (c .before .before .slice-count .ensures) (c .before .tie-count .ensures)
-    (c .set-length .ensures)
+    let called = c .before .before .args in
+    ap (λ (x : ℕ). ltb mostTies (called .count) || not (eqb (length (called .set .now)) x)) (c .set-length .ensures)
 
 pub has-wrong-length-spec : {M : Type 1} → statement M
-has-wrong-length-spec =
-    tie.close (tie.spec (λ c κs. search needs) (λ c κs. search needs) (λ c κs. search needs) (λ c κs. search needs) returns)
+has-wrong-length-spec = tie.close (tie.spec (λ c κs. search needs) returns)
