@@ -7,7 +7,7 @@ ghost use Rattle.combinations.specs.Reduced.{reducedList};
 ghost use Rattle.elimination.specs.Elimination.{eliminationReply};
 ghost use Rattle.register.specs.Clock.{clockReply};
 ghost use Rattle.set_file.specs.Reading.{setReply, spreadBeside};
-ghost use Rattle.slice_rows.specs.Rows.{valueReply, markReply};
+ghost use Rattle.slice_rows.specs.Rows.{valueReply, markReply, tiesReply};
 ghost use Rattle.set_content.specs.Content.{setContent};
 ghost use Rattle.set_writer.specs.Writing.{setWriteReply, setBytes};
 ghost use Rattle.signing.specs.Signing.{signReply};
@@ -35,7 +35,7 @@ use crossing::CWorded;
 use crossing::CWritten;
 use register::Register;
 
-// The set reader. Meets 1, 2, 3, 25 and 4 to 10: the set's numbers.
+// The set reader. Meets 1, 2, 3, 25, 4 to 10 and 29 to 31: the set's numbers.
 #[no_mangle]
 pub extern "C" fn canceller_read_set(set: &[u8]) -> CSet
     ensures { λ r. ⌜ r ≡ setOf (setReply (now (set .entry))) (spreadBeside (now (set .entry))) ⌝ }
@@ -59,7 +59,15 @@ pub extern "C" fn canceller_mark_row(set: &[u8], slice: u64) -> CStretch
     crossing::stretch_of(slice_rows::mark_place(set, slice))
 }
 
-// The set writer. Meets 2, 3, 25, 4, 6, 7, 8, 9, 10 and 24; the file over the front of `out`.
+// Where the entries of a set's ties stand in it, without their count. Meets the set's numbers.
+#[no_mangle]
+pub extern "C" fn canceller_ties(set: &[u8]) -> CStretch
+    ensures { λ r. ⌜ r ≡ stretchOf (tiesReply (now (set .entry))) ⌝ }
+{
+    crossing::stretch_of(slice_rows::ties_place(set))
+}
+
+// The set writer. Meets 2, 3, 25, 4, 6, 7, 8, 9, 10, 29, 30, 31 and 24; the file over the front of `out`.
 #[no_mangle]
 pub extern "C" fn canceller_write_set(
     m: u64,
@@ -69,12 +77,13 @@ pub extern "C" fn canceller_write_set(
     values: &[u8],
     marks: &[u8],
     s: u64,
+    ties: &[u8],
     out: &mut [u8],
 ) -> CWritten
-    ensures answer { λ r. ⌜ r ≡ writtenOf (setWriteReply (setContent m taps inversion (now (spread .entry)) (now (values .entry)) (now (marks .entry)) s) (length (now (out .entry)))) ⌝ }
-    ensures file { λ _. ⌜ now (out .exit) ≡ lent (setWriteReply (setContent m taps inversion (now (spread .entry)) (now (values .entry)) (now (marks .entry)) s) (length (now (out .entry)))) (setBytes (setContent m taps inversion (now (spread .entry)) (now (values .entry)) (now (marks .entry)) s)) (now (out .entry)) ⌝ }
+    ensures answer { λ r. ⌜ r ≡ writtenOf (setWriteReply (setContent m taps inversion (now (spread .entry)) (now (values .entry)) (now (marks .entry)) s (now (ties .entry))) (length (now (out .entry)))) ⌝ }
+    ensures file { λ _. ⌜ now (out .exit) ≡ lent (setWriteReply (setContent m taps inversion (now (spread .entry)) (now (values .entry)) (now (marks .entry)) s (now (ties .entry))) (length (now (out .entry)))) (setBytes (setContent m taps inversion (now (spread .entry)) (now (values .entry)) (now (marks .entry)) s (now (ties .entry)))) (now (out .entry)) ⌝ }
 {
-    let written = set_writer::write_set(m, taps, inversion, spread, values, marks, s, out);
+    let written = set_writer::write_set(m, taps, inversion, spread, values, marks, s, ties, out);
     crossing::set_written_of(written)
 }
 
@@ -147,8 +156,8 @@ pub extern "C" fn canceller_expect(set: &[u8], words: &[u64]) -> CExpected
     crossing::expected_of(expectation::expect(set, words))
 }
 
-// Planning. Meets the set's numbers, 14, 17 and 18; the words over the front of their list; past 14 the first 64 places of the working
-// list hold 0.
+// Planning. Meets the set's numbers, 14, 17 and 18; the words over the front of their list; past 14 the first places of the working list,
+// 64 and one for each named symbol, hold 0.
 #[no_mangle]
 pub extern "C" fn canceller_plan(set: &[u8], working: &mut [u64], words: &mut [u64]) -> CPlanned
     ensures answer { λ r. ⌜ r ≡ plannedOf (planReply (now (set .entry)) (length (now (working .entry))) (length (now (words .entry)))) ⌝ }

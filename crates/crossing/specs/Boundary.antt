@@ -7,7 +7,7 @@
 --   registerOf m t i s  the register of width m, tap word t, inversion word i and state s
 --   clockedOf r s     the clock's reply, for the state s that was handed in
 --   signedOf r        a record's signature
---   listedOf r        the number of unknown cells
+--   listedOf r        the number of symbols
 --   eliminatedOf r    the elimination's rank and q
 --   wordedOf r        m and q of the call that gives the words
 --   expectedTo r      the expected bits of a list of words

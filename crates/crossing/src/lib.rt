@@ -217,9 +217,9 @@ pub fn listed_of(listed: Listed) -> CListed
     ensures { λ r. ⌜ r ≡ listedOf (saidListed listed) ⌝ }
 {
     match listed {
-        Listed::Count { unknowns } => CListed {
+        Listed::Count { symbols } => CListed {
             refusal: 0,
-            count: unknowns,
+            count: symbols,
         },
         Listed::Declined { number } => CListed {
             refusal: number,

@@ -9,3 +9,4 @@ pub mod WorkLaws
 pub mod Worked
 pub mod Runs
 pub mod Fewest
+pub mod Untied

@@ -30,7 +30,7 @@ use Rattle.plan_writer.specs.Writing.{planContent, planBytes}
 use Rattle.plan_writer.proofs.Parts.{written-width, written-words}
 use Rattle.plan_file.specs.Layout.{fileWidth, fileWords}
 use Rattle.judge.specs.Verdict.{passes, failsAt, Finding, judgeReply}
-use Rattle.guarantee.specs.Demand.{Alike, planFile, withExpected, FirstDisagrees}
+use Rattle.guarantee.specs.Demand.{AlikeObeying, planFile, withExpected, FirstDisagrees}
 use Rattle.guarantee.proofs.Planned as planned
 use Rattle.guarantee.proofs.Theorems.{same-for-alike-records, passes-exactly, fails-exactly}
 
@@ -69,7 +69,7 @@ module _ (old new : List ℕ) (k l : ℕ) (p : PlanParts) (h : planReply old k l
         ap₂ (λ (m : ℕ) (ws : List ℕ). planBytes (planContent m ws e)) old-width old-words
         ∙ ap (λ (x : ℕ). planBytes (planContent (widthOf new) (wordsOf new) x)) bits
 
-    pub revised-alike : (a b : List ℕ) (y z : ℕ) → signReply new a ≡ answer y → signReply new b ≡ answer z → Alike new a b
+    pub revised-alike : (a b : List ℕ) (y z : ℕ) → signReply new a ≡ answer y → signReply new b ≡ answer z → AlikeObeying new a b
         → judgeReply (withExpected (planFile old p) e) y ≡ judgeReply (withExpected (planFile old p) e) z
     revised-alike a b y z ha hb alike =
         subst (λ (f : List ℕ). judgeReply f y ≡ judgeReply f z) (sym revised-file)

@@ -4,6 +4,7 @@ use mathlib.Core.Path.{_≡_, refl, sym, ap, ap₂, _∙_}
 use mathlib.Core.Bool.{Bool, true, false, cond, not, _&&_}
 use mathlib.Core.List.{List}
 use Prim.Native.Nat.{ℕ, _+_, _-_, _≤_, _<_}
+use native.Mathlib.Nat.{not-suc-le-zero}
 use native.Mathlib.Omega.{arith}
 use borrow.Author.Tests.{le-ltb, ltb-false, eq-eqb, ne-eqb}
 use lib.Dec.{eqb, ltb}
@@ -20,8 +21,9 @@ use Rattle.numbers.proofs.JoinLaws.{joined-length, joined-row}
 use Rattle.rows.specs.Row.{cell, rowBytes, spareSet}
 use Rattle.rows.specs.Lists.{listRow}
 use Rattle.register.specs.Circuit.{Circuit, chains}
-use Rattle.set_layout.specs.Layout.{widthOf, chainsOf, slicesOf, circuitOf, valueRow, markRow, marks, setLength}
+use Rattle.set_layout.specs.Layout.{widthOf, chainsOf, slicesOf, circuitOf, valueRow, markRow, marks, tiesOf, setLength}
 use Rattle.set_layout.proofs.LayoutLaws.{spread-length}
+use Rattle.set_layout.proofs.SliceLaws.{tie-bytes-length}
 use Rattle.set_file.proofs.Laws.{Accepted, accepted, accepted-back, value-row-length, mark-row-length, value-row-clean, mark-row-clean}
 use Rattle.set_content.specs.Content.{SetContent, contentChains, setWriteTests}
 use Rattle.set_content.proofs.ContentLaws.{Writable, writable-back}
@@ -32,7 +34,8 @@ use Rattle.signatures.specs.Columns.{columnsBelow}
 use Rattle.signatures.specs.Sets.{given, columnsOf}
 use Rattle.signatures.proofs.ColumnLaws.{columns-ext}
 use Rattle.signatures.proofs.SetLaws.{columns-of-within}
-use Rattle.kept_words.specs.Working.{wordsOf}
+use Rattle.signatures.proofs.FreeLaws.{columns-free, named-free}
+use Rattle.kept_words.specs.Working.{wordsOf, workingPlaces}
 use Rattle.planner.specs.Planning.{earlierTests, planTests, wordPartsOf, wordsReply, partsOf, planReply}
 use Rattle.planner.proofs.NumberLaws.{earlier-past-set, plan-later}
 use Rattle.cutter.specs.Cutting.{wordsLeft, longestEnd, badShare, RunOf, startsOf, CutParts, cutReply}
@@ -65,7 +68,7 @@ module _ (set : List ℕ) (whole : Accepted set) (a b : ℕ) (ordered : a ≤ b)
   unfolding listRow
   mark-row t l = joined-row (rowBytes (contentChains content)) (λ t. markRow set (a + t)) (b - a) t marks-long l
 
-  run-writable : (room : ℕ) → setLength (contentChains content) (b - a) ≤ room → Writable content room
+  run-writable : (room : ℕ) → setLength (contentChains content) (b - a) 0 ≤ room → Writable content room
   run-writable room fits = record {
     width = whole .width;
     taps = whole .taps;
@@ -86,11 +89,15 @@ module _ (set : List ℕ) (whole : Accepted set) (a b : ℕ) (ordered : a ≤ b)
         ap₂ (λ (v k : List ℕ). anyBelow (contentChains content) (λ c. eqb (cell v c) 1 && eqb (cell k c) 1)) (value-row t l) (mark-row t l)
         ∙ ap (λ (n : ℕ). anyBelow n (λ c. eqb (cell (valueRow set (a + t)) c) 1 && eqb (cell (markRow set (a + t)) c) 1)) own-chains
         ∙ any-below-false (slicesOf set) (λ t. anyBelow (chainsOf set) (λ c. eqb (cell (valueRow set t) c) 1 && eqb (cell (markRow set t) c) 1)) (whole .unvalued) (a + t) (there t l));
+    entries = refl;
+    ties = any-below-none 0 _ (λ i l. absurd (not-suc-le-zero l));
+    order = any-below-none 0 _ (λ i l. absurd (not-suc-le-zero l));
+    sides = any-below-none 0 _ (λ i l. absurd (not-suc-le-zero l));
     fits = fits;
   }
 
   abbrev enough-room : ℕ
-  enough-room = setLength (contentChains content) (b - a)
+  enough-room = setLength (contentChains content) (b - a) 0
 
   run-holds : Holds content (runFile set a b)
   unfolding runFile
@@ -102,7 +109,7 @@ module _ (set : List ℕ) (whole : Accepted set) (a b : ℕ) (ordered : a ≤ b)
 
   run-length : length (runFile set a b) ≡ enough-room
   unfolding runFile
-  run-length = set-bytes-length content (run-writable enough-room (omega arith) .rows)
+  run-length = set-bytes-length content (run-writable enough-room (omega arith) .rows) (run-writable enough-room (omega arith) .entries)
 
   run-written : (room : ℕ) → length (runFile set a b) ≤ room → setWriteReply content room ≡ answer (length (runFile set a b))
   unfolding setWriteReply
@@ -115,10 +122,15 @@ module _ (set : List ℕ) (whole : Accepted set) (a b : ℕ) (ordered : a ≤ b)
   run-circuit : circuitOf (runFile set a b) ≡ circuitOf set
   run-circuit = rw (run-holds .width, run-holds .taps, run-holds .inversion, run-holds .spread) refl
 
+  -- it has no ties, so every unknown cell is free
+  run-bare : tiesOf (runFile set a b) .count ≡ 0
+  run-bare = omega (arith, tie-bytes-length (runFile set a b) (run-accepted .long), ap length (run-holds .ties))
+
   run-columns : columnsOf (runFile set a b) ≡ columnsBelow (circuitOf set) (b - a) (λ t. marks set (a + t)) (b - a)
   unfolding columnsOf
   run-columns =
-      ap₂ (λ (k : Circuit) (s : ℕ). columnsBelow k s (marks (runFile set a b)) s) run-circuit (run-holds .slices)
+      columns-free (given (runFile set a b)) run-bare
+      ∙ ap₂ (λ (k : Circuit) (s : ℕ). columnsBelow k s (marks (runFile set a b)) s) run-circuit (run-holds .slices)
       ∙ columns-ext (circuitOf set) (b - a) (marks (runFile set a b)) (λ t. marks set (a + t)) (b - a)
       (λ t c l d. ap (λ (row : List ℕ). cell row c) (run-holds .mark-rows t l ∙ mark-row t l))
 
@@ -137,7 +149,8 @@ module _ (set : List ℕ) (whole : Accepted set) (a b : ℕ) (ordered : a ≤ b)
     unfolding wordsOf columnsOf
     run-none =
         let past : firstOf (earlierTests (runFile set a b) w) ≡ 0 =
-        earlier-past-set (runFile set a b) w (accepted-back (runFile set a b) run-accepted) ∙ ap (λ (x : Bool). cond {A = ℕ} x 14 0) (le-ltb w 64 work)
+        earlier-past-set (runFile set a b) w (accepted-back (runFile set a b) run-accepted)
+        ∙ ap (λ (x : Bool). cond {A = ℕ} x 14 0) (le-ltb w (workingPlaces (runFile set a b)) (omega (arith, work, named-free (given (runFile set a b)) run-bare)))
         in
         let count : length (reducedList (widthOf (runFile set a b)) (columnsOf (runFile set a b))) ≡ wordsLeft (given set) a b = run-words in
         let words : onlyEmpty (widthOf (runFile set a b)) (columnsOf (runFile set a b)) ≡ false =

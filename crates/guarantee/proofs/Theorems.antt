@@ -3,7 +3,7 @@
 -- where planning answered with p for it; a signature y has the register's width where y < 2 ^ widthOf set.
 --
 -- 1. Unknowns cannot show.
---      same-for-alike-records  records that are alike in every known cell get the same cancelled bits and verdict
+--      same-for-alike-records  records that are alike in every known cell and obey the ties get the same cancelled bits and verdict
 -- 2. A verdict decides.
 --      explained-passes        an explained signature passes, with the expected bits as its cancelled bits
 --      passes-explained        a signature of the register's width that passes is explained
@@ -53,7 +53,7 @@ use Rattle.plan_writer.specs.Writing.{planContent, planBytes, planWriteReply}
 use Rattle.plan_writer.proofs.Parts.{content-taken, content-read, written-words}
 use Rattle.judge.specs.Verdict.{Outcome, passes, failsAt, verdict, Finding, judgeReply}
 use Rattle.judge.proofs.Laws.{passes-agrees, agrees-passes, FailsAt, fails-first}
-use Rattle.guarantee.specs.Demand.{Alike, planFile, FirstDisagrees}
+use Rattle.guarantee.specs.Demand.{AlikeObeying, planFile, FirstDisagrees}
 use Rattle.guarantee.proofs.Explaining as explaining
 use Rattle.guarantee.proofs.Planned as planned
 use Rattle.guarantee.proofs.Content as content
@@ -112,15 +112,15 @@ expected-inside : (set : List ℕ) → expectedOf set < 2 ^ length (wordsOf set)
 unfolding expectedOf
 expected-inside set = parities-lt (wordsOf set) (zeroSignature set)
 
--- records that are alike in every known cell get the same answer from judging: cancelled bits, verdict and index
+-- records that are alike in every known cell and obey the ties get the same answer from judging: cancelled bits, verdict and index
 pub same-for-alike-records : (set : List ℕ) (k l : ℕ) (p : PlanParts) (r v : List ℕ) (y z : ℕ) → planReply set k l ≡ answer p
-    → signReply set r ≡ answer y → signReply set v ≡ answer z → Alike set r v
+    → signReply set r ≡ answer y → signReply set v ≡ answer z → AlikeObeying set r v
     → judgeReply (planFile set p) y ≡ judgeReply (planFile set p) z
 same-for-alike-records set k l p r v y z h hr hv a =
     let wy : y < 2 ^ widthOf set = signed-within set r y hr in
     let wz : z < 2 ^ widthOf set = signed-within set v z hv in
     let differ : isXorOf (columnsOf set) (bitXor y z) ≡ true =
-    ap₂ (λ (x u : ℕ). isXorOf (columnsOf set) (bitXor x u)) (signed set r y hr .1) (signed set v z hv .1) ∙ explaining.alike-xor set r v a
+    ap₂ (λ (x u : ℕ). isXorOf (columnsOf set) (bitXor x u)) (signed set r y hr .1) (signed set v z hv .1) ∙ explaining.alike-xor set (planned.planned-accepted set k l p h) r v a
     in
     let same : parities (wordsOf set) y ≡ parities (wordsOf set) z =
     explaining.xor-parities set (planned.planned-accepted set k l p h) y z wy wz differ

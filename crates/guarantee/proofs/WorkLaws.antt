@@ -19,7 +19,7 @@ use Rattle.plan_writer.specs.Writing.{planContent, wordCount, planBytes, planWr
 use Rattle.plan_writer.specs.declared.Written.{Written}
 use Rattle.plan_writer.proofs.WriteLaws.{length-plan-bytes}
 use Rattle.judge.specs.Verdict.{Finding, verdict, judgeReply}
-use Rattle.guarantee.specs.Demand.{Alike, planFile}
+use Rattle.guarantee.specs.Demand.{AlikeObeying, planFile}
 use Rattle.guarantee.specs.AtWork.{madeReply, planOf, fileAfter, signedReply, recordReply}
 use Rattle.guarantee.proofs.Theorems.{planned-parts, plan-written, plan-judged, signed-within, same-for-alike-records}
 
@@ -94,7 +94,7 @@ module _ (set r plan : List ℕ) (s : Signed) (es : saidSigned s ≡ signReply s
 
 -- ---- two records that are alike in every known cell
 
-module _ (set r v : List ℕ) (k l room y z : ℕ) (hr : signReply set r ≡ answer y) (hv : signReply set v ≡ answer z) (a : Alike set r v) where
+module _ (set r v : List ℕ) (k l room y z : ℕ) (hr : signReply set r ≡ answer y) (hv : signReply set v ≡ answer z) (a : AlikeObeying set r v) where
   alike-judged : (n : ℕ) → madeReply set k l room ≡ answer n → signedReply set r (planOf set) ≡ signedReply set v (planOf set)
   unfolding madeReply signedReply planOf
   alike-judged n h =
@@ -160,7 +160,7 @@ abbrev pub Both : List ℕ → List ℕ → List ℕ → List ℕ → List ℕ �
 Both set r v cs ws file a b cs′ ws′ file′ =
     (a ≡ recordReply set r (length cs) (length ws) (length file))
     × ((b ≡ recordReply set v (length cs) (length ws) (length file))
-    × (((y z : ℕ) → signReply set r ≡ answer y → signReply set v ≡ answer z → Alike set r v → a ≡ b)
+    × (((y z : ℕ) → signReply set r ≡ answer y → signReply set v ≡ answer z → AlikeObeying set r v → a ≡ b)
     × Left set cs ws file cs′ ws′ file′))
 
 pub both : (set r v cs ws file cs′ ws′ file′ : List ℕ) (a b : Reply Finding) → a ≡ recordReply set r (length cs) (length ws) (length file)

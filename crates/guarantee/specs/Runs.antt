@@ -1,10 +1,11 @@
 -- A run as a set of its own. Document 02, No. 5: "Each run is later judged as a set of its own."
 --
---   runContent set a b   the content of the slices a to b - 1 of a set: its register and chains, and these slices' rows
+--   runContent set a b   the content of the slices a to b - 1 of a set: its register and chains, and these slices' rows, without ties, since the
+--                        cutter goes on with every cell free (document 02, No. 7)
 --   runFile set a b      the set file that the set writer makes of it
 --   RunPlanned           what is promised of that file, for a run from a up to b of the set cut for k words
 use mathlib.Core.Path.{_≡_}
-use mathlib.Core.List.{List}
+use mathlib.Core.List.{List, []}
 use Prim.Native.Nat.{ℕ, _+_, _-_, _≤_}
 use lib.ListN.{length}
 use Rattle.word.specs.Reply.{answer, firstOf}
@@ -20,7 +21,7 @@ use Rattle.cutter.specs.Cutting.{wordsLeft}
 
 abbrev pub runContent : List ℕ → ℕ → ℕ → SetContent
 runContent set a b =
-    setContent (widthOf set) (tapsOf set) (inversionOf set) (spreadOf set) (joined (λ t. valueRow set (a + t)) (b - a)) (joined (λ t. markRow set (a + t)) (b - a)) (b - a)
+    setContent (widthOf set) (tapsOf set) (inversionOf set) (spreadOf set) (joined (λ t. valueRow set (a + t)) (b - a)) (joined (λ t. markRow set (a + t)) (b - a)) (b - a) []
 
 unfoldable pub runFile : List ℕ → ℕ → ℕ → List ℕ
 runFile set a b = setBytes (runContent set a b)

@@ -8,7 +8,7 @@ ghost use Rattle.kept_words.specs.Working.{wordsOf};
 ghost use Rattle.planner.specs.Planning.{workingLeft, planReply};
 ghost use Rattle.plan_writer.specs.Writing.{said as saidWritten};
 ghost use Rattle.judge.specs.Verdict.{said};
-ghost use Rattle.guarantee.specs.Demand.{Alike};
+ghost use Rattle.guarantee.specs.Demand.{AlikeObeying};
 ghost use Rattle.guarantee.specs.AtWork.{madeReply, fileAfter, signedReply, recordReply};
 use judge::Judged;
 use plan_writer::Written;
@@ -98,7 +98,8 @@ pub fn judge_record(
 }
 
 // Judges two records by one plan, that of their set. Each gets what `judge_record` gives it alone, and the lent lists are left
-// as there. Two records that meet no number and are alike in every known cell of the set get the same cancelled bits and verdict.
+// as there. Two records that meet no number, are alike in every known cell of the set and obey its ties get the same cancelled bits and
+// verdict.
 pub fn judge_records(
     set: &[u8],
     first: &[u8],
@@ -109,7 +110,7 @@ pub fn judge_records(
 ) -> Pair
     ensures first { λ r. ⌜ said (r .first) ≡ recordReply (now (set .entry)) (now (first .entry)) (length (now (working .entry))) (length (now (words .entry))) (length (now (file .entry))) ⌝ }
     ensures second { λ r. ⌜ said (r .second) ≡ recordReply (now (set .entry)) (now (second .entry)) (length (now (working .entry))) (length (now (words .entry))) (length (now (file .entry))) ⌝ }
-    ensures alike { λ r. ⌜ ((y z : ℕ) → signReply (now (set .entry)) (now (first .entry)) ≡ answer y → signReply (now (set .entry)) (now (second .entry)) ≡ answer z → Alike (now (set .entry)) (now (first .entry)) (now (second .entry)) → said (r .first) ≡ said (r .second)) ⌝ }
+    ensures alike { λ r. ⌜ ((y z : ℕ) → signReply (now (set .entry)) (now (first .entry)) ≡ answer y → signReply (now (set .entry)) (now (second .entry)) ≡ answer z → AlikeObeying (now (set .entry)) (now (first .entry)) (now (second .entry)) → said (r .first) ≡ said (r .second)) ⌝ }
     ensures working { λ _. ⌜ now (working .exit) ≡ workingLeft (now (set .entry)) (now (working .entry)) ⌝ }
     ensures words { λ _. ⌜ now (words .exit) ≡ lent (planReply (now (set .entry)) (length (now (working .entry))) (length (now (words .entry)))) (wordsOf (now (set .entry))) (now (words .entry)) ⌝ }
     ensures file { λ _. ⌜ now (file .exit) ≡ fileAfter (now (set .entry)) (length (now (working .entry))) (length (now (words .entry))) (now (file .entry)) ⌝ }
