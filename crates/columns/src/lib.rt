@@ -1,12 +1,18 @@
-// Columns: those of the unknown cells, from rows of marks that stand in a list of bytes, or from a set file. It sees the two ways to make
-// them and the set file. Every function is total.
+// Columns: those of marked cells, from rows of marks that stand in a list of bytes, or those of a set file's symbols. It sees the two ways to
+// make them, the columns of named symbols in a list, and the set file. Every function is total.
 ghost use mathlib.Core.Path.{_≡_};
 ghost use Prim.Native.Nat.{min};
 ghost use lib.ListN.{length};
 ghost use Rattle.rows.specs.Lists.{cellsOf};
+ghost use Rattle.ties.specs.Ties.{tiesIn};
 ghost use Rattle.marked_words.specs.Back.{back};
-ghost use Rattle.set_file.specs.Reading.{takenCircuit};
+ghost use Rattle.register.specs.Circuit.{chains};
+ghost use Rattle.set_layout.specs.Layout.{tieCountOf};
+ghost use Rattle.set_file.specs.Reading.{takenCircuit, TakenFrom};
 ghost use Rattle.signatures.specs.Columns.{columnsBelow};
+ghost use Rattle.signatures.specs.Symbols.{columnAt, listing};
+ghost use Rattle.symbol_columns.specs.Powered.{FlagsIn};
+ghost use Rattle.listed_symbols.specs.Heads.{HeadsIn};
 ghost use Rattle.columns.specs.Listing.{listReply, columnsAfter, saidListed};
 use rows::Rows;
 use set_file::SetAnswer;
@@ -15,9 +21,9 @@ use set_file::Taken;
 // Up to so many columns are made one by one; from there on it is faster to advance all the chains' words together.
 const FEW_COLUMNS: usize = 512;
 
-// What listing the columns answers: the number of unknown cells, or the first number that applies.
+// What listing the columns answers: the number of symbols, or the first number that applies.
 pub enum Listed {
-    Count { unknowns: u64 },
+    Count { symbols: u64 },
     Declined { number: u64 },
 }
 
@@ -35,8 +41,54 @@ pub fn fill_columns(taken: Taken, list: &[u8], marks: Rows, columns: &mut [u64])
     sparse_columns::fill_few(taken, list, marks, columns);
 }
 
-// The columns of a set's unknown cells, by slice and then by chain, at the front of the lent list, and how many there are. It
-// meets the set's numbers, then 14; a refusal leaves the list as it was.
+// Writes the columns of the symbols over the list, one for each cell that the rows mark, by slice and then by chain: an unnamed cell's own, and
+// at the first cell of a named symbol the symbol's, by the flags of the first `count` entries.
+fn fill_named(
+    taken: Taken,
+    ties: &[u8],
+    count: u16,
+    flags: &[u64],
+    list: &[u8],
+    rows: Rows,
+    columns: &mut [u64],
+)
+    ensures { λ _. ⌜ (HeadsIn (takenCircuit taken) (min (taken .s) 512) (cellsOf (now (list .entry)) rows) (tiesIn (now (ties .entry)) count) → FlagsIn (now (flags .entry)) (tiesIn (now (ties .entry)) count) → length (columnsBelow (takenCircuit taken) (min (taken .s) 512) (cellsOf (now (list .entry)) rows) (min (taken .s) 512)) ≡ length (now (columns .entry)) → now (columns .exit) ≡ listing (columnAt (takenCircuit taken) (min (taken .s) 512) (tiesIn (now (ties .entry)) count)) (cellsOf (now (list .entry)) rows) (chains (takenCircuit taken)) (min (taken .s) 512)) ⌝ }
+{
+    fill_columns(taken, list, rows, columns);
+    listed_symbols::set_symbols(taken, ties, count, flags, list, rows, columns);
+}
+
+// The same as `list_columns` for a taken set with entries of ties: the marks of a symbol's cells but its first are taken out of a copy of the
+// rows, and the cells that are left have a column each.
+fn list_named(taken: Taken, set: &[u8], count: u16, columns: &mut [u64]) -> Listed
+    ensures { λ r. ⌜ (TakenFrom (now (set .entry)) taken → count ≡ tieCountOf (now (set .entry)) → (saidListed r ≡ listReply (now (set .entry)) (length (now (columns .entry)))) × (now (columns .exit) ≡ columnsAfter (now (set .entry)) (now (columns .entry)))) ⌝ }
+{
+    let n = taken.n;
+    let s = taken.s;
+    let ties = set_layout::tie_bytes(set);
+    let flags = symbol_flags::opening_flags(ties, count);
+    let marks = set_layout::mark_rows(n);
+    let heads = free_marks::unmark(set, marks, n, s, ties, count, &flags[..]);
+    let rows = free_marks::list_rows(n);
+    let symbols = marked_words::count_marks(&heads[..], rows, s);
+    if (columns.len() as u64) < symbols {
+        return Listed::Declined { number: 14 };
+    }
+    let end = symbols as usize;
+    fill_named(
+        taken,
+        ties,
+        count,
+        &flags[..],
+        &heads[..],
+        rows,
+        &mut columns[..end],
+    );
+    Listed::Count { symbols }
+}
+
+// The columns of a set's symbols, by slice and then by chain, at the front of the lent list, and how many there are. It meets the set's
+// numbers, then 14; a refusal leaves the list as it was. In a set without entries of ties each unknown cell is a symbol.
 pub fn list_columns(set: &[u8], columns: &mut [u64]) -> Listed
     ensures { λ r. ⌜ saidListed r ≡ listReply (now (set .entry)) (length (now (columns .entry))) ⌝ }
     ensures { λ _. ⌜ now (columns .exit) ≡ columnsAfter (now (set .entry)) (now (columns .entry)) ⌝ }
@@ -48,11 +100,6 @@ pub fn list_columns(set: &[u8], columns: &mut [u64]) -> Listed
             number: set_file::number_of(answer),
         };
     };
-    let marks = set_layout::mark_rows(n);
-    let unknowns = marked_words::count_marks(set, marks, s);
-    if (columns.len() as u64) < unknowns {
-        return Listed::Declined { number: 14 };
-    }
     let spread = read.spread;
     let taken = Taken {
         register,
@@ -60,7 +107,16 @@ pub fn list_columns(set: &[u8], columns: &mut [u64]) -> Listed
         s,
         spread,
     };
-    let end = unknowns as usize;
+    let count = set_layout::tie_count(set);
+    if count != 0 {
+        return list_named(taken, set, count, columns);
+    }
+    let marks = set_layout::mark_rows(n);
+    let symbols = marked_words::count_marks(set, marks, s);
+    if (columns.len() as u64) < symbols {
+        return Listed::Declined { number: 14 };
+    }
+    let end = symbols as usize;
     fill_columns(taken, set, marks, &mut columns[..end]);
-    Listed::Count { unknowns }
+    Listed::Count { symbols }
 }

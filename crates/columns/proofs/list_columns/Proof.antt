@@ -1,9 +1,9 @@
--- `list_columns` meets its contract, by the reader's answer and then by the room in the list.
+-- `list_columns` meets its contract, by the reader's answer, by the count of entries and then by the room in the list.
 use mathlib.Core.Path.{sym}
 use lib.Seq.{length-take-le}
 use borrow.Author.Needs.{needs}
 use Rattle.set_file.proofs.ReadLaws.{refused-set, taken-set}
-use Rattle.columns.proofs.CallLaws.{list-set-refused, list-short, list-answers}
+use Rattle.columns.proofs.CallLaws.{list-set-refused, list-short, list-answers, bare-symbols, bare-columns}
 use Rattle.columns.proofs.list_columns.Statement.{statement}
 use Rattle.columns.proofs.list_columns.Tie as tie
 
@@ -14,17 +14,28 @@ returns c =
 
 returns-2 : tie.Need-returns-2
 returns-2 c =
-    let taken = taken-set _ _ _ _ _ _ (c .before .before .before .before .before .before .read-set .ensures) (c .before .before .before .before .answer .given .1) in
-    list-short _ (c .before .before .before .before .before .before .before .before .before .args .columns .now) _ taken _ (c .before .before .mark-rows .ensures) _ (c .before .count-marks .ensures) (c .if1 .taken)
+    let taken = taken-set _ _ _ _ _ _ (c .before .before .before .before .before .before .before .before .before .before .read-set .ensures) (c .before .before .before .before .before .before .before .before .answer .given .1) in
+    c .before .before .list-named .ensures taken (c .before .before .before .before .before .tie-count .ensures)
+
+returns-3 : tie.Need-returns-3
+returns-3 c =
+    let taken = taken-set _ _ _ _ _ _ (c .before .before .before .before .before .before .before .before .before .read-set .ensures) (c .before .before .before .before .before .before .before .answer .given .1) in
+    let many = bare-symbols _ _ taken _ (c .before .before .mark-rows .ensures) _ (c .before .before .before .before .tie-count .ensures) (c .before .before .before .if1 .left) _ (c .before .count-marks .ensures) in
+    list-short _ (c .before .before .before .before .before .before .before .before .before .before .before .before .args .columns .now) (taken .none) _ many (c .if2 .taken)
 
 slice-aggregate-fill-columns : tie.Need-slice-aggregate-fill-columns
 slice-aggregate-fill-columns c = sym (length-take-le _ _ (search needs))
 
-returns-3 : tie.Need-returns-3
-returns-3 c =
-    let taken = taken-set _ _ _ _ _ _ (c .before .before .before .before .before .before .before .before .before .before .before .read-set .ensures) (c .before .before .before .before .before .before .before .before .before .answer .given .1) in
-    list-answers _ (c .before .before .before .before .before .before .before .before .before .before .before .before .before .before .args .columns .now) _ taken _ (c .before .before .before .before .before .before .before .mark-rows .ensures) _ (c .before .before .before .before .before .before .count-marks .ensures) _ (search needs)
-    (c .before .before .fill-columns .ensures)
+returns-4 : tie.Need-returns-4
+returns-4 c =
+    let columns = c .before .before .before .before .before .before .before .before .before .before .before .before .before .before .before .before .args .columns .now in
+    let taken = taken-set _ _ _ _ _ _ (c .before .before .before .before .before .before .before .before .before .before .before .before .before .read-set .ensures) (c .before .before .before .before .before .before .before .before .before .before .before .answer .given .1) in
+    let marks = c .before .before .before .before .before .before .mark-rows .ensures in
+    let count = c .before .before .before .before .before .before .before .before .tie-count .ensures in
+    let bare = c .before .before .before .before .before .before .before .if1 .left in
+    let many = bare-symbols _ _ taken _ marks _ count bare _ (c .before .before .before .before .before .count-marks .ensures) in
+    let room = c .before .before .before .before .if2 .left in
+    list-answers _ columns (taken .none) _ many _ room (bare-columns _ _ taken _ marks _ count bare _ columns _ many room (c .before .before .fill-columns .ensures))
 
 pub list-columns-spec : {M : Type 1} → statement M
 list-columns-spec =
@@ -37,9 +48,13 @@ list-columns-spec =
     returns
     (λ c κs. search needs)
     (λ c κs. search needs)
+    (λ c. search needs)
     returns-2
+    (λ c κs. search needs)
+    (λ c κs. search needs)
+    returns-3
     (λ c. search needs)
     slice-aggregate-fill-columns
     (λ c κs. search needs)
     (λ c. search needs)
-    returns-3)
+    returns-4)

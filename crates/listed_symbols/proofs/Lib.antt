@@ -1,0 +1,2 @@
+pub mod BeforeLaws
+pub mod HeadLaws
