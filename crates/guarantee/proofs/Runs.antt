@@ -20,6 +20,7 @@ use Rattle.combinations.proofs.Theorems.{words-and-rank, only-empty-list}
 use Rattle.numbers.proofs.JoinLaws.{joined-length, joined-row}
 use Rattle.rows.specs.Row.{cell, rowBytes, spareSet}
 use Rattle.rows.specs.Lists.{listRow}
+use Rattle.ties.specs.Ties.{wrongCells, wrongOrder, wrongSides}
 use Rattle.register.specs.Circuit.{Circuit, chains}
 use Rattle.set_layout.specs.Layout.{widthOf, chainsOf, slicesOf, circuitOf, valueRow, markRow, marks, tiesOf, setLength}
 use Rattle.set_layout.proofs.LayoutLaws.{spread-length}
@@ -69,6 +70,7 @@ module _ (set : List ℕ) (whole : Accepted set) (a b : ℕ) (ordered : a ≤ b)
   mark-row t l = joined-row (rowBytes (contentChains content)) (λ t. markRow set (a + t)) (b - a) t marks-long l
 
   run-writable : (room : ℕ) → setLength (contentChains content) (b - a) 0 ≤ room → Writable content room
+  unfolding wrongCells wrongOrder wrongSides
   run-writable room fits = record {
     width = whole .width;
     taps = whole .taps;
