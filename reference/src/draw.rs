@@ -312,7 +312,9 @@ fn last_entry(ties: &[u8]) -> usize {
 pub const TIE_FAULTS: [Fault; 16] = [
     ("no ties", |t| t.clear()),
     ("one tie less", |t| t.truncate(TIE * last_entry(t))),
-    ("a tie without its last byte", |t| drop(t.pop())),
+    ("a tie without its last byte", |t| {
+        t.pop();
+    }),
     ("a byte behind the ties", |t| t.push(0)),
     ("257 ties", |t| t.resize(TIE * (TIES_MOST + 1), 0)),
     ("more ties than 256 by 256", |t| {

@@ -131,16 +131,27 @@ pub fn tie((slice, chain): Cell, symbol: u16, side: u8) -> [u8; TIE] {
 /// Ties of some of a content's unknown cells: of one cell, of all or as many as there can be, or of any number; with one symbol, a few,
 /// or as many as cells; none as opposite, all, or half.
 pub fn ties(r: &mut Random, content: &Content) -> Vec<u8> {
-    let cells = unknown_cells(content);
-    let most = cells.len().min(TIES_MOST);
+    let most = unknowns_of(content).min(TIES_MOST);
     let any = r.below(most + 1);
     let count = r.pick(&[most, most, most.min(1), any, any, most / 2]);
-    let mut chosen = some_of(r, cells.len(), count);
-    chosen.sort_unstable();
     let many = r.pick(&[1, 2, 3, 8, count.max(1)]);
     let symbols: Vec<u16> = (0..many).map(|_| any_symbol(r)).collect();
     let sides = r.pick(&[[0, 0], [1, 1], [0, 1], [0, 1]]);
-    let entry = |i: usize| tie(cells[i], r.pick(&symbols), r.pick(&sides));
+    some_ties(r, content, count, &symbols, &sides)
+}
+
+/// Ties of so many of a content's unknown cells, each with one of these symbols and one of these last bytes.
+pub fn some_ties(
+    r: &mut Random,
+    content: &Content,
+    count: usize,
+    symbols: &[u16],
+    sides: &[u8],
+) -> Vec<u8> {
+    let cells = unknown_cells(content);
+    let mut chosen = some_of(r, cells.len(), count);
+    chosen.sort_unstable();
+    let entry = |i: usize| tie(cells[i], r.pick(symbols), r.pick(sides));
     chosen.into_iter().flat_map(entry).collect()
 }
 
@@ -426,7 +437,7 @@ pub fn reduced_words(r: &mut Random, m: usize) -> Vec<u64> {
     }
 }
 
-/// A set that ends before its rows: n chains, each with the spread word 1, and the slice count s.
+/// A set without rows and ties: n chains, each with the spread word 1, the slice count s, and the count of ties, 0.
 pub fn without_rows(m: u16, taps: u64, inversion: u64, n: u16, s: u16) -> Vec<u8> {
     let mut set = m.to_le_bytes().to_vec();
     set.extend(taps.to_le_bytes());
@@ -436,5 +447,6 @@ pub fn without_rows(m: u16, taps: u64, inversion: u64, n: u16, s: u16) -> Vec<u8
         set.extend(1u64.to_le_bytes());
     }
     set.extend(s.to_le_bytes());
+    set.extend([0, 0]);
     set
 }

@@ -64,13 +64,14 @@ fn slice_by_slice(content: &Content, k: u64) -> Reply<Cutting> {
     Ok(cutting(content, k, cuts))
 }
 
-/// The slices from `start` up to `end` as a content of their own.
+/// The slices from `start` up to `end` as a content of their own, every unknown cell free.
 fn slices(content: &Content, start: usize, end: usize) -> Content {
     let b = row_bytes(content.spread.len());
     Content {
         values: content.values[b * start..b * end].to_vec(),
         marks: content.marks[b * start..b * end].to_vec(),
         s: (end - start) as u64,
+        ties: vec![],
         ..content.clone()
     }
 }
@@ -118,6 +119,7 @@ fn small_contents() -> impl Iterator<Item = Content> {
                 .map(|t| (marks >> (n * t) & ((1 << n) - 1)) as u8)
                 .collect(),
             s: s.into(),
+            ties: vec![],
         })
     })
 }
@@ -334,6 +336,7 @@ fn every_cell_unknown_in_a_register_that_rotates() {
             values: vec![0; s],
             marks: vec![1; s],
             s: s as u64,
+            ties: vec![],
         };
         for k in 1..=m {
             both.at = format!("m {m}, s {s}, k {k}");
@@ -396,6 +399,7 @@ fn one_slice_with(at: usize, row: u8) -> Content {
         values: vec![0; 9],
         marks,
         s: 9,
+        ties: vec![],
     }
 }
 

@@ -98,12 +98,4 @@ impl Set {
         }
         cells
     }
-
-    /// Whether a response obeys the ties: every two cells of one symbol hold what one value of it gives.
-    pub fn obeyed_by(&self, cells: &[Bits]) -> bool {
-        let told = |tie: &Tie| tie.holds(cells[tie.cell.0][tie.cell.1]);
-        let agree = |a: &Tie, b: &Tie| a.symbol != b.symbol || told(a) == told(b);
-        let ties = &self.ties;
-        ties.iter().all(|a| ties.iter().all(|b| agree(a, b)))
-    }
 }
