@@ -367,9 +367,9 @@ pub fn change_ties(set: &mut Vec<u8>, change: fn(&mut Vec<u8>)) {
 /// A set with a fault, or with some bits changed.
 fn damaged_set(r: &mut Random, set: &[u8]) -> Vec<u8> {
     let mut bad = set.to_vec();
-    match r.below(6) {
-        0 | 1 => (r.pick(&set_faults()).1)(&mut bad),
-        2 | 3 => change_ties(&mut bad, r.pick(&TIE_FAULTS).1),
+    match r.below(8) {
+        0..=3 => (r.pick(&set_faults()).1)(&mut bad),
+        4 | 5 => change_ties(&mut bad, r.pick(&TIE_FAULTS).1),
         _ => {
             for _ in 0..1 + r.below(6) {
                 let at = r.below(bad.len());

@@ -279,7 +279,7 @@ fn a_fault_of_the_ties_beside_another() {
     }
     for number in [8, 9, 10, 29, 30, 31] {
         let seen = both.seen("ties", number);
-        assert!(seen > 100, "{seen} sets gave {number}");
+        assert!(seen > 60, "{seen} sets gave {number}");
     }
 }
 
