@@ -14,22 +14,21 @@
  * No call has a precondition beyond C's own. No call keeps anything between calls; calls on different memory may run at once.
  *
  * The numbers, in the order in which they are looked for, but that 25 is looked for after 3, and 29 to 31, then 26 to 28, after 10:
- *    1 the set has fewer than 18 bytes                      14 fewer places than symbols; in planning: than 64 and the named symbols
- *    2 m isn't 1 to 64                                      15 a column has a bit at or above m
- *    3 the tap word has bit 0 clear or a bit at or above m  17 no X-free combination but the empty one exists
- *    4 the chain count is absent or isn't 1 to 256          18 the word list is shorter than q
- *    5 the set ends before the last spread word             19 the plan has fewer than 2 bytes, or its m isn't 1 to 64
- *    6 a spread word is zero or has a bit at or above m     20 the word count is absent, 0 or above m, or a word is cut off
- *    7 the slice count is absent or above 512               21 the words aren't a reduced list for m
- *    8 a length isn't what the counts give, or the tie      22 the second count, the length or a spare bit is wrong
- *      count is absent or above 256
- *    9 a row has a spare bit set                            23 a signature has a bit at or above m
- *   10 an unknown cell has its value bit set                24 the output is shorter than the file to be written
- *   11 the slice number isn't below s                       25 the inversion word has a bit at or above m
- *   12 the record's length isn't s times B                  26 k isn't 1 to m
- *   13 the record has a spare bit set                       27 a slice alone leaves fewer than k words
- *   29 a tie's cell is absent or isn't unknown              28 the cut list is shorter than the runs are many
- *   30 the ties don't ascend strictly by slice and chain    31 a tie's last byte is above 1
+ *    1 the set has fewer than 18 bytes                      17 no X-free combination but the empty one exists
+ *    2 m isn't 1 to 64                                      18 the word list is shorter than q
+ *    3 the tap word has bit 0 clear or a bit at or above m  19 the plan has fewer than 2 bytes, or its m isn't 1 to 64
+ *    4 the chain count is absent or isn't 1 to 256          20 the word count is absent, 0 or above m, or a word is cut off
+ *    5 the set ends before the last spread word             21 the words aren't a reduced list for m
+ *    6 a spread word is zero or has a bit at or above m     22 the second count, the length or a spare bit is wrong
+ *    7 the slice count is absent or above 512               23 a signature has a bit at or above m
+ *    8 a length isn't what the counts give; a bad tie count 24 the output is shorter than the file to be written
+ *    9 a row has a spare bit set                            25 the inversion word has a bit at or above m
+ *   10 an unknown cell has its value bit set                26 k isn't 1 to m
+ *   11 the slice number isn't below s                       27 a slice alone leaves fewer than k words
+ *   12 the record's length isn't s times B                  28 the cut list is shorter than the runs are many
+ *   13 the record has a spare bit set                       29 a tie's cell is absent or isn't unknown
+ *   14 fewer places than symbols, or than planning takes    30 the ties don't ascend strictly by slice and chain
+ *   15 a column has a bit at or above m                     31 the last byte of a tie is above 1
  * There is no 16: it stood for more than m independent columns, which can't come up, and is given to nothing else.
  */
 #ifndef CANCELLER_H

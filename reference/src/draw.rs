@@ -392,9 +392,12 @@ fn bad_record(both: &mut Both, r: &mut Random, files: &Files) {
     both.sign(&files.set, &bad).ok();
 }
 
-/// The set writer on a content with up to two changes.
+/// The set writer on a content with up to two changes, now and then with one of its ties too.
 pub fn bad_content(both: &mut Both, r: &mut Random) {
     let mut content = small_content(r, 64, 17, 4);
+    if r.one_in(3) {
+        (r.pick(&TIE_FAULTS).1)(&mut content.ties);
+    }
     for _ in 0..r.below(3) {
         change_content(r, &mut content);
     }
@@ -405,7 +408,7 @@ pub fn bad_content(both: &mut Both, r: &mut Random) {
 }
 
 fn change_content(r: &mut Random, content: &mut Content) {
-    match r.below(18) {
+    match r.below(15) {
         0 => content.m = r.pick(&[0, 1, 2, 63, 64, 65, 66, 1 << 32, u64::MAX]),
         1 => content.taps = r.word(),
         2 => content.taps &= !1,
@@ -422,7 +425,6 @@ fn change_content(r: &mut Random, content: &mut Content) {
         11 => add_bits(&mut content.values, r.word() as u8),
         12 => content.inversion = r.beyond(content.m.min(64) as usize),
         13 => content.inversion = r.word(),
-        14..=16 => (r.pick(&TIE_FAULTS).1)(&mut content.ties),
         _ => add_bits(&mut content.marks, r.word() as u8),
     }
 }
