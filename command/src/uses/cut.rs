@@ -20,8 +20,8 @@ that does so from its start. The unknown marks alone decide: no cell's value bea
 cell is free here. K is decimal or 0x.., from 1 to m.
 
 Prints a line 'run index slices first to last words count bits count' for each run. The words are as many as 'canceller plan'
-finds for a set of the run's slices alone without ties; the control bits are m for each of K words. The last line is the bill:
-'bill count runs x m bits x K words = count control bits'. A set without slices has no runs, and its bill is 0.
+finds for a set of the run's slices alone, without ties; the control bits are m for each of K words. The last line is the
+bill: 'bill count runs x m bits x K words = count control bits'. A set without slices has no runs, and its bill is 0.
 
 Example: canceller cut runs.set 2",
     options: &["-o"],

@@ -75,6 +75,8 @@ const BAR_OVER: &str = ".16h.6v.1h-.6z";
 
 const MARGIN: f64 = 24.0;
 const LINE: f64 = 18.0;
+/// Where the text behind a box of the legend starts.
+const BEHIND: f64 = MARGIN + 22.0;
 /// Cells smaller than this have no lines between them, and bars beside them that say where unknown ones are.
 const ROOM: f64 = 6.0;
 const BAR: f64 = 80.0;
@@ -166,7 +168,10 @@ impl Picture {
         let words_top = under + self.legend_high() + 44.0;
         let height = words_top + self.words().len() as f64 * LINE + MARGIN;
         let letters = |text: &String| text.chars().count() as f64 * LETTER;
-        let longest = headings.iter().chain(&cut).map(letters).fold(0.0, f64::max);
+        let legend = self.tie_legend().into_iter().map(|(_, text)| text);
+        let legend = legend.map(|text| letters(&text) + BEHIND - MARGIN);
+        let over = headings.iter().chain(&cut).map(letters);
+        let longest = over.chain(legend).fold(0.0, f64::max);
         let width = (LEFT + across + bars)
             .max(self.words_width())
             .max(MARGIN + longest)
@@ -346,34 +351,35 @@ impl Picture {
         }
     }
 
-    /// What the squares of tied cells mean, where there are any.
-    fn draw_tie_legend(&self, svg: &mut Svg, top: f64) {
+    /// What the squares of tied cells mean, without a bar and with one, where there are any.
+    fn tie_legend(&self) -> Vec<(bool, String)> {
         if self.ties.is_empty() {
-            return;
+            return Vec::new();
         }
-        let opposite = self.ties.iter().filter(|tie| tie.opposite).count();
-        let as_is = self.ties.len() - opposite;
         let symbols = many(self.named().len() as u64, "symbol");
-        let bar = format!("<path d=\"M.2 {BAR_OVER}\" fill=\"#ffffff\"/>");
-        let cells = |count: usize| many(count as u64, "cell");
-        let lines = [
-            (
-                "",
-                format!("tied to one of {symbols}, by its number: {}", cells(as_is)),
-            ),
-            (
-                bar.as_str(),
-                format!(".. to its opposite: {}", cells(opposite)),
-            ),
-        ];
-        for (i, (bar, text)) in lines.iter().enumerate() {
+        let cells = |opposite: bool| {
+            let of_kind = self.ties.iter().filter(|tie| tie.opposite == opposite);
+            many(of_kind.count() as u64, "cell")
+        };
+        vec![
+            (false, format!("tied to one of {symbols}: {}", cells(false))),
+            (true, format!(".. as its opposite: {}", cells(true))),
+        ]
+    }
+
+    fn draw_tie_legend(&self, svg: &mut Svg, top: f64) {
+        for (i, (opposite, text)) in self.tie_legend().iter().enumerate() {
             let y = top + i as f64 * LINE;
+            let bar = match opposite {
+                false => String::new(),
+                true => format!("<path d=\"M.2 {BAR_OVER}\" fill=\"#ffffff\"/>"),
+            };
             svg.put(format_args!(
                 "<g transform=\"translate({MARGIN} {}) scale(14)\"><path d=\"M.1 {SQUARE}\" fill=\"{}\"/>{bar}</g>",
                 number(y - 11.0),
                 COLOURS[0]
             ));
-            svg.text(MARGIN + 22.0, y, text);
+            svg.text(BEHIND, y, text);
         }
     }
 
@@ -480,7 +486,7 @@ impl Picture {
             ));
             let count = grouped(self.count(kind) as u64);
             let cells = if count == "1" { "cell" } else { "cells" };
-            svg.text(MARGIN + 22.0, y, &format!("{what}: {count} {cells}"));
+            svg.text(BEHIND, y, &format!("{what}: {count} {cells}"));
         }
     }
 
