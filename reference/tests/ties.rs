@@ -41,6 +41,21 @@ fn tied_content(r: &mut Random, largest: (usize, usize, usize), most: usize) -> 
     }
 }
 
+/// Such a content from a seed, with its file and what is read from it; and the generator behind it.
+fn drawn(
+    both: &mut Both,
+    seed: u64,
+    largest: (usize, usize, usize),
+    most: usize,
+) -> (Random, Content, Vec<u8>, Set) {
+    let mut r = Random::new(seed);
+    both.at = format!("seed {seed}");
+    let content = tied_content(&mut r, largest, most);
+    let file = file_of(&content);
+    let set = read_set(&file).expect("a good set");
+    (r, content, file, set)
+}
+
 /// Two chains, each with a bit of its own, in a register of m bits that rotates: the column of slice t's cell of chain c is bit
 /// (2 c + s - 1 - t) mod m. All cells are unknown.
 fn rotating(m: u64, s: usize) -> Content {
@@ -63,11 +78,7 @@ fn exactly_the_signatures_of_fillings_that_obey_the_ties_pass() {
     let mut both = Both::new();
     let (mut fewer, mut opposite, mut freed) = (0, 0, 0);
     for seed in 400_000..402_500 {
-        let mut r = Random::new(seed);
-        both.at = format!("seed {seed}");
-        let content = tied_content(&mut r, (8, 5, 3), 11);
-        let file = file_of(&content);
-        let set = read_set(&file).expect("a good set");
+        let (_, content, file, set) = drawn(&mut both, seed, (8, 5, 3), 11);
         let explained = explained(&set);
         let every = explained.len() == 1 << content.m;
         let planned = planning(&mut both, &file, WORKING_MOST, 64);
@@ -237,11 +248,7 @@ fn records_that_obey_are_judged_alike_and_others_are_signed_as_recorded() {
     let mut both = Both::new();
     let (mut pairs, mut disobeying, mut failing) = (0, 0, 0);
     for seed in 404_000..406_000 {
-        let mut r = Random::new(seed);
-        both.at = format!("seed {seed}");
-        let content = tied_content(&mut r, (12, 6, 4), 12);
-        let file = file_of(&content);
-        let set = read_set(&file).expect("a good set");
+        let (mut r, _, file, set) = drawn(&mut both, seed, (12, 6, 4), 12);
         let Ok(plan) = both.plan(&file, WORKING_MOST, 64) else {
             continue;
         };
@@ -300,11 +307,7 @@ fn single_bits_expect_the_signature_with_opposite_cells_1() {
     let mut both = Both::new();
     let mut moved = 0;
     for seed in 406_000..407_000 {
-        let mut r = Random::new(seed);
-        both.at = format!("seed {seed}");
-        let content = tied_content(&mut r, (64, 12, 6), 60);
-        let file = file_of(&content);
-        let set = read_set(&file).expect("a good set");
+        let (_, content, file, set) = drawn(&mut both, seed, (64, 12, 6), 60);
         let mut cells = set.values.clone();
         for entry in content.ties.chunks(TIE) {
             let (slice, chain) = (usize::from(entry[0]), usize::from(entry[2]));
