@@ -43,6 +43,7 @@ pub fn calls(both: &mut Both, seed: u64) {
         set_calls(both, &set, &files.record, files.symbols);
         bad_record(both, r, &files);
         bad_content(both, r);
+        bad_ties(both, r);
         bad_clock(both, r);
         elimination(both, r);
         lent_lists(both, r);
@@ -392,12 +393,9 @@ fn bad_record(both: &mut Both, r: &mut Random, files: &Files) {
     both.sign(&files.set, &bad).ok();
 }
 
-/// The set writer on a content with up to two changes, now and then with one of its ties too.
+/// The set writer on a content with up to two changes.
 pub fn bad_content(both: &mut Both, r: &mut Random) {
     let mut content = small_content(r, 64, 17, 4);
-    if r.one_in(3) {
-        (r.pick(&TIE_FAULTS).1)(&mut content.ties);
-    }
     for _ in 0..r.below(3) {
         change_content(r, &mut content);
     }
@@ -405,6 +403,16 @@ pub fn bad_content(both: &mut Both, r: &mut Random) {
     let length = set_length(content.spread.len(), 0, 0) + lists;
     let room = r.pick(&[length, length, length + 9, length.saturating_sub(1), 0]);
     both.write_set(&content, room).ok();
+}
+
+/// The set writer on a content most of whose cells are unknown and tied, with a change of its ties.
+pub fn bad_ties(both: &mut Both, r: &mut Random) {
+    let (m, n, s) = (1 + r.below(64), 1 + r.below(12), 1 + r.below(4));
+    let of = r.pick(&[1, 2]);
+    let free = content(r, m, n, s, 1, of);
+    let mut content = tied(r, &free);
+    (r.pick(&TIE_FAULTS).1)(&mut content.ties);
+    both.write_set(&content, 40_000).ok();
 }
 
 fn change_content(r: &mut Random, content: &mut Content) {

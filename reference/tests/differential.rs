@@ -326,6 +326,16 @@ fn the_set_writer_on_good_and_bad_content() {
 }
 
 #[test]
+fn the_set_writer_on_good_and_bad_ties() {
+    let both = drawn(40_000..42_000, draw::bad_ties);
+    mixed(&both, "write_set", 20);
+    for number in [8, 29, 30, 31] {
+        let seen = both.seen("write_set", number);
+        assert!(seen > 100, "{seen} contents gave {number}");
+    }
+}
+
+#[test]
 fn clocks() {
     let both = drawn(500..6_500, draw::bad_clock);
     mixed(&both, "clock", 30);
