@@ -290,7 +290,7 @@ fn large_content(r: &mut Random) -> Content {
     }
 }
 
-/// Runs of large sets begin where a restart slice by slice begins them.
+/// Runs of large sets begin where a restart slice by slice begins them, with ties too.
 #[test]
 fn large_sets() {
     let mut both = Both::new();
@@ -299,11 +299,13 @@ fn large_sets() {
         let mut r = Random::new(seed);
         let content = large_content(&mut r);
         let set = file_of(&content);
+        let with_ties = file_of(&tied(&mut r, &content));
         for k in [1, 8, 32, 63, 64] {
             both.at = format!("seed {seed}, k {k}");
             let reply = slice_by_slice(&content, k);
             let runs = reply.as_ref().map_or(0, |cutting| cutting.cuts.len());
             both.cut_is(&set, k, ALL, &reply);
+            both.cut_is(&with_ties, k, ALL, &reply);
             if reply.is_ok() {
                 both.cut_is(&set, k, runs, &reply);
                 both.cut_is(&set, k, runs - 1, &Err(28));
@@ -314,7 +316,7 @@ fn large_sets() {
     }
     let bad_slices = both.seen("cut", 27);
     assert!(
-        several > 150 && many > 80 && bad_slices > 150,
+        several > 150 && many > 80 && bad_slices > 300,
         "{several} answers of more than one run, {many} of more than 50; {bad_slices} gave 27"
     );
 }
