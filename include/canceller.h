@@ -115,8 +115,8 @@ canceller_worded     canceller_plan_words(const uint8_t *set, size_t set_len, ui
                                           uint64_t *words, size_t words_len);
 
 /* The expected bits of a list of words for a set: the parity of each word with the signature for all symbols 0, in which a cell tied as
- * opposite is 1, as one word, bit i for word i. The words need not be the set's own; whether they are, canceller_plan_words says. Meets the set's numbers, 20 (no words, or
- * more than m), 21. Writes nothing. */
+ * opposite is 1, as one word, bit i for word i. The words need not be the set's own; whether they are, canceller_plan_words says. Meets
+ * the set's numbers, 20 (no words, or more than m), 21. Writes nothing. */
 canceller_expected   canceller_expect(const uint8_t *set, size_t set_len, const uint64_t *words, size_t words_len);
 
 /* Planning: canceller_plan_words, and then canceller_expect for its words. Words over the front of the word list. Answers with m, q and
