@@ -3,7 +3,7 @@
 
 use reference::both::Both;
 use reference::draw;
-use reference::library::{canceller_expect, canceller_plan, canceller_plan_words, MakesWords};
+use reference::library::{canceller_expect, canceller_plan, canceller_plan_words, made};
 use reference::random::*;
 use reference::second::layout::{expected_at, row_bytes, TIE};
 use reference::second::plan::Plan;
@@ -274,18 +274,6 @@ fn a_sets_own_words_but_one_have_the_bits_that_they_had() {
         }
     }
     assert!(odd > 1_000, "{odd} lists have bits 1 on both sides");
-}
-
-const FILL: u64 = 0x5EED_5EED_5EED_5EED;
-
-/// The library's call on lists of these many places: its answer, and the lists as it leaves them.
-fn made<A>(call: MakesWords<A>, set: &[u8], rooms: [usize; 2]) -> (A, [Vec<u64>; 2]) {
-    let mut lists = rooms.map(|room| vec![FILL; room]);
-    let [working, words] = &mut lists;
-    let (k, k_len) = (working.as_mut_ptr(), working.len());
-    let (w, w_len) = (words.as_mut_ptr(), words.len());
-    let answer = unsafe { call(set.as_ptr(), set.len(), k, k_len, w, w_len) };
-    (answer, lists)
 }
 
 /// Planning and its two calls by the library alone, which come to the same; the number that they give.

@@ -5,6 +5,7 @@
 use reference::both::Both;
 use reference::draw::{files_of, good_content, planning};
 use reference::force::{explained, filled, obeys, passes_exactly, record_of, refill};
+use reference::library::{canceller_plan, canceller_plan_words, made, Answer, MakesWords, FILL};
 use reference::random::*;
 use reference::repository::sample;
 use reference::second::layout::*;
@@ -403,8 +404,18 @@ fn no_entry_bears_on_the_runs() {
     );
 }
 
+/// The number that a call of the library alone gives; of its working list exactly the first `zero` places are 0 after it, and all others
+/// are as they were.
+fn leaves<A: Answer>(call: MakesWords<A>, set: &[u8], rooms: [usize; 2], zero: usize) -> u64 {
+    let (answer, [working, _]) = made(call, set, rooms);
+    let (front, rest) = working.split_at(zero);
+    let left = front.iter().all(|w| *w == 0) && rest.iter().all(|w| *w == FILL);
+    assert!(left, "rooms {rooms:?}, {zero} places are to be 0");
+    answer.refusal()
+}
+
 /// The places that planning needs, of a set with words and of one without: one less gives 14 and touches nothing, as many are zero at the
-/// end after an answer, 17 and 18, and the places behind them are as they were (`Both` looks at each).
+/// end after an answer, 17 and 18, and the places behind them are as they were.
 #[test]
 fn the_working_list_has_a_place_for_each_named_symbol() {
     let mut both = Both::new();
@@ -439,6 +450,20 @@ fn the_working_list_has_a_place_for_each_named_symbol() {
             for room in [needed - 1, WORKING, WORKING - 1, 0] {
                 let short = planning(&mut both, &file, room, 64);
                 assert_eq!(short, Err(14), "{}", both.at);
+            }
+            // of the library alone: the number, and how many places are 0
+            let (answer, short) = if q == 0 { (17, 17) } else { (0, 18) };
+            for (rooms, first, zero) in [
+                ([needed, 64], answer, needed),
+                ([needed + 1, 64], answer, needed),
+                ([WORKING_MOST, q.max(1) - 1], short, needed),
+                ([needed - 1, 64], 14, 0),
+            ] {
+                let given = [
+                    leaves(canceller_plan, &file, rooms, zero),
+                    leaves(canceller_plan_words, &file, rooms, zero),
+                ];
+                assert_eq!(given, [first, first], "{}, {rooms:?}", both.at);
             }
         }
     }
