@@ -108,6 +108,7 @@ pub mod raw {
         pub fn canceller_read_set(set: *const u8, set_len: usize) -> CSet;
         pub fn canceller_value_row(set: *const u8, set_len: usize, slice: u64) -> CStretch;
         pub fn canceller_mark_row(set: *const u8, set_len: usize, slice: u64) -> CStretch;
+        pub fn canceller_ties(set: *const u8, set_len: usize) -> CStretch;
         pub fn canceller_write_set(
             m: u64,
             taps: u64,
@@ -119,6 +120,8 @@ pub mod raw {
             marks: *const u8,
             marks_len: usize,
             s: u64,
+            ties: *const u8,
+            ties_len: usize,
             out: *mut u8,
             out_len: usize,
         ) -> CWritten;
@@ -198,14 +201,15 @@ pub mod raw {
     }
 }
 
-/// Bytes of the longest set, plan and record, and the most unknown cells, slices and words that there can be.
-pub const SET_MAX: usize = 34_838;
+/// Bytes of the longest set, plan and record, and the most unknown cells, slices, ties and words that there can be.
+pub const SET_MAX: usize = 36_632;
 pub const PLAN_MAX: usize = 526;
 pub const RECORD_MAX: usize = 16_384;
 pub const UNKNOWNS_MAX: usize = 131_072;
 pub const SLICES_MAX: usize = 512;
-/// The places of the working list that planning is lent.
-pub const WORKING_PLACES: usize = 64;
+pub const TIES_MAX: usize = 256;
+/// The places of the working list that planning is lent: always enough, 64 and one for each named symbol.
+pub const WORKING_PLACES: usize = 64 + TIES_MAX;
 pub const WORDS_MAX: usize = 64;
 
 /// Why a call declined: the number of README.md's table.
@@ -238,6 +242,40 @@ pub struct Set {
     pub inversion: u64,
     pub spread: Vec<u64>,
     pub s: u64,
+}
+
+/// A tie: the unknown cell of this slice and chain holds the symbol of this number, or its opposite.
+#[derive(Clone, Copy, Debug, PartialEq, Eq)]
+pub struct Tie {
+    pub slice: u16,
+    pub chain: u16,
+    pub symbol: u16,
+    pub opposite: bool,
+}
+
+impl Tie {
+    /// Bytes of a tie in a set file.
+    pub const BYTES: usize = 7;
+
+    /// As it stands in a set file.
+    pub fn bytes(&self) -> [u8; Tie::BYTES] {
+        let [s0, s1] = self.slice.to_le_bytes();
+        let [c0, c1] = self.chain.to_le_bytes();
+        let [y0, y1] = self.symbol.to_le_bytes();
+        [s0, s1, c0, c1, y0, y1, self.opposite.into()]
+    }
+
+    /// The ties of such a stretch.
+    pub fn all(stretch: &[u8]) -> Vec<Tie> {
+        let number = |entry: &[u8], at: usize| u16::from_le_bytes([entry[at], entry[at + 1]]);
+        let tie = |entry: &[u8]| Tie {
+            slice: number(entry, 0),
+            chain: number(entry, 2),
+            symbol: number(entry, 4),
+            opposite: entry[6] != 0,
+        };
+        stretch.chunks_exact(Tie::BYTES).map(tie).collect()
+    }
 }
 
 /// The words of a set and their expected bits, bit i for word i.
@@ -287,8 +325,14 @@ pub fn mark_row(set: &[u8], slice: u64) -> Reply<&[u8]> {
     })
 }
 
-/// The set file of this register and these rows: `values` and `marks` hold one row for each slice, one after the other.
-pub fn write_set(set: &Set, values: &[u8], marks: &[u8]) -> Reply<Vec<u8>> {
+/// The ties, as they stand in the set; `Tie::all` reads them.
+pub fn ties(set: &[u8]) -> Reply<&[u8]> {
+    stretch(set, unsafe { raw::canceller_ties(set.as_ptr(), set.len()) })
+}
+
+/// The set file of this register, these rows and these ties: `values` and `marks` hold one row for each slice, one after the other,
+/// and `ties` the bytes of each tie, by slice and then by chain.
+pub fn write_set(set: &Set, values: &[u8], marks: &[u8], ties: &[u8]) -> Reply<Vec<u8>> {
     let mut out = vec![0; SET_MAX];
     let written = unsafe {
         raw::canceller_write_set(
@@ -302,6 +346,8 @@ pub fn write_set(set: &Set, values: &[u8], marks: &[u8]) -> Reply<Vec<u8>> {
             marks.as_ptr(),
             marks.len(),
             set.s,
+            ties.as_ptr(),
+            ties.len(),
             out.as_mut_ptr(),
             out.len(),
         )
@@ -333,7 +379,7 @@ pub fn sign(set: &[u8], record: &[u8]) -> Reply<u64> {
     accepted(signed.refusal, signed.signature)
 }
 
-/// The columns of the unknown cells, by slice and then by chain.
+/// The columns of the symbols, each where its first cell stands by slice and then by chain; an unknown cell without a tie is a symbol.
 pub fn list_columns(set: &[u8]) -> Reply<Vec<u64>> {
     let mut columns = vec![0; UNKNOWNS_MAX];
     let at = columns.as_mut_ptr();

@@ -15,6 +15,12 @@ static const char *const slices[] = {
     "10",
 };
 
+/* The ties, 7 bytes for each tied cell, by slice and then by chain: its slice, its chain and its symbol's number, 2 bytes each, low
+ * byte first, and 0 where it holds the symbol or 1 where it holds its opposite. Here every unknown cell is free. With the tie
+ * {0, 0, 1, 0, 7, 0, 0} slice 0's cell of chain 1 would hold symbol 7. */
+static const uint8_t *const ties = NULL;
+static const size_t ties_len = 0;
+
 enum { N = sizeof spread / sizeof spread[0], S = sizeof slices / sizeof slices[0], B = (N + 7) / 8 };
 
 static uint8_t values[S * B], marks[S * B], out[CANCELLER_SET_MAX];
@@ -31,8 +37,8 @@ int main(int argc, char **argv) {
             if (slices[t][c] == 'X') marks[B * t + c / 8] |= bit;
         }
     }
-    canceller_written w =
-        canceller_write_set(m, taps, inversion, spread, N, values, sizeof values, marks, sizeof marks, S, out, sizeof out);
+    canceller_written w = canceller_write_set(m, taps, inversion, spread, N, values, sizeof values, marks, sizeof marks, S, ties,
+                                              ties_len, out, sizeof out);
     if (w.refusal) {
         fprintf(stderr, "refused: %d\n", (int)w.refusal);
         return 2;

@@ -3,6 +3,14 @@
 /// What a number of 64 bits may look like, for messages.
 pub const WORD: &str = "a number from 0 to 2^64 - 1, decimal or 0x..";
 
+/// .. and one of 16.
+pub const COUNT: &str = "a number from 0 to 65535, decimal or 0x..";
+
+/// A number in decimal, or in hexadecimal behind 0x, of 16 bits at most.
+pub fn count(text: &[u8]) -> Option<u16> {
+    word(text).and_then(|number| u16::try_from(number).ok())
+}
+
 /// A number in decimal, or in hexadecimal behind 0x, of 64 bits at most.
 pub fn word(text: &[u8]) -> Option<u64> {
     match text {

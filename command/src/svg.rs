@@ -46,6 +46,16 @@ impl Svg {
         ));
     }
 
+    /// A white line of text of another size, whose middle is here.
+    pub fn sized(&mut self, x: f64, y: f64, size: f64, text: &str) {
+        // a third of the size brings the middle of the figures to the baseline
+        let (x, y, size) = (number(x), number(y + size / 3.0), number(size));
+        self.put(format_args!(
+            "<text x=\"{x}\" y=\"{y}\" text-anchor=\"middle\" font-size=\"{size}\" fill=\"#ffffff\">{}</text>",
+            escaped(text)
+        ));
+    }
+
     pub fn done(self) -> String {
         self.text + "</svg>\n"
     }

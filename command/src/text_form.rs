@@ -9,8 +9,10 @@
 //!     slices 2
 //!     1X                 for each slice a line of cells, 0, 1 or X, chain 0 first
 //!     10
+//!     tie 0 1 7          for each tie the slice and chain of its cell and its symbol's number; `opposite` behind it where the
+//!                        cell holds the symbol's opposite; without such lines every unknown cell is free
 
-use crate::canceller::{self, Reply, Set};
+use crate::canceller::{self, Reply, Set, Tie};
 use crate::ending::{unusable, Outcome};
 use crate::numbers;
 use std::fmt::Write;
@@ -18,14 +20,17 @@ use std::fmt::Write;
 /// No text of a set is longer than this.
 pub const TEXT_MAX: usize = 16 * 1024 * 1024;
 
-/// The one setting that may be left out.
+/// The settings that may be left out, and the word behind a tie.
 const INVERSION: &str = "inversion";
+const TIE: &str = "tie";
+const OPPOSITE: &str = "opposite";
 
 /// What the set writer is handed.
 pub struct Form {
     pub set: Set,
     pub values: Vec<u8>,
     pub marks: Vec<u8>,
+    pub ties: Vec<u8>,
 }
 
 /// A word of a line, and the byte of the line at which it starts.
@@ -275,6 +280,47 @@ impl<'a> Text<'a> {
         }
         Ok(())
     }
+
+    /// The ties, up to the end of the text behind so many slices.
+    fn ties(&mut self, slices: u64) -> Outcome<Vec<u8>> {
+        let mut ties = Vec::new();
+        let expected = format!("'{TIE} ..' or the end of the file behind {slices} slices");
+        while let Some(line) = self.lines.get(self.read) {
+            let mut tokens = line.tokens();
+            match tokens.next() {
+                Some(token) if token.text == TIE.as_bytes() => {}
+                token => return self.wrong_token(line, token, &expected),
+            }
+            ties.extend(self.tie(line, tokens)?.bytes());
+            self.read += 1;
+        }
+        Ok(ties)
+    }
+
+    /// A tie behind its name. Whether there is such a cell is for the set writer to say.
+    fn tie(&self, line: &Line, mut tokens: impl Iterator<Item = Token<'a>>) -> Outcome<Tie> {
+        let mut number = || {
+            let token = tokens.next();
+            match token.as_ref().and_then(|t| numbers::count(t.text)) {
+                Some(number) => Ok(number),
+                None => self.wrong_token(line, token, numbers::COUNT),
+            }
+        };
+        let (slice, chain, symbol) = (number()?, number()?, number()?);
+        let last = tokens.next();
+        let opposite = last.is_some();
+        if last.as_ref().is_some_and(|t| t.text != OPPOSITE.as_bytes()) {
+            let expected = format!("'{OPPOSITE}' or the end of the line");
+            return self.wrong_token(line, last, &expected);
+        }
+        self.ended(line, tokens.next())?;
+        Ok(Tie {
+            slice,
+            chain,
+            symbol,
+            opposite,
+        })
+    }
 }
 
 /// What a text says, or where it isn't the text form. Whether the numbers are a set's is for the set writer to say.
@@ -299,11 +345,7 @@ pub fn parse(file: &str, bytes: &[u8]) -> Outcome<Form> {
     let spread = text.spread(chains)?;
     let s = text.number("slices")?;
     let (values, marks) = text.rows(s, spread.len())?;
-    if text.read < text.lines.len() {
-        let line = &text.lines[text.read];
-        let expected = format!("the end of the file behind {s} slices");
-        return text.wrong_token(line, line.tokens().next(), &expected);
-    }
+    let ties = text.ties(s)?;
     let set = Set {
         m,
         taps,
@@ -311,10 +353,16 @@ pub fn parse(file: &str, bytes: &[u8]) -> Outcome<Form> {
         spread,
         s,
     };
-    Ok(Form { set, values, marks })
+    Ok(Form {
+        set,
+        values,
+        marks,
+        ties,
+    })
 }
 
-/// The text of a set: words in hexadecimal with a digit for each four bits of the register, the inversion word where it isn't 0.
+/// The text of a set: words in hexadecimal with a digit for each four bits of the register, the inversion word where it isn't 0, and
+/// the ties where there are any.
 pub fn print(file: &[u8]) -> Reply<String> {
     let set = canceller::read_set(file)?;
     let digits = set.m.div_ceil(4) as usize;
@@ -333,6 +381,11 @@ pub fn print(file: &[u8]) -> Reply<String> {
     for slice in cells_of(file, &set)? {
         let row: String = slice.into_iter().map(Cell::letter).collect();
         line(format_args!("{row}"));
+    }
+    for tie in Tie::all(canceller::ties(file)?) {
+        let opposite = if tie.opposite { " opposite" } else { "" };
+        let (slice, chain, symbol) = (tie.slice, tie.chain, tie.symbol);
+        line(format_args!("{TIE} {slice} {chain} {symbol}{opposite}"));
     }
     Ok(text)
 }
@@ -371,4 +424,14 @@ pub fn cells_of(file: &[u8], set: &Set) -> Reply<Vec<Vec<Cell>>> {
         Ok((0..set.spread.len()).map(cell).collect())
     };
     (0..set.s).map(slice).collect()
+}
+
+/// The slice and chain of each unknown cell, by slice and then by chain.
+pub fn unknown_cells(slices: &[Vec<Cell>]) -> Vec<(usize, usize)> {
+    let in_slice = |(slice, cells): (usize, &Vec<Cell>)| -> Vec<(usize, usize)> {
+        let chains = cells.iter().enumerate();
+        let unknown = chains.filter(|(_, cell)| **cell == Cell::Unknown);
+        unknown.map(|(chain, _)| (slice, chain)).collect()
+    };
+    slices.iter().enumerate().flat_map(in_slice).collect()
 }

@@ -47,7 +47,7 @@ fn read(text: &str) -> (Vec<Run>, String) {
     (lines.iter().enumerate().map(run).collect(), bill)
 }
 
-/// The set of these slices alone, by the second implementation's writer.
+/// The set of these slices alone, every unknown cell free, by the second implementation's writer.
 fn alone(content: &Content, first: usize, last: usize) -> Vec<u8> {
     let row = content.spread.len().div_ceil(8);
     let rows = row * first..row * (last + 1);
@@ -55,6 +55,7 @@ fn alone(content: &Content, first: usize, last: usize) -> Vec<u8> {
         values: content.values[rows.clone()].to_vec(),
         marks: content.marks[rows].to_vec(),
         s: (last + 1 - first) as u64,
+        ties: vec![],
         ..content.clone()
     })
 }

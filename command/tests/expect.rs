@@ -290,3 +290,27 @@ fn random_revisions_by_the_second_implementation() {
         "too few: {revised} revised, {changed} with other bits, {others} of other words, {none} without words"
     );
 }
+
+/// A tie's last byte is no part of what words are made of: the words stay, and an expected bit moves. Without the ties there are none.
+#[test]
+fn a_tie_that_becomes_as_is_moves_expected_bits_and_no_tie_leaves_no_words() {
+    let folder = Folder::new("revised_ties");
+    folder.put("ties.set", sample("ties.set"));
+    folder.done(&["plan", "ties.set", "-o", "ties.plan"]);
+    let text = String::from_utf8(sample("ties.txt")).unwrap();
+    put_set(&folder, "revised.set", &text.replace(" opposite", ""));
+    let asked = ["expect", "ties.plan", "revised.set", "-o", "revised.plan"];
+    assert_eq!(
+        folder.done(&asked),
+        "word 1 10 expected 0 was 1\nchanged 1 of 2\n"
+    );
+    folder.done(&["plan", "revised.set", "-o", "anew.plan"]);
+    assert_eq!(folder.get("revised.plan"), folder.get("anew.plan"));
+    let untied = text.lines().filter(|line| !line.starts_with("tie"));
+    let untied: Vec<&str> = untied.collect();
+    put_set(&folder, "untied.set", &untied.join("\n"));
+    let ran = folder.run(&["expect", "ties.plan", "untied.set", "-o", "none.plan"]);
+    assert_eq!((ran.status, ran.text()), (2, ""), "{}", ran.err);
+    assert!(ran.err.contains("untied.set: refused 17: "), "{}", ran.err);
+    assert!(!folder.0.join("none.plan").exists(), "nothing is written");
+}

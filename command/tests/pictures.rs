@@ -8,7 +8,7 @@ use common::{inversion_of, sample, second_plan, with_inversion, Folder};
 use reference::random::{content, file_of, small_content, Random};
 use reference::second::elimination::rank;
 use reference::second::plan::judge;
-use reference::second::set::read_set;
+use reference::second::set::{read_set, Set};
 use reference::second::word_of;
 use std::collections::BTreeMap;
 use xml::Element;
@@ -46,6 +46,95 @@ fn grouped(n: usize) -> String {
         n.to_string()
     } else {
         format!("{},{:03}", n / 1000, n % 1000)
+    }
+}
+
+/// Holds what a picture shows of ties against the set's: a square for each tied cell in its symbol's colour, a bar on those that hold
+/// the opposite, the numbers where they fit, and the legend. What the heading says of them: nothing where there are none.
+fn ties_shown(picture: &Element, set: &Set, name: &str) -> String {
+    let texts = picture.texts();
+    let legend = |what: &str| texts.iter().any(|text| text.starts_with(what));
+    if set.ties.is_empty() {
+        let all = picture.all();
+        assert!(all
+            .iter()
+            .all(|e| e.attributes.get("id").is_none_or(|id| id != "ties")));
+        assert!(!legend("tied to") && !legend(".. as its"), "{name}");
+        return String::new();
+    }
+    let group = picture.by_id("ties");
+    let cells = picture.by_id("cells");
+    assert_eq!(group.attribute("transform"), cells.attribute("transform"));
+    assert_eq!(group.children.len(), set.ties.len(), "{name}");
+    let mut colours: BTreeMap<u64, &str> = BTreeMap::new();
+    for (shown, tie) in group.children.iter().zip(&set.ties) {
+        let ((slice, chain), symbol) = (tie.cell, tie.symbol);
+        let side = ["as is", "opposite"][usize::from(tie.side)];
+        let told = format!("slice {slice}, chain {chain}: symbol {symbol}, {side}");
+        assert_eq!(shown.children[0].text, told, "{name}");
+        let square = format!("M{slice}.1 {chain}.1h.8v.8h-.8z");
+        assert_eq!(shown.children[1].attribute("d"), square, "{name}: {told}");
+        let bars: Vec<&str> = shown.children[2..]
+            .iter()
+            .map(|e| e.attribute("d"))
+            .collect();
+        let bar = format!("M{slice}.2 {chain}.16h.6v.1h-.6z");
+        let expected = if tie.side == 1 {
+            vec![bar.as_str()]
+        } else {
+            vec![]
+        };
+        assert_eq!(bars, expected, "{name}: {told}");
+        let colour = shown.children[1].attribute("fill");
+        assert_eq!(*colours.entry(symbol).or_insert(colour), colour, "{name}");
+    }
+    let many = |n: usize, what: &str| format!("{n} {what}{}", if n == 1 { "" } else { "s" });
+    let opposite = set.ties.iter().filter(|tie| tie.side == 1).count();
+    for line in [
+        format!(
+            "tied to one of {}: {}",
+            many(colours.len(), "symbol"),
+            many(set.ties.len() - opposite, "cell")
+        ),
+        format!(".. as its opposite: {}", many(opposite, "cell")),
+    ] {
+        assert!(texts.contains(&line), "{name}: {line} in {texts:?}");
+        let wide: f64 = picture.attribute("width").parse().unwrap();
+        assert!(46.0 + line.len() as f64 * 7.224 <= wide, "{name}: {line}");
+    }
+    numbers_shown(picture, set, name);
+    format!(", {}", many(set.symbols().len(), "symbol"))
+}
+
+/// The numbers on tied cells: each that is there stands in the middle of its cell, within it, and where cells are as large as can be all are
+/// there.
+fn numbers_shown(picture: &Element, set: &Set, name: &str) {
+    let placed = figures(picture.by_id("cells").attribute("transform"));
+    let [left, top, wide, high] = placed[..] else {
+        panic!("{placed:?}");
+    };
+    let all = picture.all().into_iter();
+    let numbers: Vec<&Element> = all
+        .filter(|e| e.attributes.contains_key("font-size"))
+        .collect();
+    // the root element has the size of all other text
+    let numbers = &numbers[1..];
+    let place = |e: &Element, name: &str| e.attribute(name).parse::<f64>().unwrap();
+    for e in numbers {
+        let size = place(e, "font-size");
+        assert!(e.text.len() as f64 * 0.602 * size <= 0.8 * wide && size <= high / 2.0 + 0.01);
+        let slice = ((place(e, "x") - left) / wide).floor() as usize;
+        let chain = ((place(e, "y") - top) / high).floor() as usize;
+        let tie = set.ties.iter().find(|tie| tie.cell == (slice, chain));
+        let symbol = tie.map(|tie| tie.symbol.to_string());
+        assert_eq!(
+            symbol.as_ref(),
+            Some(&e.text),
+            "{name}: slice {slice}, chain {chain}"
+        );
+    }
+    if wide >= 28.0 && high >= 28.0 {
+        assert_eq!(numbers.len(), set.ties.len(), "{name}");
     }
 }
 
@@ -90,7 +179,8 @@ fn holds(folder: &Folder, file: &[u8], name: &str) -> String {
         assert!(texts.contains(&legend), "{name}: {legend} in {texts:?}");
     }
     let columns = set.columns();
-    let (m, rank) = (set.circuit.m, rank(&columns));
+    let (m, rank, unknown) = (set.circuit.m, rank(&columns), set.unknowns().len());
+    let symbols = ties_shown(&picture, &set, name);
     let many = |n: usize, what: &str| format!("{n} {what}{}", if n == 1 { "" } else { "s" });
     let inversion = match inversion_of(file) {
         0 => String::new(),
@@ -104,9 +194,8 @@ fn holds(folder: &Folder, file: &[u8], name: &str) -> String {
     );
     assert!(texts.contains(&register), "{name}: {register} in {texts:?}");
     let head = format!(
-        "{} unknown {}, rank {rank}, q {}",
-        columns.len(),
-        plural(columns.len()),
+        "{unknown} unknown {}{symbols}, rank {rank}, q {}",
+        plural(unknown),
         m as u64 - rank
     );
     let Ok(planned) = second_plan(file) else {
@@ -143,6 +232,7 @@ fn holds(folder: &Folder, file: &[u8], name: &str) -> String {
 #[test]
 fn responses_of_random_sets() {
     let folder = Folder::new("pictures");
+    let mut tied = 0;
     for seed in 0..60 {
         let mut r = Random::new(seed);
         let content = small_content(&mut r, 64, 40, 30);
@@ -152,7 +242,9 @@ fn responses_of_random_sets() {
         };
         let file = with_inversion(&file_of(&content), inversion);
         holds(&folder, &file, &format!("seed {seed}"));
+        tied += usize::from(!content.ties.is_empty());
     }
+    assert!(tied > 15, "{tied} sets with ties are too few");
 }
 
 #[test]
@@ -184,6 +276,8 @@ fn responses_at_the_edges() {
         "no-words",
         "figure-2",
         "unknowns-4097",
+        "ties",
+        "ties-256",
     ] {
         holds(&folder, &sample(&format!("{name}.set")), name);
     }

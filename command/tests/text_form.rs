@@ -46,12 +46,23 @@ fn text_of(set: &Set, inversion: u64, r: &mut Random) -> String {
         }
         text += r.pick(&["\n", "\r\n", " # cells\n"]);
     }
+    for tie in &set.ties {
+        let (slice, chain) = tie.cell;
+        let symbol = match r.below(2) {
+            0 => format!("{}", tie.symbol),
+            _ => format!("0x{:x}", tie.symbol),
+        };
+        let side = if tie.side == 1 { " opposite" } else { "" };
+        text += &format!("tie {slice}\t{chain} {symbol}{side}");
+        text += r.pick(&["\n", "\r\n", "  # a tie\n\n"]);
+    }
     text
 }
 
 #[test]
 fn random_sets_there_and_back_with_and_without_an_inversion_word() {
     let folder = Folder::new("round_trips");
+    let mut tied = 0;
     for seed in 0..150 {
         let mut r = Random::new(seed);
         let content = small_content(&mut r, 64, 40, 20);
@@ -68,6 +79,53 @@ fn random_sets_there_and_back_with_and_without_an_inversion_word() {
             let packed = folder.run_with(&["pack", "-"], text.as_bytes());
             assert_eq!(packed.out, file, "seed {seed}: {}\n{text}", packed.err);
         }
+        tied += usize::from(!content.ties.is_empty());
+    }
+    assert!(tied > 50, "{tied} sets with ties are too few");
+}
+
+/// The lines of ties stand in the text as the entries stand in the set, and what is wrong with them the set writer says.
+#[test]
+fn ties_in_the_text_and_in_the_set() {
+    let folder = Folder::new("ties");
+    folder.put("ties.txt", sample("ties.txt"));
+    folder.done(&["pack", "ties.txt", "-o", "ties.set"]);
+    assert_eq!(folder.get("ties.set"), sample("ties.set"));
+    let shown = folder.done(&["show", "ties.set"]);
+    let lines: Vec<&str> = shown
+        .lines()
+        .skip_while(|l| !l.starts_with("tie"))
+        .collect();
+    assert_eq!(
+        lines,
+        ["tie 0 1 7", "tie 1 1 7 opposite", "tie 1 2 9", "tie 2 1 7"]
+    );
+    let tied = |ties: &str| with_line(8, &format!("10\n{ties}"));
+    let many = |count: usize| "tie 0 1 0\n".repeat(count);
+    for (ties, number) in [
+        ("tie 0 0 7".to_string(), 29),
+        ("tie 2 1 7".into(), 29),
+        ("tie 0 2 7".into(), 29),
+        ("tie 65535 65535 65535".into(), 29),
+        ("tie 0 1 7\ntie 0 1 7".into(), 30),
+        // 29 is looked for in every tie before 30
+        ("tie 0 1 7\ntie 0 1 7\ntie 0 0 7".into(), 29),
+        (many(256), 30),
+        (many(257), 8),
+    ] {
+        let packed = folder.run_with(&["pack", "-"], tied(&ties).as_bytes());
+        let expected = format!("canceller: standard input: refused {number}: ");
+        assert!(packed.err.starts_with(&expected), "{}\n{ties}", packed.err);
+        assert_eq!((packed.status, packed.out.len()), (2, 0), "{ties}");
+    }
+    for (ties, entries) in [
+        ("tie 0 1 0", [0, 0, 1, 0, 0, 0, 0]),
+        ("tie 0x0 1 65535 opposite", [0, 0, 1, 0, 255, 255, 1]),
+        (" tie  0 1 0x102 # the bus", [0, 0, 1, 0, 2, 1, 0]),
+    ] {
+        let packed = folder.run_with(&["pack", "-"], tied(ties).as_bytes());
+        assert_eq!((packed.status, packed.err.as_str()), (0, ""), "{ties}");
+        assert_eq!(packed.out[42..], [&[1, 0], &entries[..]].concat(), "{ties}");
     }
 }
 
@@ -87,7 +145,7 @@ fn every_sample_that_is_a_set_there_and_back() {
         assert_eq!(folder.get("b.set"), sample(name), "{name}");
         count += 1;
     }
-    assert!(count >= 9, "{count} samples are sets");
+    assert!(count >= 16, "{count} samples are sets");
 }
 
 const SAMPLE: &str = "width 3\ntaps 3\nchains 2\nspread 0 1\nspread 1 4\nslices 2\n1X\n10\n";
@@ -141,6 +199,7 @@ fn show_prints_the_inversion_word_only_where_it_is_not_0() {
 fn broken_texts_and_the_place_in_the_message() {
     let folder = Folder::new("broken_texts");
     const NUMBER: &str = "a number from 0 to 2^64 - 1, decimal or 0x..";
+    const COUNT: &str = "a number from 0 to 65535, decimal or 0x..";
     let word = format!("{NUMBER}, or 'bits ..'");
     let cases: Vec<(String, String)> = vec![
         (
@@ -277,11 +336,51 @@ fn broken_texts_and_the_place_in_the_message() {
         ),
         (
             with_line(6, "slices 1"),
-            "8:1: expected the end of the file behind 1 slices, found '10'".into(),
+            "8:1: expected 'tie ..' or the end of the file behind 1 slices, found '10'".into(),
         ),
         (
             with_line(6, "slices 3"),
             "9:1: expected the cells of slice 2, found the end of the file".into(),
+        ),
+        (
+            with_line(8, "10\ntie 0 1 7\n1X"),
+            "10:1: expected 'tie ..' or the end of the file behind 2 slices, found '1X'".into(),
+        ),
+        (
+            with_line(8, "tie 0 1 7\n10"),
+            "8:1: expected a cell: 0, 1 or X, found 'tie 0 1 7'".into(),
+        ),
+        (
+            with_line(8, "10\ntied 0 1 7"),
+            "9:1: expected 'tie ..' or the end of the file behind 2 slices, found 'tied'".into(),
+        ),
+        (
+            with_line(8, "10\n  tie"),
+            format!("9:6: expected {COUNT}, found the end of the line"),
+        ),
+        (
+            with_line(8, "10\ntie 0 1"),
+            format!("9:8: expected {COUNT}, found the end of the line"),
+        ),
+        (
+            with_line(8, "10\ntie 0 -1 7"),
+            format!("9:7: expected {COUNT}, found '-1'"),
+        ),
+        (
+            with_line(8, "10\ntie 65536 1 7"),
+            format!("9:5: expected {COUNT}, found '65536'"),
+        ),
+        (
+            with_line(8, "10\ntie 0 1 0x10000"),
+            format!("9:9: expected {COUNT}, found '0x10000'"),
+        ),
+        (
+            with_line(8, "10\ntie 0 1 7 inverted"),
+            "9:11: expected 'opposite' or the end of the line, found 'inverted'".into(),
+        ),
+        (
+            with_line(8, "10\ntie 0 1 7 opposite 1"),
+            "9:20: expected the end of the line, found '1'".into(),
         ),
         (
             "".into(),

@@ -3,10 +3,11 @@
 mod common;
 
 use common::{sample, second_plan, stored, with_inversion, Folder};
-use reference::random::{content_of_rank, file_of, Random};
+use reference::random::{content_of_rank, file_of, tie, unknown_cells, Random};
 use reference::repository::{repository, text};
 use reference::second::plan::{judge, write_plan};
 use reference::second::planning::printed;
+use reference::second::set::{Content, Set};
 use std::process::Command;
 
 /// A folder with the sample: its text, its set, its plan and its records.
@@ -28,7 +29,7 @@ fn every_use_on_the_sample() {
     assert_eq!(folder.get("sample.set"), sample("sample.set"));
     let second = second_plan(&sample("sample.set")).unwrap();
     assert_eq!(folder.get("sample.plan"), write_plan(&second, 526).unwrap());
-    let prints: [(&[&str], &str); 22] = [
+    let prints: [(&[&str], &str); 24] = [
         (&["show", "sample.set"], "show.txt"),
         (&["plan", "sample.set"], "plan.txt"),
         (&["words", "sample.plan"], "words.txt"),
@@ -38,6 +39,8 @@ fn every_use_on_the_sample() {
         (&["explain", "17"], "explain-17.txt"),
         (&["explain", "25"], "explain-25.txt"),
         (&["explain", "27"], "explain-27.txt"),
+        (&["explain", "29"], "explain-29.txt"),
+        (&["help", "columns"], "help-columns.txt"),
         (&["help", "explain"], "help-explain.txt"),
         (&["--help"], "help.txt"),
         (&["help"], "help.txt"),
@@ -114,10 +117,10 @@ fn the_plans_of_all_samples() {
         }
         count += 1;
     }
-    assert_eq!(count, 30, "stored samples");
+    assert_eq!(count, 38, "stored samples");
 }
 
-/// The command lends planning 64 working places and the plan printer lends 4,096: that changes nothing, however many cells are unknown.
+/// The command lends planning 320 working places and the plan printer lends 4,096: that changes nothing, however many cells are unknown.
 #[test]
 fn the_command_and_the_plan_printer_print_the_same() {
     let folder = Folder::new("printer");
@@ -134,6 +137,9 @@ fn the_command_and_the_plan_printer_print_the_same() {
         ("unknowns-4097", "end 2\n"),
         ("unknowns-131072", "end 2\n"),
         ("largest", "end 24\n"),
+        ("ties", "end 2\n"),
+        ("ties-256", "end 24\n"),
+        ("ties-equal", "refused 30\n"),
         ("no-words", "refused 17\n"),
         ("valued-unknown", "refused 10\n"),
     ] {
@@ -179,7 +185,7 @@ fn changed_sample(at: usize, bytes: &[u8]) -> Vec<u8> {
     set
 }
 
-/// The numbers 1 to 10, 12, 13, 17, 19 to 23 and 25 to 27, each by a use that meets it, and those of a set by every use that reads one.
+/// The numbers 1 to 10, 12, 13, 17, 19 to 23, 25 to 27 and 29 to 31, each by a use that meets it, and those of a set by every use that reads one.
 /// The command lends room enough that 14, 18, 24 and 28 can't come up, asks for no slice that isn't there (11), and hands no columns
 /// over (15).
 #[test]
@@ -202,9 +208,15 @@ fn every_refusal_number() {
         (named("slices-513"), 7),
         (named("rows-short"), 8),
         (named("too-long"), 8),
+        (named("ties-absent"), 8),
+        (named("ties-257"), 8),
         (named("too-long-width-0"), 2),
         (named("spare-bit"), 9),
         (named("valued-unknown"), 10),
+        (named("tie-known"), 29),
+        (named("tie-absent"), 29),
+        (named("ties-equal"), 30),
+        (named("tie-byte-2"), 31),
     ];
     let mut met = Vec::new();
     let mut refused = |words: &[&str], about: &str, number: u64| {
@@ -281,7 +293,8 @@ fn every_refusal_number() {
     refused(&["judge", "sample.plan", "8"], "signature 8", 23);
     met.sort_unstable();
     met.dedup();
-    let met_by_a_use = (1..=10).chain([12, 13, 17]).chain(19..=23).chain(25..=27);
+    let of_sets = (1..=10).chain([12, 13, 17]);
+    let met_by_a_use = of_sets.chain(19..=23).chain(25..=27).chain(29..=31);
     assert_eq!(met, met_by_a_use.collect::<Vec<u64>>());
 }
 
@@ -330,6 +343,18 @@ fn a_set_of_version_1_is_refused_and_explain_says_what_to_do() {
     assert_eq!((ran.status, ran.text()), (2, "refused 25\n"));
     let told = folder.done(&["explain", "25"]);
     assert!(told.contains("version 1"), "{told}");
+}
+
+/// Files of versions 2 and 3 had no count of ties.
+#[test]
+fn a_set_of_version_3_is_refused_and_explain_says_what_to_do() {
+    let folder = Folder::new("version_3");
+    let set = sample("sample.set");
+    folder.put("old.set", &set[..set.len() - 2]);
+    let ran = folder.run(&["plan", "old.set"]);
+    assert_eq!((ran.status, ran.text()), (2, "refused 8\n"));
+    let told = folder.done(&["explain", "8"]);
+    assert!(told.contains("version 2 or 3"), "{told}");
 }
 
 #[test]
@@ -418,11 +443,10 @@ fn row_of_readme(number: u64) -> (String, String) {
 fn numbers_of_the_header() -> Vec<u64> {
     const COLUMNS: [usize; 2] = [5, 61];
     let header = text("include/canceller.h");
-    let (_, list) = header.split_once("is looked for after 3:\n").unwrap();
+    let (_, list) = header.split_once("then 26 to 28, after 10:\n").unwrap();
     let (list, _) = list.split_once(" * There is no 16: ").unwrap();
     let entry = |line: &str, at: usize| line[at..at + 2].trim().to_string();
     let column = |at| list.lines().map(move |line| entry(line, at));
-    // the first column may be shorter than the second
     let entries = COLUMNS.into_iter().flat_map(column);
     let numbers = entries.filter(|entry| !entry.is_empty());
     numbers
@@ -434,7 +458,7 @@ fn numbers_of_the_header() -> Vec<u64> {
 #[test]
 fn explain_says_what_the_readme_and_the_header_list() {
     let folder = Folder::new("explain");
-    let numbers: Vec<u64> = (1..=28).filter(|&n| n != 16).collect();
+    let numbers: Vec<u64> = (1..=31).filter(|&n| n != 16).collect();
     for &number in &numbers {
         let (why, advice) = row_of_readme(number);
         let told = folder.done(&["explain", &number.to_string()]);
@@ -446,17 +470,17 @@ fn explain_says_what_the_readme_and_the_header_list() {
     let first = row_of_readme(17).0;
     assert_eq!(first, "no X-free combination but the empty one exists");
     assert_eq!(row_of_readme(15).0, "a column has a bit at or above m");
-    for bad in ["0", "29", "x", "18446744073709551615"] {
+    for bad in ["0", "32", "x", "18446744073709551615"] {
         let ran = folder.run(&["explain", bad]);
         let message =
-            format!("canceller: explain: expected a number from 1 to 28 but 16, found '{bad}'\n");
+            format!("canceller: explain: expected a number from 1 to 31 but 16, found '{bad}'\n");
         assert_eq!((ran.status, ran.err), (3, message));
     }
     let gap = folder.run(&["explain", "16"]);
     let message =
         "canceller: explain: no call gives 16: more than m independent columns can't come up\n";
     assert_eq!((gap.status, gap.err.as_str()), (3, message));
-    assert_eq!((told_in_readme(16), told_in_readme(29)), (None, None));
+    assert_eq!((told_in_readme(16), told_in_readme(32)), (None, None));
     assert!(text("README.md")
         .contains("\nThere is no 16. It stood for more than m independent columns"));
     assert_eq!(numbers_of_the_header(), numbers);
@@ -571,20 +595,70 @@ fn wrong_usage() {
 #[test]
 fn columns_by_the_second_implementation() {
     let folder = Folder::new("columns");
+    let mut tied = 0;
     for seed in 0..40 {
         let mut r = Random::new(seed);
         let set = file_of(&reference::random::small_content(&mut r, 64, 30, 20));
         let read = reference::second::set::read_set(&set).unwrap();
         folder.put("a.set", &set);
         let mut expected = String::new();
-        for ((slice, chain), column) in read.unknowns().into_iter().zip(read.columns()) {
+        for (cells, column) in read.symbols().iter().zip(read.columns()) {
             let bits = (0..64).filter(|i| column >> i & 1 == 1);
             let names: Vec<String> = bits.map(|i| format!("M{}", i + 1)).collect();
-            let names = names.join(" ");
-            expected += &format!("slice {slice} chain {chain} column {column} bits {names}\n");
+            let (owner, names) = (owner(&read, cells), names.join(" "));
+            expected += &format!("{owner} column {column} bits {names}\n");
+            tied += usize::from(cells.len() > 1);
         }
         assert_eq!(folder.done(&["columns", "a.set"]), expected, "seed {seed}");
     }
+    assert!(tied > 20, "{tied} symbols of several cells are too few");
+}
+
+/// How `columns` names a symbol: a free cell, or the number and all cells.
+fn owner(set: &Set, cells: &[(usize, usize)]) -> String {
+    let tie_of = |cell: &(usize, usize)| set.ties.iter().find(|tie| tie.cell == *cell);
+    let named = |cell: &(usize, usize)| {
+        let opposite = tie_of(cell).is_some_and(|tie| tie.side == 1);
+        let behind = if opposite { " opposite" } else { "" };
+        format!("slice {} chain {}{behind}", cell.0, cell.1)
+    };
+    let cells_named: Vec<String> = cells.iter().map(named).collect();
+    let symbol = tie_of(&cells[0]).map(|tie| format!("symbol {} ", tie.symbol));
+    symbol.unwrap_or_default() + &cells_named.join(", ")
+}
+
+#[test]
+fn the_columns_of_the_sample_with_ties() {
+    let folder = Folder::new("tied_columns");
+    folder.put("ties.set", sample("ties.set"));
+    assert_eq!(
+        folder.done(&["columns", "ties.set"]),
+        "symbol 7 slice 0 chain 1, slice 1 chain 1 opposite, slice 2 chain 1 column 1 bits M1\n\
+         symbol 9 slice 1 chain 2 column 10 bits M2 M4\n\
+         slice 3 chain 2 column 16 bits M5\n"
+    );
+}
+
+/// A set of 256 ties with 256 symbols, and one of as many unknown cells as there can be: the command lends places enough.
+#[test]
+fn as_many_named_symbols_as_there_can_be() {
+    let folder = Folder::new("most_symbols");
+    let mut r = Random::new(256);
+    let free = content_of_rank(&mut r, (64, 256, 512), 40, 131_072);
+    let cells = unknown_cells(&free);
+    let entries = (0..256).map(|i| tie(cells[500 * i], i as u16, (i % 2) as u8));
+    let content = Content {
+        ties: entries.flatten().collect(),
+        ..free
+    };
+    let set = file_of(&content);
+    folder.put("a.set", &set);
+    let lines = folder.done(&["plan", "a.set", "-o", "a.plan"]);
+    assert!(lines.starts_with("set 64 256 512 131072\n"), "{lines}");
+    let second = second_plan(&set).unwrap();
+    assert_eq!(folder.get("a.plan"), write_plan(&second, 526).unwrap());
+    let changed = format!("changed 0 of {}\n", second.words.len());
+    assert_eq!(folder.done(&["expect", "a.plan", "a.set"]), changed);
 }
 
 #[test]

@@ -9,27 +9,34 @@ use crate::second::cutting::{cut, Cutting};
 use crate::second::elimination::eliminate;
 use crate::second::plan::{judge, read_plan_into, write_plan, Judged, Plan};
 use crate::second::planning::{expect, plan, plan_words, Planning};
-use crate::second::set::{clock, list_columns, read_set, row_place, sign, write_set, Content, Row};
+use crate::second::set::{
+    clock, list_columns, read_set, row_place, sign, ties_place, write_set, Content, Row,
+};
 use crate::second::{word_of, Reply};
 use std::collections::BTreeMap;
 
+/// The numbers of a set, in the order in which they are looked for, and those that a call on a set looks for behind them.
+macro_rules! sets {
+    ($($more:literal),*) => {
+        &[1, 2, 3, 25, 4, 5, 6, 7, 8, 9, 10, 29, 30, 31 $(, $more)*]
+    };
+}
+
 /// Each call with the numbers that it can meet, in the order in which it looks for them.
-pub const MEETS: [(&str, &[u64]); 15] = [
-    ("read_set", &[1, 2, 3, 25, 4, 5, 6, 7, 8, 9, 10]),
-    ("value_row", &[1, 2, 3, 25, 4, 5, 6, 7, 8, 9, 10, 11]),
-    ("mark_row", &[1, 2, 3, 25, 4, 5, 6, 7, 8, 9, 10, 11]),
-    ("write_set", &[2, 3, 25, 4, 6, 7, 8, 9, 10, 24]),
+pub const MEETS: [(&str, &[u64]); 16] = [
+    ("read_set", sets![]),
+    ("value_row", sets![11]),
+    ("mark_row", sets![11]),
+    ("ties", sets![]),
+    ("write_set", &[2, 3, 25, 4, 6, 7, 8, 9, 10, 29, 30, 31, 24]),
     ("clock", &[2, 3, 25, 4, 6, 8, 9, 23]),
-    ("sign", &[1, 2, 3, 25, 4, 5, 6, 7, 8, 9, 10, 12, 13]),
-    ("list_columns", &[1, 2, 3, 25, 4, 5, 6, 7, 8, 9, 10, 14]),
+    ("sign", sets![12, 13]),
+    ("list_columns", sets![14]),
     ("eliminate", &[2, 15, 17, 18]),
-    (
-        "plan_words",
-        &[1, 2, 3, 25, 4, 5, 6, 7, 8, 9, 10, 14, 17, 18],
-    ),
-    ("expect", &[1, 2, 3, 25, 4, 5, 6, 7, 8, 9, 10, 20, 21]),
-    ("plan", &[1, 2, 3, 25, 4, 5, 6, 7, 8, 9, 10, 14, 17, 18]),
-    ("cut", &[1, 2, 3, 25, 4, 5, 6, 7, 8, 9, 10, 26, 27, 28]),
+    ("plan_words", sets![14, 17, 18]),
+    ("expect", sets![20, 21]),
+    ("plan", sets![14, 17, 18]),
+    ("cut", sets![26, 27, 28]),
     ("write_plan", &[19, 20, 21, 22, 24]),
     ("read_plan", &[19, 20, 21, 22, 18]),
     ("judge", &[19, 20, 21, 22, 23]),
@@ -91,7 +98,7 @@ impl Lent {
 
 /// The two implementations, with fenced memory for the library's slices.
 pub struct Both {
-    fences: [[Fenced; 4]; 2],
+    fences: [[Fenced; 5]; 2],
     /// What is lent to be written holds in the two calls: noise, and other noise.
     pub before: [Before; 2],
     /// How often each call was compared, by the number it gave; 0 for an answer.
@@ -136,6 +143,14 @@ fn planned_answer(reply: &Reply<Plan>) -> CPlanned {
     })
 }
 
+fn stretch_answer(reply: &Reply<(usize, usize)>) -> CStretch {
+    answer(reply, |&(start, length)| CStretch {
+        refusal: 0,
+        start: start as u64,
+        length: length as u64,
+    })
+}
+
 fn written_answer(reply: &Reply<Vec<u8>>) -> CWritten {
     answer(reply, |file| CWritten {
         refusal: 0,
@@ -158,7 +173,7 @@ fn noise(seed: u64, bytes: usize) -> Vec<u8> {
 }
 
 /// Lays the slices against the fences: an input as it is, a list to be written with what it holds before.
-fn lay(fences: &mut [Fenced; 4], lend: &[Lend], held: Before) -> Vec<Lent> {
+fn lay(fences: &mut [Fenced; 5], lend: &[Lend], held: Before) -> Vec<Lent> {
     let lay_one = |(slice, fence): (&Lend, &mut Fenced)| {
         let (bytes, known, before) = slice.laid();
         let memory = fence.bytes(bytes);
@@ -177,7 +192,7 @@ fn lay(fences: &mut [Fenced; 4], lend: &[Lend], held: Before) -> Vec<Lent> {
 impl Both {
     pub fn new() -> Both {
         Both {
-            fences: SIDES.map(|side| [0; 4].map(|_| Fenced::new(side, 4096 * 16))),
+            fences: SIDES.map(|side| [0; 5].map(|_| Fenced::new(side, 4096 * 16))),
             before: [|bytes| noise(1, bytes), |bytes| noise(2, bytes)],
             seen: BTreeMap::new(),
             given: BTreeMap::new(),
@@ -276,13 +291,7 @@ impl Both {
     /// Both row calls.
     pub fn rows(&mut self, set: &[u8], slice: u64) -> Reply<()> {
         let place = |row| row_place(set, slice, row);
-        let want = |row| {
-            answer(&place(row), |&(start, length)| CStretch {
-                refusal: 0,
-                start: start as u64,
-                length: length as u64,
-            })
-        };
+        let want = |row| stretch_answer(&place(row));
         let lend = [Lend::Bytes(set)];
         self.compare("value_row", &lend, want(Row::Values), |lent| {
             let (set, set_len) = lent[0].bytes();
@@ -295,6 +304,17 @@ impl Both {
         place(Row::Values).map(|_| ())
     }
 
+    /// Where the ties stand.
+    pub fn ties(&mut self, set: &[u8]) -> Reply<(usize, usize)> {
+        let reply = ties_place(set);
+        let want = stretch_answer(&reply);
+        self.compare("ties", &[Lend::Bytes(set)], want, |lent| {
+            let (set, set_len) = lent[0].bytes();
+            unsafe { canceller_ties(set, set_len) }
+        });
+        reply
+    }
+
     /// The set writer, with an output of `room` bytes.
     pub fn write_set(&mut self, content: &Content, room: usize) -> Reply<Vec<u8>> {
         let reply = write_set(content, room);
@@ -303,16 +323,18 @@ impl Both {
             Lend::Words(&content.spread),
             Lend::Bytes(&content.values),
             Lend::Bytes(&content.marks),
+            Lend::Bytes(&content.ties),
             Lend::Output(room, front(&reply, |file| file)),
         ];
         let (m, taps, inversion, s) = (content.m, content.taps, content.inversion, content.s);
         self.compare("write_set", &lend, want, |lent| {
-            let ((spread, n), (out, out_len)) = (lent[0].words(), lent[3].output());
+            let ((spread, n), (out, out_len)) = (lent[0].words(), lent[4].output());
             let ((values, values_len), (marks, marks_len)) = (lent[1].bytes(), lent[2].bytes());
+            let (ties, ties_len) = lent[3].bytes();
             unsafe {
                 canceller_write_set(
-                    m, taps, inversion, spread, n, values, values_len, marks, marks_len, s, out,
-                    out_len,
+                    m, taps, inversion, spread, n, values, values_len, marks, marks_len, s, ties,
+                    ties_len, out, out_len,
                 )
             }
         });

@@ -5,22 +5,24 @@ use crate::random::*;
 use crate::second::cutting::Cutting;
 use crate::second::layout::*;
 use crate::second::plan::{write_plan, Plan};
-use crate::second::planning::WORKING;
+use crate::second::planning::{WORKING, WORKING_MOST};
 use crate::second::set::Content;
 use crate::second::{number_at, Reply};
 
-/// A set file with a record of its shape, and the number of its unknown cells.
+/// A set file with a record of its shape, the number of its symbols, and the working places that its planning needs.
 pub struct Files {
     pub set: Vec<u8>,
     pub record: Vec<u8>,
-    pub unknowns: usize,
+    pub symbols: usize,
+    pub working: usize,
 }
 
 pub fn files_of(r: &mut Random, content: &Content) -> Files {
     Files {
         set: file_of(content),
         record: record(r, content.spread.len(), content.s as usize),
-        unknowns: unknowns_of(content),
+        symbols: symbols_of(content),
+        working: WORKING + named_of(content),
     }
 }
 
@@ -38,9 +40,10 @@ pub fn calls(both: &mut Both, seed: u64) {
     let files = files_of(r, &content);
     for _ in 0..4 {
         let set = damaged_set(r, &files.set);
-        set_calls(both, &set, &files.record, files.unknowns);
+        set_calls(both, &set, &files.record, files.symbols);
         bad_record(both, r, &files);
         bad_content(both, r);
+        bad_ties(both, r);
         bad_clock(both, r);
         elimination(both, r);
         lent_lists(both, r);
@@ -99,9 +102,11 @@ pub fn every_call(both: &mut Both, files: &Files) {
     let Files {
         set,
         record,
-        unknowns,
+        symbols,
+        working,
     } = files;
     both.read_set(set).expect("a good set");
+    both.ties(set).expect("a good set");
     both.sign(set, record).expect("a record of the set's shape");
     let chains = number_at(set, CHAINS_AT, COUNT).expect("n") as usize;
     let slices = number_at(set, slices_at(chains), COUNT).expect("s");
@@ -109,19 +114,19 @@ pub fn every_call(both: &mut Both, files: &Files) {
         let row = both.rows(set, slice);
         assert_eq!(row.is_ok(), slice < slices, "{}", both.at);
     }
-    for room in [*unknowns, unknowns + 3, unknowns.saturating_sub(1), 0] {
+    for room in [*symbols, symbols + 3, symbols.saturating_sub(1), 0] {
         let listed = both.list_columns(set, room);
-        assert_eq!(listed.is_ok(), room >= *unknowns, "{}", both.at);
+        assert_eq!(listed.is_ok(), room >= *symbols, "{}", both.at);
     }
-    // 14 comes before 17 and 18, and has nothing to do with the unknown cells
-    for room in [0, WORKING - 1] {
+    // 14 comes before 17 and 18, and has nothing to do with the unknown cells but those that are named
+    for room in [0, working - 1] {
         let short = planning(both, set, room, 0);
         assert_eq!(short, Err(14), "{}", both.at);
     }
-    let Ok(plan) = planning(both, set, WORKING, 64) else {
+    let Ok(plan) = planning(both, set, *working, 64) else {
         // 17 comes before 18, and is no number of the expected bits
         for room in [0, 1] {
-            let again = planning(both, set, WORKING + room, room);
+            let again = planning(both, set, working + room, room);
             assert_eq!(again, Err(17), "{}", both.at);
         }
         assert!(both.expect(set, &[1]).is_ok(), "{}", both.at);
@@ -129,7 +134,7 @@ pub fn every_call(both: &mut Both, files: &Files) {
     };
     let q = plan.words.len();
     for room in [q, q - 1, q + 1] {
-        let again = planning(both, set, WORKING + room, room);
+        let again = planning(both, set, working + room, room);
         assert_eq!(again.is_ok(), room >= q, "{}", both.at);
     }
     good_plan(both, &plan);
@@ -169,12 +174,13 @@ fn good_plan(both: &mut Both, plan: &Plan) {
 }
 
 /// The calls on a set that may be bad.
-pub fn set_calls(both: &mut Both, set: &[u8], record: &[u8], unknowns: usize) {
+pub fn set_calls(both: &mut Both, set: &[u8], record: &[u8], symbols: usize) {
     both.read_set(set).ok();
+    both.ties(set).ok();
     both.sign(set, record).ok();
     both.rows(set, 0).ok();
-    both.list_columns(set, unknowns).ok();
-    planning(both, set, WORKING, 64).ok();
+    both.list_columns(set, symbols).ok();
+    planning(both, set, WORKING_MOST, 64).ok();
     for words in [&[1][..], &[], &[2, 1]] {
         both.expect(set, words).ok();
     }
@@ -290,21 +296,86 @@ const LENGTH_FAULTS: [Fault; 13] = [
     ("empty", |s| s.clear()),
 ];
 
-/// The faults that a set can have, as changes of its bytes.
+/// The faults that a set can have, as changes of its bytes, but those of its ties.
 pub fn set_faults() -> Vec<Fault> {
     [&REGISTER_FAULTS[..], &SLICE_FAULTS, &LENGTH_FAULTS].concat()
+}
+
+fn put_entry(ties: &mut [u8], entry: usize, at: usize, bytes: &[u8]) {
+    put(ties, TIE * entry + at, bytes);
+}
+
+fn last_entry(ties: &[u8]) -> usize {
+    (ties.len() / TIE).max(1) - 1
+}
+
+/// The faults that ties can have, as changes of their entries' bytes; ties that are right too.
+pub const TIE_FAULTS: [Fault; 16] = [
+    ("no ties", |t| t.clear()),
+    ("one tie less", |t| t.truncate(TIE * last_entry(t))),
+    ("a tie without its last byte", |t| {
+        t.pop();
+    }),
+    ("a byte behind the ties", |t| t.push(0)),
+    ("257 ties", |t| t.resize(TIE * (TIES_MOST + 1), 0)),
+    ("more ties than 256 by 256", |t| {
+        t.resize(t.len() + TIE * 256, 0)
+    }),
+    ("a tie of slice 65,535", |t| {
+        t.extend(tie((65_535, 0), 1, 0))
+    }),
+    ("chain 256 in the first tie", |t| {
+        put_entry(t, 0, 2, &[0, 1])
+    }),
+    ("slice 0 in the last tie", |t| {
+        let last = last_entry(t);
+        put_entry(t, last, 0, &[0, 0]);
+    }),
+    ("a tie of the first cell in front", |t| {
+        t.splice(0..0, tie((0, 0), 2, 0));
+    }),
+    ("the first tie twice", |t| {
+        let first: Vec<u8> = t.iter().take(TIE).copied().collect();
+        t.splice(0..0, first);
+    }),
+    ("the last tie twice", |t| {
+        let from = TIE * last_entry(t);
+        t.extend_from_within(from..);
+    }),
+    ("the first tie last", |t| {
+        let first = TIE.min(t.len());
+        t.rotate_left(first);
+    }),
+    ("a last byte of 2", |t| put_entry(t, 0, 6, &[2])),
+    ("a last byte of 255 in the last tie", |t| {
+        let last = last_entry(t);
+        put_entry(t, last, 6, &[255]);
+    }),
+    ("another symbol", |t| put_entry(t, 0, 4, &[7, 7])),
+];
+
+/// The entries behind a good set's slices put through a change, and their count with them.
+pub fn change_ties(set: &mut Vec<u8>, change: fn(&mut Vec<u8>)) {
+    let n = chains(set);
+    let s = number_at(set, slices_at(n), COUNT).expect("a good set") as usize;
+    let mut ties = set.split_off(tie_at(n, s, 0));
+    change(&mut ties);
+    let count = ties.len().div_ceil(TIE) as u16;
+    put(set, tie_count_at(n, s), &count.to_le_bytes());
+    set.extend(ties);
 }
 
 /// A set with a fault, or with some bits changed.
 fn damaged_set(r: &mut Random, set: &[u8]) -> Vec<u8> {
     let mut bad = set.to_vec();
-    if r.one_in(2) {
-        let (_, fault) = r.pick(&set_faults());
-        fault(&mut bad);
-    } else {
-        for _ in 0..1 + r.below(6) {
-            let at = r.below(bad.len());
-            bad[at] ^= 1 << r.below(8);
+    match r.below(8) {
+        0..=3 => (r.pick(&set_faults()).1)(&mut bad),
+        4 | 5 => change_ties(&mut bad, r.pick(&TIE_FAULTS).1),
+        _ => {
+            for _ in 0..1 + r.below(6) {
+                let at = r.below(bad.len());
+                bad[at] ^= 1 << r.below(8);
+            }
         }
     }
     bad
@@ -328,10 +399,20 @@ pub fn bad_content(both: &mut Both, r: &mut Random) {
     for _ in 0..r.below(3) {
         change_content(r, &mut content);
     }
-    let rows = content.values.len() + content.marks.len();
-    let length = set_length(content.spread.len(), 0) + rows;
+    let lists = content.values.len() + content.marks.len() + content.ties.len();
+    let length = set_length(content.spread.len(), 0, 0) + lists;
     let room = r.pick(&[length, length, length + 9, length.saturating_sub(1), 0]);
     both.write_set(&content, room).ok();
+}
+
+/// The set writer on a content most of whose cells are unknown and tied, with a change of its ties.
+pub fn bad_ties(both: &mut Both, r: &mut Random) {
+    let (m, n, s) = (1 + r.below(64), 1 + r.below(12), 1 + r.below(4));
+    let of = r.pick(&[1, 2]);
+    let free = content(r, m, n, s, 1, of);
+    let mut content = tied(r, &free);
+    (r.pick(&TIE_FAULTS).1)(&mut content.ties);
+    both.write_set(&content, 40_000).ok();
 }
 
 fn change_content(r: &mut Random, content: &mut Content) {
@@ -416,14 +497,16 @@ pub fn elimination(both: &mut Both, r: &mut Random) {
     both.eliminate(width, &columns, room).ok();
 }
 
-/// Planning of a set that may be bad, with a working list around 64 places and a word list of any length.
+/// Planning of a set that may be bad, with a working list around 64 places, or around what its ties ask for, and a word list of any
+/// length.
 pub fn lent_lists(both: &mut Both, r: &mut Random) {
     let content = small_content(r, 12, 10, 4);
     let mut set = file_of(&content);
     if r.one_in(4) {
         set = damaged_set(r, &set);
     }
-    let working = r.pick(&[0, 1, 62, 63, 64, 64, 65, 66, 128, 4_096]);
+    let needed = WORKING + named_of(&content);
+    let working = r.pick(&[0, 1, 63, 64, 66, needed - 1, needed, needed + 1, 4_096]);
     planning(both, &set, working, r.below(14)).ok();
 }
 
@@ -432,7 +515,7 @@ pub fn expectation(both: &mut Both, r: &mut Random) {
     let largest_m = r.pick(&[4, 12, 64]);
     let content = small_content(r, largest_m, 12, 4);
     let (set, m) = (file_of(&content), content.m as usize);
-    let own = both.plan_words(&set, WORKING, 64);
+    let own = both.plan_words(&set, WORKING_MOST, 64);
     let mut words = match own {
         Ok((_, words)) if r.one_in(2) => words,
         _ => reduced_words(r, m),
@@ -443,12 +526,16 @@ pub fn expectation(both: &mut Both, r: &mut Random) {
     both.expect(&set, &words).ok();
 }
 
-/// Cutting of a set that may be bad, with a cut list of any length. Most k are 1 to m, and most sets have an unknown cell in one slice
+/// Cutting of a set that may be bad or have ties, with a cut list of any length. Most k are 1 to m, and most sets have an unknown cell in one slice
 /// and another, so that they are cut.
 pub fn cutting(both: &mut Both, r: &mut Random) -> Reply<Cutting> {
     let (m, n, s) = (1 + r.below(12), 1 + r.below(6), r.below(12));
     let of = r.pick(&[1, 1, 2, 4]) + n / 2;
-    let mut set = file_of(&content(r, m, n, s, 1, of));
+    let mut free = content(r, m, n, s, 1, of);
+    if r.one_in(3) {
+        free = tied(r, &free);
+    }
+    let mut set = file_of(&free);
     if r.one_in(16) {
         set = damaged_set(r, &set);
     }

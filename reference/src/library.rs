@@ -33,3 +33,16 @@ answers!(CSet CStretch CWritten CClocked CSigned CListed CEliminated CWorded CEx
 /// A call that is lent a set, a working list and a word list.
 pub type MakesWords<A> =
     unsafe extern "C" fn(*const u8, usize, *mut u64, usize, *mut u64, usize) -> A;
+
+/// What lists lent to the library alone hold before.
+pub const FILL: u64 = 0x5EED_5EED_5EED_5EED;
+
+/// Such a call of the library on lists of these many places: its answer, and the lists as it leaves them.
+pub fn made<A>(call: MakesWords<A>, set: &[u8], rooms: [usize; 2]) -> (A, [Vec<u64>; 2]) {
+    let mut lists = rooms.map(|room| vec![FILL; room]);
+    let [working, words] = &mut lists;
+    let (k, k_len) = (working.as_mut_ptr(), working.len());
+    let (w, w_len) = (words.as_mut_ptr(), words.len());
+    let answer = unsafe { call(set.as_ptr(), set.len(), k, k_len, w, w_len) };
+    (answer, lists)
+}

@@ -1,7 +1,9 @@
 //! Deterministic random numbers, and random sets, records, columns and plans made of them.
 
-use crate::second::layout::{record_length, row_bytes};
+use crate::second::layout::{record_length, row_bytes, TIE, TIES_MOST};
 use crate::second::set::{write_set, Content};
+use crate::second::ties::Cell;
+use std::collections::BTreeSet;
 
 /// xorshift64*, from a seed that a failing test prints.
 #[derive(Clone)]
@@ -95,6 +97,78 @@ pub fn unknowns_of(content: &Content) -> usize {
     ones(&content.marks)
 }
 
+/// Its unknown cells, by slice and then by chain.
+pub fn unknown_cells(content: &Content) -> Vec<Cell> {
+    let n = content.spread.len();
+    let rows = content.marks.chunks(row_bytes(n)).enumerate();
+    let in_row = |(t, row): (usize, &[u8])| -> Vec<Cell> {
+        let marked = (0..n).filter(|c| row[c / 8] >> (c % 8) & 1 == 1);
+        marked.map(|c| (t, c)).collect()
+    };
+    rows.flat_map(in_row).collect()
+}
+
+/// How many symbols its ties name.
+pub fn named_of(content: &Content) -> usize {
+    let numbers = content.ties.chunks(TIE).map(|entry| [entry[4], entry[5]]);
+    numbers.collect::<BTreeSet<_>>().len()
+}
+
+/// How many symbols it has: the named ones, and an unknown cell without a tie each.
+pub fn symbols_of(content: &Content) -> usize {
+    unknowns_of(content) - content.ties.len() / TIE + named_of(content)
+}
+
+/// A tie as it stands in a set file.
+pub fn tie((slice, chain): Cell, symbol: u16, side: u8) -> [u8; TIE] {
+    let (slice, chain) = (slice as u16, chain as u16);
+    let numbers = [slice, chain, symbol].map(u16::to_le_bytes);
+    let mut bytes = [side; TIE];
+    bytes[..TIE - 1].copy_from_slice(&numbers.concat());
+    bytes
+}
+
+/// Ties of some of a content's unknown cells: of one cell, of all or as many as there can be, or of any number; with one symbol, a few,
+/// or as many as cells; none as opposite, all, or half.
+pub fn ties(r: &mut Random, content: &Content) -> Vec<u8> {
+    let most = unknowns_of(content).min(TIES_MOST);
+    let any = r.below(most + 1);
+    let count = r.pick(&[most, most, most.min(1), any, any, most / 2]);
+    let many = r.pick(&[1, 2, 3, 8, count.max(1)]);
+    let symbols: Vec<u16> = (0..many).map(|_| any_symbol(r)).collect();
+    let sides = r.pick(&[[0, 0], [1, 1], [0, 1], [0, 1]]);
+    some_ties(r, content, count, &symbols, &sides)
+}
+
+/// Ties of so many of a content's unknown cells, each with one of these symbols and one of these last bytes.
+pub fn some_ties(
+    r: &mut Random,
+    content: &Content,
+    count: usize,
+    symbols: &[u16],
+    sides: &[u8],
+) -> Vec<u8> {
+    let cells = unknown_cells(content);
+    let mut chosen = some_of(r, cells.len(), count);
+    chosen.sort_unstable();
+    let entry = |i: usize| tie(cells[i], r.pick(symbols), r.pick(sides));
+    chosen.into_iter().flat_map(entry).collect()
+}
+
+/// A symbol number, often a small one or one at the ends.
+fn any_symbol(r: &mut Random) -> u16 {
+    let any = r.word() as u16;
+    r.pick(&[any, any, any % 8, any % 300, 0, u16::MAX])
+}
+
+/// The same content with such ties.
+pub fn tied(r: &mut Random, content: &Content) -> Content {
+    Content {
+        ties: ties(r, content),
+        ..content.clone()
+    }
+}
+
 fn ones(rows: &[u8]) -> usize {
     rows.iter().map(|b| b.count_ones() as usize).sum()
 }
@@ -157,6 +231,7 @@ pub fn content(r: &mut Random, m: usize, n: usize, s: usize, one: usize, of: usi
         values: values_beside(r, n, s, &marks),
         marks,
         s: s as u64,
+        ties: vec![],
     }
 }
 
@@ -224,6 +299,7 @@ pub fn content_of_rank(
             values: values_beside(r, n, s, &marks),
             marks,
             s: s as u64,
+            ties: vec![],
         };
         if rank_of(&swept_columns(&content)) == rank {
             return content;
@@ -263,6 +339,7 @@ pub fn content_with_marks(
         values: values_beside(r, n, s, &marks),
         marks,
         s: s as u64,
+        ties: vec![],
     }
 }
 
@@ -320,7 +397,7 @@ pub fn columns_of_rank(r: &mut Random, m: usize, rank: usize, count: usize) -> V
     order.into_iter().map(|i| columns[i]).collect()
 }
 
-/// A good content of random small size.
+/// A good content of random small size; two times in three it has ties, where it has unknown cells.
 pub fn small_content(
     r: &mut Random,
     largest_m: usize,
@@ -332,7 +409,12 @@ pub fn small_content(
     let s = r.below(largest_s + 1);
     let of = r.pick(&[1, 2, 3, 8, 30]);
     let one = usize::from(!r.one_in(4));
-    content(r, m, n, s, one, of)
+    let free = content(r, m, n, s, one, of);
+    let mut aside = r.aside();
+    match aside.below(3) {
+        0 => free,
+        _ => tied(&mut aside, &free),
+    }
 }
 
 /// A record of the shape of a set of n chains and s slices.
@@ -355,7 +437,7 @@ pub fn reduced_words(r: &mut Random, m: usize) -> Vec<u64> {
     }
 }
 
-/// A set that ends before its rows: n chains, each with the spread word 1, and the slice count s.
+/// A set without rows and ties: n chains, each with the spread word 1, the slice count s, and the count of ties, 0.
 pub fn without_rows(m: u16, taps: u64, inversion: u64, n: u16, s: u16) -> Vec<u8> {
     let mut set = m.to_le_bytes().to_vec();
     set.extend(taps.to_le_bytes());
@@ -365,5 +447,6 @@ pub fn without_rows(m: u16, taps: u64, inversion: u64, n: u16, s: u16) -> Vec<u8
         set.extend(1u64.to_le_bytes());
     }
     set.extend(s.to_le_bytes());
+    set.extend([0, 0]);
     set
 }

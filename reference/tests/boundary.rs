@@ -1,7 +1,9 @@
 //! The C header: compiled as C and as C++ and called on the sample, and held to the Rust declarations and to what the static
-//! library exports. And the Rust wrapper's functions for planning's two calls and for cutting.
+//! library exports. And the Rust wrapper's functions for planning's two calls, for cutting and for ties.
 
-use reference::library::canceller::{cut, expect, plan_words, Refusal};
+use reference::library::canceller::{
+    cut, expect, plan, plan_words, read_set, ties, write_set, Refusal, Tie, SET_MAX, WORKING_PLACES,
+};
 use reference::repository::{repository, sample, text};
 use std::collections::BTreeMap;
 use std::path::Path;
@@ -30,9 +32,10 @@ fn run(compiler: &str, language: [&str; 2], name: &str) -> String {
     text
 }
 
-const LINES: &str = "set written: 42 bytes\nset read\nrows found\nclocked\nsigned: 3 and 0\ncolumn: 3\neliminated\n\
+const LINES: &str = "set written: 44 bytes\nset read\nrows found\nclocked\nsigned: 3 and 0\ncolumn: 3\neliminated\n\
                      words: 3 4, expected 0, revised 1\nplanned: words 3 4, expected 0\n\
-                     plan written and read: 23 bytes\njudged\ncut: 1 run, 6 bits; 2 runs, 12 bits\ninverted: signed 5, expected 3\n";
+                     plan written and read: 23 bytes\njudged\ncut: 1 run, 6 bits; 2 runs, 12 bits\ninverted: signed 5, expected 3\n\
+                     tied: column 2, words 1 4, expected 1\n";
 
 #[test]
 fn a_c_program_calls_every_function_on_the_sample() {
@@ -76,9 +79,55 @@ fn the_rust_wrapper_cuts_the_sample() {
     assert_eq!(cut(&none, 1), Err(Refusal(27)));
     assert_eq!(cut(&sample("slices-0.set"), 3), Ok((vec![], 0)));
     // slice 1 with an unknown cell too: two runs leave 2 words each, one run leaves 1
-    let marked = [&set[..40], &[0, 1]].concat();
+    let marked = [&set[..40], &[0, 1, 0, 0]].concat();
     assert_eq!(cut(&marked, 2), Ok((vec![0, 1], 12)));
     assert_eq!(cut(&marked, 1), Ok((vec![0], 3)));
+}
+
+#[test]
+fn the_rust_wrapper_reads_ties_and_writes_them_again() {
+    let set = sample("ties.set");
+    let entry = |slice, chain, symbol, opposite| Tie {
+        slice,
+        chain,
+        symbol,
+        opposite,
+    };
+    let all = [
+        entry(0, 1, 7, false),
+        entry(1, 1, 7, true),
+        entry(1, 2, 9, false),
+        entry(2, 1, 7, false),
+    ];
+    let stretch = ties(&set).expect("a good set");
+    assert_eq!(Tie::all(stretch), all);
+    let bytes: Vec<u8> = all.iter().flat_map(Tie::bytes).collect();
+    assert_eq!(bytes, stretch);
+    let (values, marks) = ([1, 0, 5, 0], [2, 6, 2, 4]);
+    let read = read_set(&set).expect("a good set");
+    assert_eq!(write_set(&read, &values, &marks, stretch), Ok(set.clone()));
+    assert_eq!(
+        write_set(&read, &values, &marks, &stretch[1..]),
+        Err(Refusal(8))
+    );
+    let p = plan(&set).expect("words");
+    assert_eq!((p.words, p.expected), (vec![4, 10], 0b11));
+    assert_eq!(ties(&sample("sample.set")), Ok(&[][..]));
+    assert_eq!(ties(&sample("tie-byte-2.set")), Err(Refusal(31)));
+}
+
+#[test]
+fn the_rust_wrappers_lists_are_as_long_as_the_header_says() {
+    let header = text("include/canceller.h");
+    for (name, value) in [
+        ("CANCELLER_SET_MAX", SET_MAX),
+        ("CANCELLER_WORKING", WORKING_PLACES),
+    ] {
+        let line = format!("#define {name} {value} ");
+        assert!(header.contains(&line), "{line}");
+    }
+    assert_eq!(sample("ties-256.set").len(), SET_MAX);
+    assert!(plan(&sample("ties-256.set")).is_ok(), "room for all");
 }
 
 /// A declared thing: the fields of a struct, or a function's parameters with its answer last. Each is a name and a type, written
@@ -188,7 +237,7 @@ fn the_header_and_the_rust_declarations_say_the_same() {
     assert_eq!(functions, rust_functions);
     let parameters: usize = functions.values().map(Vec::len).sum();
     assert!(
-        structs.len() >= 12 && functions.len() >= 15 && parameters >= 76,
+        structs.len() >= 12 && functions.len() >= 16 && parameters >= 80,
         "{structs:?} {functions:?}"
     );
 }

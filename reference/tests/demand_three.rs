@@ -1,69 +1,21 @@
 //! The third demand by force: for thousands of small sets every filling is enumerated, and each signature of the register's width
-//! is judged by the plan file of the set. Exactly the explained signatures pass, and records alike in the known cells are judged
-//! alike, whether or not they agree with the set. Most of the sets' registers invert some of their inputs. A set whose values were
-//! revised is judged by the words that it had before.
+//! is judged by the plan file of the set. Exactly the explained signatures pass, and records alike in the known cells that obey the
+//! ties are judged alike, whether or not they agree with the set. Most of the sets' registers invert some of their inputs, and many of
+//! the sets have ties. A set whose values were revised is judged by the words that it had before.
 
 use reference::both::Both;
+use reference::force::{explained, filled, passes_exactly, record_of, refill};
 use reference::random::*;
 use reference::second::elimination::x_free;
 use reference::second::plan::Plan;
-use reference::second::planning::WORKING;
-use reference::second::set::{driving, read_set, Set};
+use reference::second::planning::WORKING_MOST;
+use reference::second::set::{read_set, Set};
 use reference::second::{word_of, Bits};
 use std::collections::BTreeSet;
-
-/// The response in which the unknown cells hold the bits of `filling`, in the order of the columns.
-fn filled(set: &Set, filling: u64) -> Vec<Bits> {
-    let mut cells = set.values.clone();
-    for (i, (t, c)) in set.unknowns().into_iter().enumerate() {
-        cells[t][c] = filling >> i & 1 == 1;
-    }
-    cells
-}
-
-fn signature(set: &Set, cells: &[Bits]) -> u64 {
-    let slices: Vec<Vec<usize>> = cells.iter().map(|row| driving(row)).collect();
-    word_of(&set.circuit.signature(&slices))
-}
-
-/// The record file of a response.
-fn record_of(cells: &[Bits]) -> Vec<u8> {
-    let mut bytes = Vec::new();
-    for row in cells {
-        for part in row.chunks(8) {
-            bytes.push(word_of(part) as u8);
-        }
-    }
-    bytes
-}
 
 /// Whether the inversion word changes signatures of the set.
 fn inverts(set: &Set) -> bool {
     set.s() > 0 && word_of(&set.circuit.inversion) != 0
-}
-
-fn explained(set: &Set) -> BTreeSet<u64> {
-    (0..1u64 << set.unknowns().len())
-        .map(|filling| signature(set, &filled(set, filling)))
-        .collect()
-}
-
-/// The first word whose parity with the signature isn't its expected bit.
-fn first_to_disagree(plan: &Plan, y: u64) -> Option<u64> {
-    let disagrees =
-        |i: &usize| ((plan.words[*i] & y).count_ones() % 2 == 1) != (plan.expected >> i & 1 == 1);
-    (0..plan.words.len()).find(disagrees).map(|i| i as u64)
-}
-
-/// Judges every signature of the plan's width by its file: these pass, and no others.
-fn passes_exactly(both: &mut Both, p: &Plan, explained: &BTreeSet<u64>) {
-    let plan = both.write_plan(p, 600).expect("a good plan");
-    for y in 0..1u64 << p.m {
-        let judged = both.judge(&plan, y).expect("a signature of the width");
-        let at = judged.fails_at;
-        assert_eq!(at.is_none(), explained.contains(&y), "{}, {y}", both.at);
-        assert_eq!(at, first_to_disagree(p, y), "{}, {y}", both.at);
-    }
 }
 
 #[test]
@@ -82,7 +34,7 @@ fn exactly_the_explained_signatures_pass() {
         let explained = explained(&set);
         let all = 1u64 << set.circuit.m;
         let every = explained.len() as u64 == all;
-        let planned = both.plan(&file, WORKING, 64);
+        let planned = both.plan(&file, WORKING_MOST, 64);
         assert_eq!(planned.clone().err(), every.then_some(17), "seed {seed}");
         inverting[usize::from(every)] += usize::from(inverts(&set));
         let Ok(p) = planned else {
@@ -114,7 +66,7 @@ fn exactly_the_signatures_that_a_revised_set_explains_pass_by_the_old_words_and_
         if u > 12 {
             continue;
         }
-        let Ok((m, words)) = both.plan_words(&old, WORKING, 64) else {
+        let Ok((m, words)) = both.plan_words(&old, WORKING_MOST, 64) else {
             continue;
         };
         let expected = both.expect(&new, &words).expect("a reduced list");
@@ -138,21 +90,19 @@ fn records_alike_in_the_known_cells_are_judged_alike() {
         let c = small_content(&mut r, 16, 6, 4);
         let file = file_of(&c);
         let set = read_set(&file).unwrap();
-        let unknowns = set.unknowns();
-        let Ok(p) = both.plan(&file, WORKING, 64) else {
+        let Ok(p) = both.plan(&file, WORKING_MOST, 64) else {
             continue;
         };
         let plan = both.write_plan(&p, 600).unwrap();
-        // a record that need not agree with the set, and others alike in the known cells
+        // a record that need not agree with the set, and others alike in the known cells, all of which obey the ties
         let mut cells: Vec<Bits> = (0..set.s())
             .map(|_| (0..set.n()).map(|_| r.one_in(2)).collect())
             .collect();
+        refill(&mut r, &set, &mut cells);
         let first = both.sign(&file, &record_of(&cells)).unwrap();
         let judged = both.judge(&plan, first).unwrap();
         for _ in 0..8 {
-            for &(t, c) in &unknowns {
-                cells[t][c] = r.one_in(2);
-            }
+            refill(&mut r, &set, &mut cells);
             let other = both.sign(&file, &record_of(&cells)).unwrap();
             assert_eq!(both.judge(&plan, other).unwrap(), judged, "seed {seed}");
             pairs += usize::from(other != first);
@@ -176,7 +126,7 @@ fn a_record_with_one_known_cell_changed_fails_or_is_explained() {
         let file = file_of(&c);
         let set = read_set(&file).unwrap();
         let u = set.unknowns().len();
-        let Ok(p) = both.plan(&file, WORKING, 64) else {
+        let Ok(p) = both.plan(&file, WORKING_MOST, 64) else {
             continue;
         };
         if u > 10 || set.s() == 0 {
@@ -211,7 +161,7 @@ fn the_listed_words_make_every_x_free_combination_and_no_other() {
         let c = small_content(&mut r, 8, 5, 3);
         let file = file_of(&c);
         let columns = read_set(&file).unwrap().columns();
-        let words = match both.plan(&file, WORKING, 64) {
+        let words = match both.plan(&file, WORKING_MOST, 64) {
             Ok(p) => p.words,
             Err(_) => Vec::new(),
         };

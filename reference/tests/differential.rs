@@ -67,14 +67,14 @@ fn every_width_every_chain_count_and_every_slice_count() {
 /// The calls on a set of the largest shape, its plan accepted or not.
 fn largest_set(both: &mut Both, r: &mut Random, c: &Content) -> bool {
     let files = draw::files_of(r, c);
-    assert_eq!(files.set.len(), 34_838);
+    assert_eq!(files.set.len(), 34_840);
     both.read_set(&files.set).unwrap();
     both.sign(&files.set, &files.record).unwrap();
     both.rows(&files.set, 511).unwrap();
     assert_eq!(both.rows(&files.set, 512), Err(11));
-    both.list_columns(&files.set, files.unknowns).unwrap();
-    both.write_set(c, 34_838).unwrap();
-    assert_eq!(both.write_set(c, 34_837), Err(24));
+    both.list_columns(&files.set, files.symbols).unwrap();
+    both.write_set(c, 34_840).unwrap();
+    assert_eq!(both.write_set(c, 34_839), Err(24));
     draw::planning(both, &files.set, WORKING, 64).is_ok()
 }
 
@@ -184,7 +184,7 @@ fn each_byte_of_small_sets_changed() {
                 let mut bad = f.set.clone();
                 bad[at] ^= change;
                 both.at = format!("small set {i}, byte {at} changed by {change:#x}");
-                draw::set_calls(&mut both, &bad, &f.record, f.unknowns + 1);
+                draw::set_calls(&mut both, &bad, &f.record, f.symbols + 1);
             }
         }
     }
@@ -199,7 +199,7 @@ fn small_sets_of_every_length() {
             let mut bad = f.set.clone();
             bad.resize(length, if length % 2 == 0 { 0 } else { 0x5a });
             both.at = format!("small set {i}, of {length} bytes");
-            draw::set_calls(&mut both, &bad, &f.record, f.unknowns);
+            draw::set_calls(&mut both, &bad, &f.record, f.symbols);
         }
     }
     assert_eq!(both.seen("read_set", 0), 12, "each set is good as it is");
@@ -246,13 +246,40 @@ fn two_faults_at_once() {
                 first(&mut bad);
                 second(&mut bad);
                 both.at = format!("small set {i}, {a}, then {b}");
-                draw::set_calls(&mut both, &bad, &f.record, f.unknowns);
+                draw::set_calls(&mut both, &bad, &f.record, f.symbols);
             }
         }
     }
     for number in [1, 2, 3, 25, 4, 5, 6, 7, 8, 9, 10] {
         let seen = both.seen("read_set", number);
         assert!(seen > 30, "{seen} sets gave {number}");
+    }
+}
+
+#[test]
+fn a_fault_of_the_ties_beside_another() {
+    let mut both = Both::new();
+    for (i, f) in small_files().iter().enumerate() {
+        for (a, first) in draw::TIE_FAULTS {
+            let mut tied = f.set.clone();
+            draw::change_ties(&mut tied, first);
+            for (b, second) in draw::set_faults() {
+                let mut bad = tied.clone();
+                second(&mut bad);
+                both.at = format!("small set {i}, {a}, then {b}");
+                draw::set_calls(&mut both, &bad, &f.record, f.symbols);
+            }
+            for (b, second) in draw::TIE_FAULTS {
+                let mut bad = tied.clone();
+                draw::change_ties(&mut bad, second);
+                both.at = format!("small set {i}, {a}, then {b}");
+                draw::set_calls(&mut both, &bad, &f.record, f.symbols);
+            }
+        }
+    }
+    for number in [8, 9, 10, 29, 30, 31] {
+        let seen = both.seen("ties", number);
+        assert!(seen > 60, "{seen} sets gave {number}");
     }
 }
 
@@ -264,11 +291,11 @@ fn lists_of_every_length_around_what_is_needed() {
         let c = small_content(&mut r, 40, 12, 5);
         let file = file_of(&c);
         both.at = format!("seed {seed}");
-        let unknowns = unknowns_of(&c);
-        for room in unknowns.saturating_sub(3)..unknowns + 4 {
+        let (symbols, working) = (symbols_of(&c), WORKING + named_of(&c));
+        for room in symbols.saturating_sub(3)..symbols + 4 {
             both.list_columns(&file, room).ok();
         }
-        for room in WORKING - 3..WORKING + 4 {
+        for room in working - 3..working + 4 {
             for words in 0..c.m as usize + 2 {
                 draw::planning(&mut both, &file, room, words).ok();
             }
@@ -296,6 +323,16 @@ fn drawn(seeds: std::ops::Range<u64>, body: fn(&mut Both, &mut Random)) -> Both 
 fn the_set_writer_on_good_and_bad_content() {
     let both = drawn(80..3_000, draw::bad_content);
     mixed(&both, "write_set", 20);
+}
+
+#[test]
+fn the_set_writer_on_good_and_bad_ties() {
+    let both = drawn(40_000..42_000, draw::bad_ties);
+    mixed(&both, "write_set", 20);
+    for number in [8, 29, 30, 31] {
+        let seen = both.seen("write_set", number);
+        assert!(seen > 100, "{seen} contents gave {number}");
+    }
 }
 
 #[test]
@@ -485,7 +522,7 @@ fn files_read_back_to_what_was_written() {
         both.at = format!("seed {seed}");
         let c = small_content(&mut r, 64, 30, 6);
         let n = c.spread.len();
-        let length = set_length(n, c.s as usize);
+        let length = set_length(n, c.s as usize, c.ties.len() / TIE);
         let file = both.write_set(&c, length).expect("a good content");
         both.read_set(&file).expect("a written set");
         let read = read_set(&file).expect("a written set");
@@ -512,6 +549,8 @@ fn files_read_back_to_what_was_written() {
             );
             assert_eq!(file[marks..marks + b], c.marks[row], "{}", both.at);
         }
+        let (start, long) = both.ties(&file).expect("a written set");
+        assert_eq!(file[start..start + long], c.ties, "{}", both.at);
     }
 }
 
@@ -538,9 +577,9 @@ fn a_million_calls() {
         assert!(number == 0 || numbers.contains(&number), "{call}: {number}");
     }
     // what the library gave, number by number: 16 in none of two million calls, each other number in hundreds
-    let total: u64 = (0..=28).map(|number| both.given(number)).sum();
+    let total: u64 = (0..=31).map(|number| both.given(number)).sum();
     assert_eq!(total, 2 * compared);
-    for number in 0..=28 {
+    for number in 0..=31 {
         let given = both.given(number);
         match number {
             TAKEN_OUT => assert_eq!(given, 0, "{given} of {total} calls gave {number}"),

@@ -4,7 +4,7 @@
 use reference::both::Both;
 use reference::random::*;
 use reference::second::layout::{record_length, row_bytes};
-use reference::second::planning::WORKING;
+use reference::second::planning::WORKING_MOST;
 use reference::second::set::Content;
 
 /// A content with its chains, its slices, and the file of it.
@@ -21,7 +21,7 @@ fn inverted(content: &Content, inversion: u64) -> Content {
     }
 }
 
-/// The same register and chains with every cell unknown.
+/// The same register and chains with every cell unknown and free.
 fn all_unknown(content: &Content) -> Content {
     let n = content.spread.len();
     let mut row = vec![0u8; row_bytes(n)];
@@ -31,6 +31,7 @@ fn all_unknown(content: &Content) -> Content {
     Content {
         values: vec![0; content.values.len()],
         marks: row.repeat(content.s as usize),
+        ties: vec![],
         ..content.clone()
     }
 }
@@ -76,13 +77,16 @@ fn columns_and_words_are_the_same_under_every_inversion() {
     for seed in 131_000..131_500 {
         let mut r = Random::new(seed);
         let (c, ..) = drawn(&mut r, 24);
-        let unknowns = unknowns_of(&c);
+        let symbols = symbols_of(&c);
         for room in [64, r.below(24)] {
             let mut made = |inversion: u64| {
                 both.at = format!("seed {seed}, inversion {inversion}, {room} places");
                 let set = file_of(&inverted(&c, inversion));
-                let columns = both.list_columns(&set, unknowns);
-                (columns, both.plan(&set, WORKING, room).map(|p| p.words))
+                let columns = both.list_columns(&set, symbols);
+                (
+                    columns,
+                    both.plan(&set, WORKING_MOST, room).map(|p| p.words),
+                )
             };
             let plain = made(0);
             for inversion in some_inversions(c.m) {
@@ -112,10 +116,10 @@ fn signatures_and_expected_bits_move_by_the_signature_of_the_response_of_zeros()
         let with = both.sign(&file, &record).expect("a record");
         let without = both.sign(&plain, &record).expect("a record");
         assert_eq!(with ^ without, shift, "{}", both.at);
-        let Ok(plan) = both.plan(&file, WORKING, 64) else {
+        let Ok(plan) = both.plan(&file, WORKING_MOST, 64) else {
             continue;
         };
-        let other = both.plan(&plain, WORKING, 64).expect("the same words");
+        let other = both.plan(&plain, WORKING_MOST, 64).expect("the same words");
         for (i, word) in plan.words.iter().enumerate() {
             let moves = (plan.expected ^ other.expected) >> i & 1 == 1;
             let odd = (word & shift).count_ones() % 2 == 1;
@@ -160,7 +164,7 @@ fn a_response_without_slices_has_signature_0_under_every_inversion() {
             both.at = format!("m {m}, inversion {inversion:#x}");
             let set = file_of(&inverted(&plain, inversion));
             assert_eq!(both.sign(&set, &[]), Ok(0), "{}", both.at);
-            let plan = both.plan(&set, WORKING, 64).expect("m words");
+            let plan = both.plan(&set, WORKING_MOST, 64).expect("m words");
             let bits: Vec<u64> = (0..m).map(|i| 1 << i).collect();
             assert_eq!((plan.words, plan.expected), (bits, 0), "{}", both.at);
         }

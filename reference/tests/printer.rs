@@ -4,6 +4,7 @@
 use reference::random::*;
 use reference::repository::{repository, sample};
 use reference::second::planning::printed;
+use reference::second::set::Content;
 use std::fs::File;
 use std::io::Write;
 use std::os::unix::process::ExitStatusExt;
@@ -93,7 +94,7 @@ fn the_stored_samples() {
         assert_eq!(prints(&set, 1 << 20), stored, "{name}: the printer");
         count += 1;
     }
-    assert!(count >= 28, "{count} stored samples are too few");
+    assert!(count >= 36, "{count} stored samples are too few");
 }
 
 #[test]
@@ -155,8 +156,13 @@ fn damaged_sets() {
 #[test]
 fn inputs_around_the_longest_set() {
     let mut r = Random::new(5);
-    let longest = file_of(&content(&mut r, 64, 256, 512, 1, 40));
-    for length in [34_836, 34_837, 34_838, 34_839, 34_840, 100_000] {
+    let free = content(&mut r, 64, 256, 512, 1, 400);
+    let ties = some_ties(&mut r, &free, 256, &[3, 9, 65_535], &[0, 1]);
+    let longest = file_of(&Content { ties, ..free });
+    assert_eq!(longest.len(), 36_632);
+    for length in [
+        34_840, 36_630, 36_631, 36_632, 36_633, 36_634, 36_639, 100_000,
+    ] {
         let mut input = longest.clone();
         input.resize(length, 0);
         assert_eq!(prints(&input, 1 << 20), printed(&input), "{length} bytes");

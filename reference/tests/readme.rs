@@ -115,7 +115,7 @@ fn bytes_in_table(readme: &str, heading: &str) -> Vec<u8> {
 fn the_bytes_in_the_tables_are_the_sample_and_its_plan() {
     let readme = text("README.md");
     let set = sample("sample.set");
-    let of_set = bytes_in_table(&readme, "In the sample (42 bytes, in hexadecimal)");
+    let of_set = bytes_in_table(&readme, "In the sample (44 bytes, in hexadecimal)");
     assert_eq!(of_set, set);
     let mut both = Both::at("the sample");
     let plan = both.plan(&set, WORKING, 64).unwrap();

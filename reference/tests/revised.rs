@@ -3,11 +3,11 @@
 
 use reference::both::Both;
 use reference::draw;
-use reference::library::{canceller_expect, canceller_plan, canceller_plan_words, MakesWords};
+use reference::library::{canceller_expect, canceller_plan, canceller_plan_words, made};
 use reference::random::*;
-use reference::second::layout::expected_at;
+use reference::second::layout::{expected_at, row_bytes, TIE};
 use reference::second::plan::Plan;
-use reference::second::planning::WORKING;
+use reference::second::planning::{WORKING, WORKING_MOST};
 use reference::second::set::Content;
 use std::collections::{BTreeMap, BTreeSet};
 
@@ -17,9 +17,15 @@ fn parities(words: &[u64], signature: u64) -> u64 {
     words.iter().enumerate().map(odd).sum()
 }
 
-/// The signature of a set's value rows taken as a record: the unknown cells are 0 there.
+/// The signature of a set's value rows taken as a record: the symbols are 0 there, with a 1 in the cells that are tied as opposite.
 fn zero_signature(both: &mut Both, content: &Content) -> u64 {
-    let signed = both.sign(&file_of(content), &content.values);
+    let mut record = content.values.clone();
+    for entry in content.ties.chunks(TIE).filter(|entry| entry[6] == 1) {
+        let number = |at: usize| usize::from(u16::from_le_bytes([entry[at], entry[at + 1]]));
+        let (slice, chain) = (number(0), number(2));
+        record[row_bytes(content.spread.len()) * slice + chain / 8] |= 1 << (chain % 8);
+    }
+    let signed = both.sign(&file_of(content), &record);
     signed.expect("value rows are a record of the set's shape")
 }
 
@@ -36,15 +42,20 @@ fn revised_plan(
     after: &Content,
 ) -> Option<(Vec<u8>, Plan, u64)> {
     let (old, new) = (file_of(before), file_of(after));
-    let words = both.plan_words(&old, WORKING, 64);
-    assert_eq!(both.plan_words(&new, WORKING, 64), words, "{}", both.at);
+    let words = both.plan_words(&old, WORKING_MOST, 64);
+    assert_eq!(
+        both.plan_words(&new, WORKING_MOST, 64),
+        words,
+        "{}",
+        both.at
+    );
     let (m, words) = words.ok()?;
     let earlier = both.expect(&old, &words).expect("a reduced list");
     let expected = both.expect(&new, &words).expect("a reduced list");
     let plan = Plan { m, words, expected };
     let file = both.write_plan(&plan, 526).expect("a good plan");
     let anew = both
-        .plan(&new, WORKING, 64)
+        .plan(&new, WORKING_MOST, 64)
         .expect("a plan, as it has words");
     assert_eq!(both.write_plan(&anew, 526), Ok(file.clone()), "{}", both.at);
     Some((file, plan, earlier))
@@ -66,7 +77,7 @@ fn a_plan_of_the_old_words_and_the_revised_bits_is_the_plan_made_anew() {
         };
         // all but the expected bits is the old plan's
         let (old, words) = (file_of(&before), expected_at(plan.words.len()));
-        let old = both.plan(&old, WORKING, 64).expect("a plan");
+        let old = both.plan(&old, WORKING_MOST, 64).expect("a plan");
         assert_eq!(old.expected, earlier, "{}", both.at);
         let old = both.write_plan(&old, 526).expect("a good plan");
         assert_eq!(file[..words], old[..words], "{}", both.at);
@@ -135,7 +146,7 @@ fn for_words_of_single_bits_the_expected_bits_are_the_signature_for_all_unknowns
             let (set, signature) = (file_of(content), zero_signature(&mut both, content));
             assert_eq!(both.expect(&set, &bits), Ok(signature), "{}", both.at);
             // .. and a set without unknown cells has these words
-            let own = both.plan_words(&set, WORKING, 64);
+            let own = both.plan_words(&set, WORKING_MOST, 64);
             if unknowns_of(content) == 0 {
                 assert_eq!(own, Ok((m as u64, bits.clone())), "{}", both.at);
             }
@@ -176,7 +187,7 @@ fn every_reduced_list_of_a_small_width_gets_its_parities_for_every_set() {
             for (i, content) in contents(&mut r, m as usize).iter().enumerate() {
                 both.at = format!("seed {seed}, m {m}, content {i}");
                 let (set, signature) = (file_of(content), zero_signature(&mut both, content));
-                let own = both.plan_words(&set, WORKING, 64);
+                let own = both.plan_words(&set, WORKING_MOST, 64);
                 without_words += usize::from(own == Err(17));
                 for words in &lists {
                     let bits = parities(words, signature);
@@ -246,7 +257,7 @@ fn a_sets_own_words_but_one_have_the_bits_that_they_had() {
         let mut r = Random::new(seed);
         let content = small_content(&mut r, 64, 20, 8);
         let set = file_of(&content);
-        let Ok(plan) = both.plan(&set, WORKING, 64) else {
+        let Ok(plan) = both.plan(&set, WORKING_MOST, 64) else {
             continue;
         };
         for i in 0..plan.words.len() {
@@ -263,18 +274,6 @@ fn a_sets_own_words_but_one_have_the_bits_that_they_had() {
         }
     }
     assert!(odd > 1_000, "{odd} lists have bits 1 on both sides");
-}
-
-const FILL: u64 = 0x5EED_5EED_5EED_5EED;
-
-/// The library's call on lists of these many places: its answer, and the lists as it leaves them.
-fn made<A>(call: MakesWords<A>, set: &[u8], rooms: [usize; 2]) -> (A, [Vec<u64>; 2]) {
-    let mut lists = rooms.map(|room| vec![FILL; room]);
-    let [working, words] = &mut lists;
-    let (k, k_len) = (working.as_mut_ptr(), working.len());
-    let (w, w_len) = (words.as_mut_ptr(), words.len());
-    let answer = unsafe { call(set.as_ptr(), set.len(), k, k_len, w, w_len) };
-    (answer, lists)
 }
 
 /// Planning and its two calls by the library alone, which come to the same; the number that they give.
@@ -301,17 +300,19 @@ fn the_librarys_planning_is_its_two_calls_in_a_row() {
         let largest_m = r.pick(&[4, 12, 64]);
         let content = small_content(&mut r, largest_m, 12, 6);
         let mut set = file_of(&content);
-        if r.one_in(4) {
-            let (_, fault) = r.pick(&draw::set_faults());
-            fault(&mut set);
+        match r.below(12) {
+            0..=2 => (r.pick(&draw::set_faults()).1)(&mut set),
+            3 | 4 => draw::change_ties(&mut set, r.pick(&draw::TIE_FAULTS).1),
+            _ => {}
         }
-        let working = r.pick(&[WORKING, WORKING + 2, WORKING - 1]);
+        let working = WORKING + named_of(&content);
+        let working = r.pick(&[working, working + 2, working - 1]);
         let words = r.below(12);
         let rooms = [working, r.pick(&[64, largest_m, words])];
         let number = in_a_row(&set, rooms, &format!("seed {seed}"));
         *seen.entry(number).or_insert(0) += 1;
     }
-    for number in [0, 1, 2, 3, 25, 4, 5, 6, 7, 8, 9, 10, 14, 17, 18] {
+    for number in [0, 1, 2, 3, 25, 4, 5, 6, 7, 8, 9, 10, 29, 30, 31, 14, 17, 18] {
         let count = seen.get(&number).copied().unwrap_or(0);
         let floor = if [0, 14, 17, 18].contains(&number) {
             400

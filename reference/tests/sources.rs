@@ -41,6 +41,7 @@ fn one_slice(m: usize, spread: &[u64], unknown: &[usize]) -> Vec<u8> {
         values: vec![0; b],
         marks,
         s: 1,
+        ties: vec![],
     })
 }
 
@@ -173,6 +174,7 @@ fn document_000_table_1() {
                 values: vec![0; s as usize],
                 marks: vec![1; s as usize],
                 s,
+                ties: vec![],
             })
         };
         let cutting = both.cut(&every_cell_unknown(5 * filled), q, 5).unwrap();

@@ -94,7 +94,7 @@ fn clocks_of_a_register_that_inverts() {
 #[test]
 fn the_sample() {
     let set = sample("sample.set");
-    assert_eq!(set.len(), 42);
+    assert_eq!(set.len(), 44);
     assert_eq!(read(&set), Ok((3, 3, 0, 2, 2)));
     let mut both = both();
     assert_eq!(both.list_columns(&set, 1), Ok(vec![3]));
@@ -230,19 +230,19 @@ fn edges() {
 #[test]
 fn edges_without_rows() {
     let lines = [
-        (1, 1, 0, 1, 0, 30, Ok((1, 1, 0, 1, 0))),
-        (64, 1, 0, 1, 0, 30, Ok((64, 1, 0, 1, 0))),
-        (0, 1, 0, 1, 0, 30, Err(2)),
-        (65, 1, 0, 1, 0, 30, Err(2)),
-        (3, 9, 0, 1, 0, 30, Err(3)),
-        (3, 3, 4, 1, 0, 30, Ok((3, 3, 4, 1, 0))),
-        (3, 3, 8, 1, 0, 30, Err(25)),
-        (64, 1, u64::MAX, 1, 0, 30, Ok((64, 1, u64::MAX, 1, 0))),
-        (3, 3, 0, 256, 0, 2070, Ok((3, 3, 0, 256, 0))),
-        (3, 3, 0, 257, 0, 2078, Err(4)),
-        (3, 3, 0, 1, 513, 30, Err(7)),
+        (1, 1, 0, 1, 0, 32, Ok((1, 1, 0, 1, 0))),
+        (64, 1, 0, 1, 0, 32, Ok((64, 1, 0, 1, 0))),
+        (0, 1, 0, 1, 0, 32, Err(2)),
+        (65, 1, 0, 1, 0, 32, Err(2)),
+        (3, 9, 0, 1, 0, 32, Err(3)),
+        (3, 3, 4, 1, 0, 32, Ok((3, 3, 4, 1, 0))),
+        (3, 3, 8, 1, 0, 32, Err(25)),
+        (64, 1, u64::MAX, 1, 0, 32, Ok((64, 1, u64::MAX, 1, 0))),
+        (3, 3, 0, 256, 0, 2072, Ok((3, 3, 0, 256, 0))),
+        (3, 3, 0, 257, 0, 2080, Err(4)),
+        (3, 3, 0, 1, 513, 32, Err(7)),
         // 512 slices are taken, but their rows are not there
-        (3, 3, 0, 1, 512, 30, Err(8)),
+        (3, 3, 0, 1, 512, 32, Err(8)),
     ];
     for (m, taps, inversion, n, s, length, answer) in lines {
         let set = without_rows(m, taps, inversion, n, s);

@@ -16,12 +16,12 @@ pub const USE: Use = Use {
     does: "cut the slices into runs that leave K words, with the bill",
     more: "\
 Each run is to be clocked from zero and judged as a set of its own. Each leaves at least K words, and each is the longest
-that does so from its start. The unknown marks alone decide: no cell's value bears on the runs. K is decimal or 0x.., from 1
-to m.
+that does so from its start. The unknown marks alone decide: no cell's value bears on the runs, and no tie, for every unknown
+cell is free here. K is decimal or 0x.., from 1 to m.
 
 Prints a line 'run index slices first to last words count bits count' for each run. The words are as many as 'canceller plan'
-finds for a set of the run's slices alone; the control bits are m for each of K words. The last line is the bill:
-'bill count runs x m bits x K words = count control bits'. A set without slices has no runs, and its bill is 0.
+finds for a set of the run's slices alone, without ties; the control bits are m for each of K words. The last line is the
+bill: 'bill count runs x m bits x K words = count control bits'. A set without slices has no runs, and its bill is 0.
 
 Example: canceller cut runs.set 2",
     options: &["-o"],
@@ -103,7 +103,7 @@ impl Cutting {
     }
 }
 
-/// How many words a set of these slices alone has.
+/// How many words a set of these slices alone has, every unknown cell free.
 fn words_left(file: &[u8], set: &Set, slices: Range<u64>) -> Reply<usize> {
     let (mut values, mut marks) = (Vec::new(), Vec::new());
     for slice in slices.clone() {
@@ -114,7 +114,7 @@ fn words_left(file: &[u8], set: &Set, slices: Range<u64>) -> Reply<usize> {
         s: slices.end - slices.start,
         ..set.clone()
     };
-    let alone = canceller::write_set(&alone, &values, &marks)?;
+    let alone = canceller::write_set(&alone, &values, &marks, &[])?;
     let (_, words) = canceller::plan_words(&alone)?;
     Ok(words.len())
 }

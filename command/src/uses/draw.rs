@@ -3,12 +3,12 @@
 use super::cut::{least_words, Cutting};
 use super::{Input, Use};
 use crate::arguments::Given;
-use crate::canceller::{self, Plan, Refusal, Reply, Set, SET_MAX};
+use crate::canceller::{self, Plan, Refusal, Reply, Set, Tie, SET_MAX};
 use crate::ending::{Outcome, Status};
 use crate::numbers::{grouped, many};
 use crate::refusals::NO_WORDS;
-use crate::svg::{number, ticks, Svg, LETTER};
-use crate::text_form::{cells_of, Cell};
+use crate::svg::{number, ticks, Svg, LETTER, SIZE};
+use crate::text_form::{cells_of, unknown_cells, Cell};
 use crate::{bits, files};
 use std::fmt::Write;
 
@@ -20,6 +20,9 @@ pub const USE: Use = Use {
 Slices go across and chains down. A cell that is 0 is empty, one that is 1 is filled, and an unknown one is crossed. Under the
 response stand the rank, q and each word as a row of register bits, M1 (bit 0) first. A set for which no words exist (refusal
 17) is drawn too, and the picture says so.
+
+A tied cell has a square with its symbol's number on it, and a bar over the number where it holds the symbol's opposite. Symbols
+have colours in turn; where the squares are too small for numbers, a browser tells them at the pointer.
 
 With --cut K the picture shows the runs of 'canceller cut FILE.set K' too: a bracket with the run's number over the slices of
 each, a line between two runs, and how many runs and control bits there are. The words under the response are still those of
@@ -46,6 +49,7 @@ struct Picture {
     name: String,
     set: Set,
     slices: Vec<Vec<Cell>>,
+    ties: Vec<Tie>,
     /// None where there are no words.
     plan: Option<Plan>,
     /// None where no runs are asked for.
@@ -60,8 +64,19 @@ const KINDS: [(Cell, &str, &str, &str); 3] = [
     (Cell::Unknown, "unknown", "X, unknown", "url(#crossed)"),
 ];
 
+/// The colours of tied cells, in turn by symbol: dark, so that white numbers can be read on them.
+const COLOURS: [&str; 8] = [
+    "#1f3b57", "#2e6f40", "#6b3fa0", "#8a5a00", "#006d77", "#7a2048", "#444444", "#0b4f9e",
+];
+
+/// A tied cell's square and the bar of an opposite one, in a cell of the side 1.
+const SQUARE: &str = ".1h.8v.8h-.8z";
+const BAR_OVER: &str = ".16h.6v.1h-.6z";
+
 const MARGIN: f64 = 24.0;
 const LINE: f64 = 18.0;
+/// Where the text behind a box of the legend starts.
+const BEHIND: f64 = MARGIN + 22.0;
 /// Cells smaller than this have no lines between them, and bars beside them that say where unknown ones are.
 const ROOM: f64 = 6.0;
 const BAR: f64 = 80.0;
@@ -81,6 +96,7 @@ impl Picture {
         Ok(Picture {
             name: name.to_string(),
             slices: cells_of(file, &set)?,
+            ties: Tie::all(canceller::ties(file)?),
             set,
             plan,
             cutting: k.map(|k| Cutting::of(file, k)).transpose()?,
@@ -105,6 +121,23 @@ impl Picture {
     fn top(&self) -> f64 {
         let heading = self.cutting.as_ref().map_or(0.0, |_| LINE);
         TOP + heading + self.runs_high()
+    }
+
+    /// The lines of the legend: ties take two more.
+    fn legend_high(&self) -> f64 {
+        let lines = if self.ties.is_empty() { 4.0 } else { 6.0 };
+        lines * LINE
+    }
+
+    /// The numbers of the symbols that ties name, each once, in the order of their first cells.
+    fn named(&self) -> Vec<u16> {
+        let mut numbers = Vec::new();
+        for tie in &self.ties {
+            if !numbers.contains(&tie.symbol) {
+                numbers.push(tie.symbol);
+            }
+        }
+        numbers
     }
 
     fn words(&self) -> &[u64] {
@@ -132,10 +165,13 @@ impl Picture {
             0.0
         };
         let under = self.top() + down + 28.0 + bars;
-        let words_top = under + 4.0 * LINE + 44.0;
+        let words_top = under + self.legend_high() + 44.0;
         let height = words_top + self.words().len() as f64 * LINE + MARGIN;
         let letters = |text: &String| text.chars().count() as f64 * LETTER;
-        let longest = headings.iter().chain(&cut).map(letters).fold(0.0, f64::max);
+        let legend = self.tie_legend().into_iter().map(|(_, text)| text);
+        let legend = legend.map(|text| letters(&text) + BEHIND - MARGIN);
+        let over = headings.iter().chain(&cut).map(letters);
+        let longest = over.chain(legend).fold(0.0, f64::max);
         let width = (LEFT + across + bars)
             .max(self.words_width())
             .max(MARGIN + longest)
@@ -155,6 +191,7 @@ impl Picture {
         self.draw_axes(&mut svg, wide, high);
         self.draw_cells(&mut svg, wide, high);
         self.draw_lines(&mut svg, wide, high);
+        self.draw_ties(&mut svg, wide, high);
         if let Some(cutting) = &self.cutting {
             self.draw_runs(&mut svg, cutting, wide, down);
         }
@@ -162,7 +199,8 @@ impl Picture {
             self.draw_bars(&mut svg, wide, high);
         }
         self.draw_legend(&mut svg, under);
-        svg.text(MARGIN, under + 4.0 * LINE, &headings[2]);
+        self.draw_tie_legend(&mut svg, under + 3.0 * LINE);
+        svg.text(MARGIN, under + self.legend_high(), &headings[2]);
         self.draw_words(&mut svg, words_top);
         svg.done()
     }
@@ -178,6 +216,13 @@ impl Picture {
             Some(_) => String::new(),
             None => format!("; no words: every signature is explained ({NO_WORDS})"),
         };
+        let symbols = match self.ties.len() {
+            0 => String::new(),
+            ties => {
+                let symbols = unknown - ties as u64 + self.named().len() as u64;
+                format!(", {}", many(symbols, "symbol"))
+            }
+        };
         let inversion = match set.inversion {
             0 => String::new(),
             word => format!("inversion {word}, "),
@@ -192,7 +237,7 @@ impl Picture {
                 many(set.s, "slice")
             ),
             format!(
-                "{}, rank {rank}, q {q}{none}",
+                "{}{symbols}, rank {rank}, q {q}{none}",
                 many(unknown, "unknown cell")
             ),
         ]
@@ -259,6 +304,85 @@ impl Picture {
         ));
     }
 
+    /// A square on each tied cell in its symbol's colour, with the symbol's number where there is room for it; over the number of a cell
+    /// that holds the opposite, a bar.
+    fn draw_ties(&self, svg: &mut Svg, wide: f64, high: f64) {
+        if self.ties.is_empty() {
+            return;
+        }
+        let (top, named) = (self.top(), self.named());
+        svg.put(format_args!(
+            "<g id=\"ties\" transform=\"translate({LEFT} {top}) scale({} {})\">",
+            number(wide),
+            number(high)
+        ));
+        for tie in &self.ties {
+            let (slice, chain, symbol) = (tie.slice, tie.chain, tie.symbol);
+            let turn = named.iter().position(|number| *number == symbol);
+            let colour = COLOURS[turn.unwrap_or(0) % COLOURS.len()];
+            let (kind, bar) = match tie.opposite {
+                false => ("as is", String::new()),
+                true => {
+                    let bar = format!("M{slice}.2 {chain}{BAR_OVER}");
+                    ("opposite", format!("<path d=\"{bar}\" fill=\"#ffffff\"/>"))
+                }
+            };
+            svg.put(format_args!(
+                "<g class=\"tie\" data-slice=\"{slice}\" data-chain=\"{chain}\" data-symbol=\"{symbol}\" data-side=\"{kind}\">\
+                 <title>slice {slice}, chain {chain}: symbol {symbol}, {kind}</title>\
+                 <path d=\"M{slice}.1 {chain}{SQUARE}\" fill=\"{colour}\"/>{bar}</g>"
+            ));
+        }
+        svg.put(format_args!("</g>"));
+        self.draw_tie_numbers(svg, wide, high);
+    }
+
+    fn draw_tie_numbers(&self, svg: &mut Svg, wide: f64, high: f64) {
+        const LEAST: f64 = 6.0;
+        for tie in &self.ties {
+            let text = tie.symbol.to_string();
+            let fits = 0.75 * wide / (text.len() as f64 * LETTER / SIZE);
+            let size = fits.min(0.5 * high).min(SIZE);
+            if size >= LEAST {
+                let x = LEFT + (f64::from(tie.slice) + 0.5) * wide;
+                let y = self.top() + (f64::from(tie.chain) + 0.55) * high;
+                svg.sized(x, y, size, &text);
+            }
+        }
+    }
+
+    /// What the squares of tied cells mean, without a bar and with one, where there are any.
+    fn tie_legend(&self) -> Vec<(bool, String)> {
+        if self.ties.is_empty() {
+            return Vec::new();
+        }
+        let symbols = many(self.named().len() as u64, "symbol");
+        let cells = |opposite: bool| {
+            let of_kind = self.ties.iter().filter(|tie| tie.opposite == opposite);
+            many(of_kind.count() as u64, "cell")
+        };
+        vec![
+            (false, format!("tied to one of {symbols}: {}", cells(false))),
+            (true, format!(".. as its opposite: {}", cells(true))),
+        ]
+    }
+
+    fn draw_tie_legend(&self, svg: &mut Svg, top: f64) {
+        for (i, (opposite, text)) in self.tie_legend().iter().enumerate() {
+            let y = top + i as f64 * LINE;
+            let bar = match opposite {
+                false => String::new(),
+                true => format!("<path d=\"M.2 {BAR_OVER}\" fill=\"#ffffff\"/>"),
+            };
+            svg.put(format_args!(
+                "<g transform=\"translate({MARGIN} {}) scale(14)\"><path d=\"M.1 {SQUARE}\" fill=\"{}\"/>{bar}</g>",
+                number(y - 11.0),
+                COLOURS[0]
+            ));
+            svg.text(BEHIND, y, text);
+        }
+    }
+
     /// Over each run a bracket with its number, where there is room for it, and between two runs a line down through the response.
     fn draw_runs(&self, svg: &mut Svg, cutting: &Cutting, wide: f64, down: f64) {
         let (top, k, bits) = (self.top(), cutting.k, cutting.bits);
@@ -309,15 +433,9 @@ impl Picture {
     fn unknowns(&self) -> (Vec<usize>, Vec<usize>) {
         let (mut by_slice, mut by_chain) =
             (vec![0; self.slices.len()], vec![0; self.set.spread.len()]);
-        for (slice, cells) in self.slices.iter().enumerate() {
-            for (chain, _) in cells
-                .iter()
-                .enumerate()
-                .filter(|(_, cell)| **cell == Cell::Unknown)
-            {
-                by_slice[slice] += 1;
-                by_chain[chain] += 1;
-            }
+        for (slice, chain) in unknown_cells(&self.slices) {
+            by_slice[slice] += 1;
+            by_chain[chain] += 1;
         }
         (by_slice, by_chain)
     }
@@ -368,7 +486,7 @@ impl Picture {
             ));
             let count = grouped(self.count(kind) as u64);
             let cells = if count == "1" { "cell" } else { "cells" };
-            svg.text(MARGIN + 22.0, y, &format!("{what}: {count} {cells}"));
+            svg.text(BEHIND, y, &format!("{what}: {count} {cells}"));
         }
     }
 

@@ -18,9 +18,9 @@ a line 'word index word expected bit was bit' for each of these, and then 'chang
 written, the same as 'canceller plan' writes for the revised set; it may take the place of the old one. With '-o -' the plan
 file goes to standard output, and nothing is printed.
 
-Where more than values has changed (unknown marks, slices, chains, the register) so that the plan's words aren't the set's
-own, the plan would let an unknown cell through or leave words out. That is said, nothing is written, and the exit status is
-2; 'canceller plan' makes a new plan.
+Where more than values has changed (unknown marks, ties, slices, chains, the register) so that the plan's words aren't the
+set's own, the plan would let an unknown cell through or leave words out. That is said, nothing is written, and the exit
+status is 2; 'canceller plan' makes a new plan.
 
 Example: canceller expect sample.plan revised.set -o revised.plan",
     options: &["-o"],

@@ -10,8 +10,8 @@ pub const USE: Use = Use {
     forms: &["explain N"],
     does: "tell what a refusal number means and what to do",
     more: "\
-A refusal carries a number from 1 to 28: the first that applies, in that order, but that 25 is looked for after 3, and 26
-to 28 after 10. There is no 16: more than m independent columns can't come up.
+A refusal carries a number from 1 to 31: the first that applies, in that order, but that 25 is looked for after 3, and 29
+to 31, then 26 to 28, after 10. There is no 16: more than m independent columns can't come up.
 
 Example: canceller explain 17",
     options: &[],

@@ -22,6 +22,9 @@ The text form has one setting a line, in this order; # starts a comment:
     slices 2
     1X                 # a line for each slice: 0, 1 or X, chain 0 first;
     10                 # blanks between the cells don't count
+    tie 0 1 7          # the unknown cell of slice 0, chain 1 holds symbol 7; 'tie 0 1 7 opposite': its opposite
+
+An unknown cell without a tie is free. Ties stand by slice and then by chain.
 
 Example: canceller pack sample.txt -o sample.set",
     options: &["-o"],
@@ -32,7 +35,7 @@ Example: canceller pack sample.txt -o sample.set",
 fn run(given: &Given) -> Outcome {
     let text = Input::read(&given.operands[0], text_form::TEXT_MAX)?;
     let form = text_form::parse(&text.name, &text.bytes)?;
-    let written = canceller::write_set(&form.set, &form.values, &form.marks);
+    let written = canceller::write_set(&form.set, &form.values, &form.marks, &form.ties);
     files::write(given.option("-o"), &of(&text.name, written)?)?;
     Ok(Status::Done)
 }

@@ -4,6 +4,7 @@ use super::{Input, Use};
 use crate::arguments::Given;
 use crate::canceller::{self, Plan, Reply, SET_MAX};
 use crate::ending::{Outcome, Status, Stop};
+use crate::text_form::{cells_of, unknown_cells};
 use crate::{bits, files};
 use std::fmt::Write;
 
@@ -13,8 +14,8 @@ pub const USE: Use = Use {
     does: "print the plan of a set, and write the plan file",
     more: "\
 Prints what the plan printer prints: 'set m n s unknowns', a line 'word index word expected' for each word, and 'end q'; a
-set that is refused prints 'refused' and the number. Both take any number of unknown cells. With '-o -' the plan file goes
-to standard output, and nothing is printed.
+set that is refused prints 'refused' and the number. Unknown cells are counted, tied or not, and any number of them is taken.
+With '-o -' the plan file goes to standard output, and nothing is printed.
 
 Example: canceller plan sample.set -o sample.plan",
     options: &["-o"],
@@ -54,7 +55,7 @@ pub fn put(given: &Given, set: &Input, plan: &Plan, lines: &str) -> Outcome {
 fn planned(set: &[u8]) -> Reply<(Plan, String)> {
     let plan = canceller::plan(set)?;
     let read = canceller::read_set(set)?;
-    let unknowns = canceller::list_columns(set)?.len();
+    let unknowns = unknown_cells(&cells_of(set, &read)?).len();
     let mut text = format!(
         "set {} {} {} {unknowns}\n",
         read.m,

@@ -12,7 +12,7 @@ pub const USE: Use = Use {
     does: "print the text form of a set",
     more: "\
 'canceller pack' makes the same bytes of it again. 'canceller help pack' has the text form; where no input of the register is
-inverted there is no line 'inversion'.
+inverted there is no line 'inversion', and where every unknown cell is free there are no lines 'tie'.
 
 Example: canceller show sample.set",
     options: &["-o"],

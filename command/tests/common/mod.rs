@@ -2,7 +2,7 @@
 #![allow(dead_code)]
 
 use reference::second::plan::Plan;
-use reference::second::planning::plan;
+use reference::second::planning::{plan, WORKING_MOST};
 use std::fs::File;
 use std::io::Write;
 use std::path::{Path, PathBuf};
@@ -138,7 +138,7 @@ pub fn inversion_of(set: &[u8]) -> u64 {
 
 /// The plan of a set by the second implementation, which is lent as many places as the command lends.
 pub fn second_plan(set: &[u8]) -> Result<Plan, u64> {
-    plan(set, 64, 64).reply
+    plan(set, WORKING_MOST, 64).reply
 }
 
 /// A file of samples/, and of what the tests have stored.

@@ -50,10 +50,12 @@ pub fn write_set(c: &Content, out: &mut [u8]) -> CWritten {
     let (spread, n) = (c.spread.as_ptr(), c.spread.len());
     let (values, values_len) = (c.values.as_ptr(), c.values.len());
     let (marks, marks_len) = (c.marks.as_ptr(), c.marks.len());
+    let (ties, ties_len) = (c.ties.as_ptr(), c.ties.len());
     let (to, room) = (out.as_mut_ptr(), out.len());
     unsafe {
         canceller_write_set(
-            m, taps, inversion, spread, n, values, values_len, marks, marks_len, s, to, room,
+            m, taps, inversion, spread, n, values, values_len, marks, marks_len, s, ties, ties_len,
+            to, room,
         )
     }
 }

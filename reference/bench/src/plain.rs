@@ -74,10 +74,15 @@ pub fn read_set(set: &[u8]) -> Result<PlainSet<'_>, u64> {
     }
     let s = count(set, 20 + 8 * n);
     let b = n.div_ceil(8);
-    if set.len() != 22 + 8 * n + 2 * b * s {
+    let ties_at = 22 + 8 * n + 2 * b * s;
+    if set.len() < ties_at + 2 || count(set, ties_at) > 256 {
         return Err(8);
     }
-    let rows = &set[22 + 8 * n..];
+    // the sets that are measured have no ties
+    if set.len() != ties_at + 2 + 7 * count(set, ties_at) {
+        return Err(8);
+    }
+    let rows = &set[22 + 8 * n..ties_at];
     if rows.chunks(b).any(|row| spare(row, n)) {
         return Err(9);
     }

@@ -244,7 +244,7 @@ pub fn reader() -> Row {
         let [.., n, _] = numbers;
         [&numbers, &spread[..n as usize]].concat()
     };
-    Row::new("set reader", "34,838 bytes".into(), 1)
+    Row::new("set reader", "34,840 bytes".into(), 1)
         .side(Side::Ours, move |_, ask| {
             let read = black_box(ours::read_set(black_box(set)));
             put(ask, read.refusal, || {
@@ -279,7 +279,7 @@ pub fn stretch(marks: bool) -> Row {
         false => ("value row", ours::value_row, value_row),
         true => ("mark row", ours::mark_row, mark_row),
     };
-    Row::new(name, "34,838 bytes".into(), 512)
+    Row::new(name, "34,840 bytes".into(), 512)
         .side(Side::Ours, move |i, ask| {
             let at = black_box(one(black_box(set), i as u64));
             put(ask, at.refusal, || vec![at.start, at.length])
@@ -323,8 +323,8 @@ fn bytes(out: &[u8]) -> Vec<u64> {
 
 pub fn set_writer() -> Row {
     let (content, _, _) = large();
-    let (mut out, mut other) = (vec![0; 34_838], vec![0; 34_838]);
-    Row::new("set writer", "34,838 bytes".into(), 1)
+    let (mut out, mut other) = (vec![0; 34_840], vec![0; 34_840]);
+    Row::new("set writer", "34,840 bytes".into(), 1)
         .side(Side::Ours, move |_, ask| {
             let wrote = black_box(ours::write_set(black_box(content), &mut out));
             put(ask, wrote.refusal, || bytes(&out[..wrote.length as usize]))
@@ -376,7 +376,7 @@ pub fn expecting() -> Row {
         vec![bits.map(|(i, bit)| bit << i).sum()]
     };
     let signed = move || black_box(ours::sign(set, black_box(&content.values)));
-    Row::new("expected bits", "34,838 bytes, 63 words".into(), 1)
+    Row::new("expected bits", "34,840 bytes, 63 words".into(), 1)
         .side(Side::Ours, move |_, ask| {
             let e = black_box(ours::expect(black_box(set), words));
             put(ask, e.refusal, || vec![e.expected])

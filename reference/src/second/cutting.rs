@@ -12,12 +12,14 @@ pub struct Cutting {
     pub bits: u64,
 }
 
-/// The slices from `start` up to `end`: "each run is later judged as a set of its own".
+/// The slices from `start` up to `end`: "each run is later judged as a set of its own". No tie is left: "the cutter goes on with every
+/// cell free" (No. 7).
 fn alone(set: &Set, start: usize, end: usize) -> Set {
     Set {
         circuit: set.circuit.clone(),
         values: set.values[start..end].to_vec(),
         marks: set.marks[start..end].to_vec(),
+        ties: vec![],
     }
 }
 
@@ -45,7 +47,7 @@ fn starts(set: &Set, k: u64) -> Vec<u64> {
 }
 
 /// The call, for a lent cut list of `room` places: "26 for k not 1 to m; 27 for a slice that alone leaves fewer than k; 28 for a cut list
-/// too short; in that order after 10".
+/// too short; in that order after 10", and so after 31.
 pub fn cut(bytes: &[u8], k: u64, room: usize) -> Reply<Cutting> {
     let set = read_set(bytes)?;
     let m = set.circuit.m as u64;

@@ -1,4 +1,4 @@
-//! Where things stand in set, plan and record files, and how long the files are: document 01, "Files".
+//! Where things stand in set, plan and record files, and how long the files are: document 01, "Files", and document 02, Nos. 1 and 7.
 
 /// Bytes of a count and of a word.
 pub const COUNT: usize = 2;
@@ -42,8 +42,25 @@ pub fn mark_row_at(n: usize, t: usize) -> usize {
     value_row_at(n, t) + row_bytes(n)
 }
 
-pub fn set_length(n: usize, s: usize) -> usize {
+/// Bytes of an entry: "slice, chain and symbol number (2 bytes each) and a byte".
+pub const TIE: usize = 3 * COUNT + 1;
+
+/// The most entries that a set has.
+pub const TIES_MOST: usize = 256;
+
+/// The place of the count of ties, behind the slices.
+pub fn tie_count_at(n: usize, s: usize) -> usize {
     value_row_at(n, s)
+}
+
+/// The place of entry i.
+pub fn tie_at(n: usize, s: usize, i: usize) -> usize {
+    tie_count_at(n, s) + COUNT + TIE * i
+}
+
+/// The bytes of a set with so many ties.
+pub fn set_length(n: usize, s: usize, ties: usize) -> usize {
+    tie_at(n, s, ties)
 }
 
 pub fn record_length(n: usize, s: usize) -> usize {

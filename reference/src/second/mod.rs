@@ -1,6 +1,7 @@
 //! A second implementation of documents 01 and 02, written from their sentences alone: it shares no code and no idea with the proved
 //! library. Cells, states and columns are vectors of bools, a column is found by clocking the response in which only its cell is 1 into
-//! the register without its inversions, words by elimination over rows, and a run's end by trying all. It is slow on purpose.
+//! the register without its inversions, a symbol's by XORing those of its cells, words by elimination over rows, and a run's end by trying
+//! all. It is slow on purpose.
 
 pub mod cutting;
 pub mod elimination;
@@ -8,6 +9,7 @@ pub mod layout;
 pub mod plan;
 pub mod planning;
 pub mod set;
+pub mod ties;
 
 /// A bit vector, bit 0 first.
 pub type Bits = Vec<bool>;

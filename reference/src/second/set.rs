@@ -1,6 +1,7 @@
 //! Sets, records, the clock, signatures and columns.
 
 use super::layout::*;
+use super::ties::{entries, take_ties, Cell, Tie};
 use super::*;
 
 /// The register and its chains.
@@ -12,12 +13,13 @@ pub struct Circuit {
     pub spread: Vec<Bits>,
 }
 
-/// A set: cells by slice and chain.
+/// A set: cells by slice and chain, and the ties among the unknown ones.
 #[derive(Clone, Debug, PartialEq)]
 pub struct Set {
     pub circuit: Circuit,
     pub values: Vec<Bits>,
     pub marks: Vec<Bits>,
+    pub ties: Vec<Tie>,
 }
 
 impl Circuit {
@@ -71,7 +73,7 @@ impl Set {
     }
 
     /// The unknown cells, by slice and then by chain.
-    pub fn unknowns(&self) -> Vec<(usize, usize)> {
+    pub fn unknowns(&self) -> Vec<Cell> {
         let mut found = Vec::new();
         for t in 0..self.s() {
             for c in 0..self.n() {
@@ -83,26 +85,37 @@ impl Set {
         found
     }
 
-    /// The columns of the unknown cells: each is the signature of the response in which its cell is 1 and all others 0, under the
-    /// same register with inversion word 0.
+    /// The columns: "a symbol's column is the XOR of its cells' columns, listed where its first cell was".
     pub fn columns(&self) -> Vec<u64> {
         let register = self.circuit.uninverted();
-        self.unknowns()
-            .into_iter()
-            .map(|(t, c)| word_of(&register.response_to_one(self.s(), t, c)))
-            .collect()
+        let of_cell = |&(t, c): &Cell| register.response_to_one(self.s(), t, c);
+        let of_symbol = |cells: &Vec<Cell>| {
+            let mut column = vec![false; self.circuit.m];
+            for cell in cells {
+                xor_into(&mut column, &of_cell(cell));
+            }
+            word_of(&column)
+        };
+        self.symbols().iter().map(of_symbol).collect()
     }
 
-    /// The signature for all unknowns 0.
+    /// The signature of a response of the set's shape.
+    pub fn signature(&self, cells: &[Bits]) -> u64 {
+        let slices: Vec<Vec<usize>> = cells.iter().map(|row| driving(row)).collect();
+        word_of(&self.circuit.signature(&slices))
+    }
+
+    /// "The expected signature has all symbols 0."
     pub fn zero_signature(&self) -> u64 {
-        let filled: Vec<Vec<usize>> = (0..self.s())
-            .map(|t| {
-                (0..self.n())
-                    .filter(|&c| self.values[t][c] && !self.marks[t][c])
-                    .collect()
-            })
-            .collect();
-        word_of(&self.circuit.signature(&filled))
+        self.signature(&self.filled(|_| false))
+    }
+
+    /// The same set without its ties: every unknown cell is free.
+    pub fn untied(&self) -> Set {
+        Set {
+            ties: vec![],
+            ..self.clone()
+        }
     }
 }
 
@@ -157,14 +170,16 @@ fn read_circuit(bytes: &[u8]) -> Reply<Circuit> {
     circuit_of(m, taps, inversion, &spread)
 }
 
-/// .. and 7 to 10.
+/// .. and 7 to 10, and 29 to 31.
 pub fn read_set(bytes: &[u8]) -> Reply<Set> {
     let circuit = read_circuit(bytes)?;
     let n = circuit.spread.len();
     let s = number_at(bytes, slices_at(n), COUNT).ok_or(7u64)?;
     refuse_if(s > 512, 7)?;
     let s = s as usize;
-    refuse_if(bytes.len() != set_length(n, s), 8)?;
+    let count = number_at(bytes, tie_count_at(n, s), COUNT).ok_or(8u64)?;
+    refuse_if(count > TIES_MOST as u64, 8)?;
+    refuse_if(bytes.len() != set_length(n, s, count as usize), 8)?;
     let row = |at: usize| &bytes[at..at + row_bytes(n)];
     let value_row = |t: usize| row(value_row_at(n, t));
     let mark_row = |t: usize| row(mark_row_at(n, t));
@@ -178,10 +193,13 @@ pub fn read_set(bytes: &[u8]) -> Reply<Set> {
         (0..s).any(|t| (0..n).any(|c| values[t][c] && marks[t][c])),
         10,
     )?;
+    let ties = entries(&bytes[tie_at(n, s, 0)..]).ok_or(8u64)?;
+    take_ties(&ties, |(t, c)| t < s && c < n && marks[t][c])?;
     Ok(Set {
         circuit,
         values,
         marks,
+        ties,
     })
 }
 
@@ -204,6 +222,12 @@ pub fn row_place(bytes: &[u8], slice: u64, row: Row) -> Reply<(usize, usize)> {
     Ok((at, row_bytes(n)))
 }
 
+/// Where the entries of a set stand, without their count: the first byte and how many.
+pub fn ties_place(bytes: &[u8]) -> Reply<(usize, usize)> {
+    let set = read_set(bytes)?;
+    Ok((tie_at(set.n(), set.s(), 0), TIE * set.ties.len()))
+}
+
 /// What the set writer takes.
 #[derive(Clone, Debug, PartialEq)]
 pub struct Content {
@@ -214,6 +238,8 @@ pub struct Content {
     pub values: Vec<u8>,
     pub marks: Vec<u8>,
     pub s: u64,
+    /// The entries "as bytes laid out as in the file", without their count.
+    pub ties: Vec<u8>,
 }
 
 /// The set writer, with an output of `room` bytes: the file, or the number.
@@ -225,6 +251,7 @@ pub fn write_set(content: &Content, room: usize) -> Reply<Vec<u8>> {
     let (n, s) = (circuit.spread.len(), content.s as usize);
     let b = row_bytes(n);
     refuse_if(values.len() != b * s || marks.len() != b * s, 8)?;
+    let ties = entries(&content.ties).ok_or(8u64)?;
     let row = |list: &[u8], t: usize| list[b * t..b * (t + 1)].to_vec();
     refuse_if(
         (0..s).any(|t| has_spare(&row(values, t), n) || has_spare(&row(marks, t), n)),
@@ -234,6 +261,7 @@ pub fn write_set(content: &Content, room: usize) -> Reply<Vec<u8>> {
         (0..s).any(|t| (0..n).any(|c| row_bit(&row(values, t), c) && row_bit(&row(marks, t), c))),
         10,
     )?;
+    take_ties(&ties, |(t, c)| t < s && c < n && row_bit(&row(marks, t), c))?;
     let mut file = Vec::new();
     put_number(&mut file, m, COUNT);
     put_number(&mut file, taps, WORD);
@@ -247,6 +275,8 @@ pub fn write_set(content: &Content, room: usize) -> Reply<Vec<u8>> {
         file.extend(row(values, t));
         file.extend(row(marks, t));
     }
+    put_number(&mut file, ties.len() as u64, COUNT);
+    file.extend(&content.ties);
     refuse_if(room < file.len(), 24)?;
     Ok(file)
 }
@@ -282,14 +312,13 @@ pub fn read_record(set: &Set, record: &[u8]) -> Reply<Vec<Bits>> {
 pub fn sign(bytes: &[u8], record: &[u8]) -> Reply<u64> {
     let set = read_set(bytes)?;
     let cells = read_record(&set, record)?;
-    let slices: Vec<Vec<usize>> = cells.iter().map(|row| driving(row)).collect();
-    Ok(word_of(&set.circuit.signature(&slices)))
+    Ok(set.signature(&cells))
 }
 
 /// The columns, for a lent list of `room` places. "The call that lists columns keeps its own rule" (document 02, No. 3): 14 for a list
-/// "shorter than the number of unknown cells".
+/// shorter than what is listed, and that is a column for each symbol (No. 7).
 pub fn list_columns(bytes: &[u8], room: usize) -> Reply<Vec<u64>> {
     let set = read_set(bytes)?;
-    refuse_if(room < set.unknowns().len(), 14)?;
+    refuse_if(room < set.symbols().len(), 14)?;
     Ok(set.columns())
 }

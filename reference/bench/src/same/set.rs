@@ -28,6 +28,16 @@ pub fn head_length(n: usize) -> usize {
     slices_at(n) + 2
 }
 
+/// The place of the count of ties, behind the rows.
+pub fn ties_at(n: usize, s: usize) -> usize {
+    head_length(n) + 2 * n.div_ceil(8) * s
+}
+
+/// Whether the ties are absent, too many, too few for their count, or followed by more.
+fn bad_ties(set: &[u8], at: usize) -> bool {
+    set.len() < at + 2 || count(set, at) > 256 || set.len() != at + 2 + 7 * count(set, at)
+}
+
 /// Numbers 1, 2, 3, 25, 4, 5 and 6, the spread words read where they stand.
 fn head_refusal(set: &[u8]) -> u64 {
     if set.len() < CHAINS_AT {
@@ -64,7 +74,7 @@ fn share_a_bit(values: &[u8], marks: &[u8]) -> bool {
     shared != 0
 }
 
-/// .. and 7 to 10: 9 by one byte of each row, 10 by whole bytes.
+/// .. and 7 to 10: 9 by one byte of each row, 10 by whole bytes. The sets that are measured have no ties, and 29 to 31 don't come up.
 fn first_refusal(set: &[u8]) -> u64 {
     let number = head_refusal(set);
     if number != 0 {
@@ -75,10 +85,10 @@ fn first_refusal(set: &[u8]) -> u64 {
         return 7;
     }
     let (b, s) = (n.div_ceil(8), count(set, slices_at(n)));
-    if set.len() != head_length(n) + 2 * b * s {
+    if bad_ties(set, ties_at(n, s)) {
         return 8;
     }
-    let rows = &set[head_length(n)..];
+    let rows = &set[head_length(n)..ties_at(n, s)];
     if spare_row(n, rows) {
         return 9;
     }
@@ -150,7 +160,8 @@ fn write_refusal(c: &Content, room: usize) -> u64 {
         return 7;
     }
     let rows = n.div_ceil(8) * c.s as usize;
-    if c.values.len() != rows || c.marks.len() != rows {
+    let ties = c.ties.len();
+    if c.values.len() != rows || c.marks.len() != rows || ties % 7 != 0 || ties > 7 * 256 {
         return 8;
     }
     if spare_row(n, &c.values) || spare_row(n, &c.marks) {
@@ -159,7 +170,7 @@ fn write_refusal(c: &Content, room: usize) -> u64 {
     if share_a_bit(&c.values, &c.marks) {
         return 10;
     }
-    if room < head_length(n) + 2 * rows {
+    if room < ties_at(n, c.s as usize) + 2 + ties {
         return 24;
     }
     0
@@ -187,7 +198,11 @@ pub fn write_set(c: &Content, out: &mut [u8]) -> Result<usize, u64> {
         to[..b].copy_from_slice(values);
         to[b..].copy_from_slice(marks);
     }
-    Ok(at + 2 * b * c.s as usize)
+    let at = ties_at(n, c.s as usize);
+    let (entries, end) = (at + 2, at + 2 + c.ties.len());
+    out[at..entries].copy_from_slice(&(c.ties.len() as u16 / 7).to_le_bytes());
+    out[entries..end].copy_from_slice(&c.ties);
+    Ok(end)
 }
 
 /// The state after one clock with all cells 0 and nothing inverted.
