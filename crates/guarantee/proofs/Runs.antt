@@ -35,13 +35,14 @@ use Rattle.signatures.specs.Columns.{columnsBelow}
 use Rattle.signatures.specs.Sets.{given, columnsOf}
 use Rattle.signatures.proofs.ColumnLaws.{columns-ext}
 use Rattle.signatures.proofs.SetLaws.{columns-of-within}
-use Rattle.signatures.proofs.FreeLaws.{columns-free, named-free}
+use Rattle.signatures.proofs.FreeLaws.{columns-free}
 use Rattle.kept_words.specs.Working.{wordsOf, workingPlaces}
 use Rattle.planner.specs.Planning.{earlierTests, planTests, wordPartsOf, wordsReply, partsOf, planReply}
 use Rattle.planner.proofs.NumberLaws.{earlier-past-set, plan-later}
 use Rattle.cutter.specs.Cutting.{wordsLeft, longestEnd, badShare, RunOf, startsOf, CutParts, cutReply}
 use Rattle.cutter.proofs.Theorems.{cut-none, cut-run}
 use Rattle.guarantee.specs.Runs.{runContent, runFile, RunPlanned}
+use Rattle.guarantee.proofs.Untied.{untied-counts}
 
 module _ (set : List ℕ) (whole : Accepted set) (a b : ℕ) (ordered : a ≤ b) (inside : b ≤ slicesOf set) where
   abbrev content : SetContent
@@ -152,7 +153,7 @@ module _ (set : List ℕ) (whole : Accepted set) (a b : ℕ) (ordered : a ≤ b)
     run-none =
         let past : firstOf (earlierTests (runFile set a b) w) ≡ 0 =
         earlier-past-set (runFile set a b) w (accepted-back (runFile set a b) run-accepted)
-        ∙ ap (λ (x : Bool). cond {A = ℕ} x 14 0) (le-ltb w (workingPlaces (runFile set a b)) (omega (arith, work, named-free (given (runFile set a b)) run-bare)))
+        ∙ ap (λ (x : Bool). cond {A = ℕ} x 14 0) (le-ltb w (workingPlaces (runFile set a b)) (omega (arith, work, untied-counts (runFile set a b) run-bare .1)))
         in
         let count : length (reducedList (widthOf (runFile set a b)) (columnsOf (runFile set a b))) ≡ wordsLeft (given set) a b = run-words in
         let words : onlyEmpty (widthOf (runFile set a b)) (columnsOf (runFile set a b)) ≡ false =
