@@ -23,7 +23,7 @@ use Rattle.rows.specs.declared.Rows.{Rows}
 use Rattle.rows.proofs.CellLaws.{cell-lt}
 use Rattle.rows.proofs.MarkLaws.{total-suc, total-ext, total-le, total-add, row-total}
 use Rattle.ties.specs.Ties.{Ties, tiesIn}
-use Rattle.ties.specs.Symbols.{naming, flag, firstMark, firstMarks, unmarked, Sound}
+use Rattle.ties.specs.Symbols.{naming, flag, firstMark, firstMarks, unmarked, SoundTies}
 use Rattle.ties.proofs.SymbolLaws.{names-cell, naming-some, naming-own, unmarked-first}
 use Rattle.register.specs.Circuit.{Circuit, chains}
 use Rattle.marked_words.specs.Back.{back}
@@ -74,7 +74,7 @@ total-bare a b f h bare =
 -- ---- the first cells of a set's symbols
 
 module _ (set : List ℕ) (a : Accepted set) where
-  sound : Sound (slicesOf set) (chains (circuitOf set)) (marks set) (tiesOf set)
+  sound : SoundTies (slicesOf set) (chains (circuitOf set)) (marks set) (tiesOf set)
   sound = set-ties set a
 
   chains-few : chains (circuitOf set) ≤ 256

@@ -24,7 +24,11 @@ pub enum Expected {
 fn opposite_cells(taken: Taken, set: &[u8]) -> u64
     ensures { λ r. ⌜ (TakenFrom (now (set .entry)) taken → r ≡ sideColumns (circuitOf (now (set .entry))) (slicesOf (now (set .entry))) (tiesOf (now (set .entry)))) ⌝ }
 {
-    symbol_columns::side_columns(taken, set_layout::tie_bytes(set), set_layout::tie_count(set))
+    symbol_columns::side_columns(
+        taken,
+        set_layout::tie_bytes(set),
+        set_layout::tie_count(set),
+    )
 }
 
 // The signature of a taken set for all symbols 0: that of its value rows as they stand, in which an unknown cell's bit is 0, XORed with the

@@ -1,7 +1,5 @@
--- Bytes written into a list, and rows copied one after the other.
+-- Rows copied one after the other.
 --
---   BytesLeft l₀ l bs at i   once the bytes bs from place i on are written into l, all of bs stand in l₀ from place `at` on
---   bytes-start, bytes-turn, bytes-end   the loop that writes them
 --   row-byte, row-byte-past  a byte of a row is one of the list; past the row's end it is 0
 --   Copied b f l t           the rows f 0 to f (t - 1) stand in l, b bytes each, and zeros behind them
 --   copied-starts, rows-turn, rows-end   the loop that copies rows: at its end every cell is that of the row that was copied
@@ -22,33 +20,6 @@ use Rattle.rows.specs.Row.{rowBytes, cell}
 use Rattle.rows.specs.Lists.{listRow, rowOf}
 use Rattle.rows.specs.declared.Rows.{Rows}
 use Rattle.rows.proofs.CellLaws.{row-step}
-
--- ---- bytes
-
-pub record BytesLeft (l₀ l bs : List ℕ) (at i : ℕ) : Type 0 where
-  pub long : length l ≡ length l₀
-  pub rest : sets l (at + i) (drop i bs) ≡ sets l₀ at bs
-
-pub bytes-start : (l bs : List ℕ) (at : ℕ) → BytesLeft l l bs at 0
-bytes-start l bs at = record { long = refl; rest = ap (λ (x : ℕ). sets l x bs) (add-zero at) }
-
-pub bytes-turn : (l₀ l bs : List ℕ) (at i : ℕ) → BytesLeft l₀ l bs at i → i < length bs → BytesLeft l₀ (set l (at + i) (getD bs i 0)) bs at (i + 1)
-bytes-turn l₀ l bs at i w h = record {
-  long = length-set l (at + i) (getD bs i 0) ∙ w .long;
-  rest =
-      let place : at + (i + 1) ≡ suc (at + i) = omega arith in
-      ap₂ (λ (p k : ℕ). sets (set l (at + i) (getD bs i 0)) p (drop k bs)) place (add-one i)
-      ∙ ap (sets l (at + i)) (sym (drop-cons bs i 0 h)) ∙ w .rest;
-}
-
-pub bytes-end : (l₀ l bs : List ℕ) (at i n : ℕ) → BytesLeft l₀ l bs at i → n ≡ min (length bs) (length l₀ - at) → i ≡ n → l ≡ sets l₀ at bs
-bytes-end l₀ l bs at i n w e z = dite (decLt i (length bs)) full whole
-  where
-    full : i < length bs → l ≡ sets l₀ at bs
-    full h = sym (sets-past-end (drop i bs) l (at + i) (omega (arith, w .long))) ∙ w .rest
-
-    whole : (i < length bs → ⊥) → l ≡ sets l₀ at bs
-    whole h = let end : length bs ≤ i = omega arith in ap (sets l (at + i)) (sym (drop-of-length-le bs end)) ∙ w .rest
 
 -- ---- a list after bytes were written into it
 

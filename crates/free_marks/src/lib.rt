@@ -31,21 +31,6 @@ fn no_rows() -> [u8; 16384]
     [0u8; 16384]
 }
 
-// Writes the bytes at place `at`, as far as the output goes.
-fn write_bytes(out: &mut [u8], at: usize, bytes: &[u8])
-    ensures { λ _. ⌜ now (out .exit) ≡ sets (now (out .entry)) at (now (bytes .entry)) ⌝ }
-{
-    if out.len() <= at {
-        return;
-    }
-    let count = numbers::shorter(bytes.len(), out.len() - at);
-    let mut i = 0;
-    while i < count {
-        out[at + i] = bytes[i];
-        i += 1;
-    }
-}
-
 // The rows of s slices of n chains, one after the other.
 fn copy_rows(list: &[u8], marks: Rows, n: u16, s: u16) -> [u8; 16384]
     ensures { λ r. ⌜ (n ≤ 256 → s ≤ 512 → marks .bytes ≡ rowBytes n → (t c : ℕ) → t < s → cell (listRow n r t) c ≡ cellsOf (now (list .entry)) marks t c) ⌝ }
@@ -55,7 +40,7 @@ fn copy_rows(list: &[u8], marks: Rows, n: u16, s: u16) -> [u8; 16384]
     let mut t: u16 = 0;
     while t < s {
         let row = rows::row_of(list, marks, t);
-        write_bytes(&mut copy[..], bytes * (t as usize), row);
+        written_numbers::write_bytes(&mut copy[..], bytes * (t as usize), row);
         t += 1;
     }
     copy

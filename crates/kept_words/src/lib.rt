@@ -35,24 +35,24 @@ fn put_symbols(taken: Taken, set: &[u8], working: &mut [u64]) -> usize
     ensures few { λ r. ⌜ r ≤ 256 ⌝ }
     ensures symbols { λ r. ⌜ (TakenFrom (now (set .entry)) taken → (r ≡ namedOf (now (set .entry))) × (now (working .exit) ≡ withSymbols (now (set .entry)) (now (working .entry)))) ⌝ }
 {
-    let count = set_layout::tie_count(set);
-    if count == 0 {
+    let entries = set_layout::tie_count(set);
+    if entries == 0 {
         return 0;
     }
     let ties = set_layout::tie_bytes(set);
-    let limit = symbol_flags::tie_limit(count) as usize;
-    let flags = symbol_flags::opening_flags(ties, count);
+    let limit = symbol_flags::tie_limit(entries) as usize;
+    let flags = symbol_flags::opening_flags(ties, entries);
     let symbols = symbol_flags::count_flags(&flags[..limit]) as usize;
-    let places = WORKING_PLACES + symbols;
-    if working.len() < places {
+    let end = WORKING_PLACES + symbols;
+    if working.len() < end {
         return symbols;
     }
     symbol_columns::fill_symbols(
         taken,
         ties,
-        count,
+        entries,
         &flags[..],
-        &mut working[WORKING_PLACES..places],
+        &mut working[WORKING_PLACES..end],
     );
     symbols
 }

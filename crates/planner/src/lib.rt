@@ -6,10 +6,10 @@ ghost use Rattle.word.specs.Reply.{firstOf, lent, numberOf};
 ghost use Rattle.set_file.specs.Reading.{setTests, TakenFrom};
 ghost use Rattle.kept_words.specs.Working.{wordsOf};
 ghost use Rattle.planner.specs.Planning.{workingLeft, wordsReply, saidWorded, planReply, said};
+use kept_words::Kept;
 use register::Register;
 use set_file::SetAnswer;
 use set_file::Taken;
-use kept_words::Kept;
 
 // What the call that gives the words answers: m and q, or the first number that applies.
 pub enum Worded {

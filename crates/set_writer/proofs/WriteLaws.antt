@@ -15,39 +15,12 @@ use lib.Seq.{drop-cons, sets, length-sets}
 use Rattle.numbers.proofs.FileLaws.{sets-parts}
 use Rattle.numbers.specs.Joined.{joined}
 use Rattle.numbers.proofs.JoinLaws.{joined-length}
-use Rattle.written_numbers.proofs.WritingLaws.{Writing, writing-start, writing-past, writing-end}
 use Rattle.set_writer.specs.Writing.{sliceBytes}
 use Rattle.word.proofs.BoolLaws.{or-false, or-false-left, or-false-right}
 use Rattle.rows.specs.Row.{rowBytes}
 use Rattle.rows.specs.Lists.{listRow}
 use Rattle.rows.proofs.CellLaws.{row-step}
 use Rattle.set_layout.proofs.LayoutLaws.{rows-small}
-
--- ---- bytes
-
-abbrev pub BytesLeft : List ℕ → List ℕ → List ℕ → ℕ → ℕ → Type 0
-BytesLeft l₀ l bs at i = Writing l₀ l bs (drop i bs) at (at + i)
-
-pub bytes-start : (l bs : List ℕ) (at : ℕ) → BytesLeft l l bs at 0
-bytes-start l bs at = rw add-zero (writing-start l bs at)
-
-pub bytes-turn : (l₀ l bs : List ℕ) (at i : ℕ) → BytesLeft l₀ l bs at i → i < length bs → BytesLeft l₀ (set l (at + i) (getD bs i 0)) bs at (i + 1)
-bytes-turn l₀ l bs at i w h = record {
-  long = length-set l (at + i) (getD bs i 0) ∙ w .long;
-  rest =
-      let place : at + (i + 1) ≡ suc (at + i) = omega arith in
-      ap₂ (λ (p k : ℕ). sets (set l (at + i) (getD bs i 0)) p (drop k bs)) place (add-one i)
-      ∙ ap (sets l (at + i)) (sym (drop-cons bs i 0 h)) ∙ w .rest;
-}
-
-pub bytes-end : (l₀ l bs : List ℕ) (at i n : ℕ) → BytesLeft l₀ l bs at i → n ≡ min (length bs) (length l₀ - at) → i ≡ n → l ≡ sets l₀ at bs
-bytes-end l₀ l bs at i n w e z = dite (decLt i (length bs)) full whole
-  where
-    full : i < length bs → l ≡ sets l₀ at bs
-    full h = writing-past l₀ l bs (drop i bs) at (at + i) w (omega (arith, w .long))
-
-    whole : (i < length bs → ⊥) → l ≡ sets l₀ at bs
-    whole h = let end : length bs ≤ i = omega arith in writing-end l₀ l bs (drop i bs) at (at + i) w (drop-of-length-le bs end)
 
 -- ---- slices one after the other
 

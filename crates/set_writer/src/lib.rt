@@ -19,21 +19,6 @@ pub enum Written {
     Refused { number: u64 },
 }
 
-// The bytes from place `at` of out on; nothing past its end.
-fn write_bytes(out: &mut [u8], at: usize, bytes: &[u8])
-    ensures { λ _. ⌜ now (out .exit) ≡ sets (now (out .entry)) at (now (bytes .entry)) ⌝ }
-{
-    if out.len() <= at {
-        return;
-    }
-    let count = numbers::shorter(bytes.len(), out.len() - at);
-    let mut i = 0;
-    while i < count {
-        out[at + i] = bytes[i];
-        i += 1;
-    }
-}
-
 // What a set file has before its rows; nothing past the end of out.
 fn write_head(out: &mut [u8], m: u64, taps: u64, inversion: u64, spread: &[u64], s: u64)
     requires { ⌜ length (now spread) < 65536 ⌝ }
@@ -62,8 +47,8 @@ fn write_slices(out: &mut [u8], n: u16, s: u16, values: &[u8], marks: &[u8])
     let mut t: u16 = 0;
     while t < s {
         let end = from + bytes;
-        write_bytes(out, to, &values[from..end]);
-        write_bytes(out, to + bytes, &marks[from..end]);
+        written_numbers::write_bytes(out, to, &values[from..end]);
+        written_numbers::write_bytes(out, to + bytes, &marks[from..end]);
         to += 2 * bytes;
         from = end;
         t += 1;
@@ -75,7 +60,7 @@ fn write_ties(out: &mut [u8], n: u16, s: u16, count: u16, ties: &[u8])
     ensures { λ _. ⌜ now (out .exit) ≡ sets (now (out .entry)) (tieCountAt n s) (bytesOf 2 count ++ now (ties .entry)) ⌝ }
 {
     written_numbers::write_count(out, set_layout::tie_count_at(n, s), count as u64);
-    write_bytes(out, set_layout::ties_at(n, s), ties);
+    written_numbers::write_bytes(out, set_layout::ties_at(n, s), ties);
 }
 
 // The set writer: the set file of this content, over the front of the output; the rest of it stays. It meets 2, 3, 25, 4, 6, 7,

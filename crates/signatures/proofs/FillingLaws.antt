@@ -20,7 +20,7 @@ use Rattle.word.proofs.BoolLaws.{true-not-false}
 use Rattle.word.proofs.Laws.{mod2-lt, xor-assoc, xor-cancel}
 use Rattle.word.proofs.SpanLaws.{xor-of-xor}
 use Rattle.word.proofs.XorLaws.{xor-of-member, xor-of-inside, xor-of-moves}
-use Rattle.ties.specs.Symbols.{names, naming, freeMark, freeMarks, firstMark, firstMarks, Sound}
+use Rattle.ties.specs.Symbols.{names, naming, freeMark, freeMarks, firstMark, firstMarks, SoundTies}
 use Rattle.ties.proofs.SymbolLaws.{names-cell, names-own, naming-some, naming-none, naming-own}
 use Rattle.register.specs.Circuit.{chains}
 use Rattle.signatures.specs.Signature.{Response, signature, onlyCell, column}
@@ -34,7 +34,7 @@ use Rattle.signatures.proofs.TieLaws.{tied, tied-lt, chosenColumns, wit
 
 -- ties that are sound where they are given
 abbrev pub SoundFor : Given → Type 0
-SoundFor g = Sound (g .slices) (chains (g .wiring)) (g .marks) (g .ties)
+SoundFor g = SoundTies (g .slices) (chains (g .wiring)) (g .marks) (g .ties)
 
 module _ (g : Given) (sound : SoundFor g) where
   -- ---- responses that are alike in every known cell

@@ -16,7 +16,7 @@ use Rattle.word.specs.Some.{anyOf}
 use Rattle.word.proofs.BoolLaws.{iff-eq, or-cases, or-true-left, or-true-right}
 use Rattle.word.proofs.SomeLaws.{any-of-append}
 use Rattle.ties.specs.Ties.{Ties}
-use Rattle.ties.specs.Symbols.{naming, opens, flag, freeMark, freeMarks, firstMark, firstMarks, Sound}
+use Rattle.ties.specs.Symbols.{naming, opens, flag, freeMark, freeMarks, firstMark, firstMarks, SoundTies}
 use Rattle.ties.proofs.SymbolLaws.{naming-some, naming-own}
 use Rattle.register.specs.Circuit.{Circuit, chains}
 use Rattle.signatures.specs.Signature.{Response, column}
@@ -45,7 +45,7 @@ module _ (k : Circuit) (s : ℕ) (u : Response) (e : Ties) where
           ∙ listing-at (columnAt k s e) (firstMarks u e) (chains k) s t c lt lc (λ (z : firstMarks u e t c ≡ 0). m (sym mark ∙ z))
       go t c lt lc m q (some i) o = absurd (m (ap (freeMark (u t c)) o))
 
-  module _ (sound : Sound s (chains k) u e) where
+  module _ (sound : SoundTies s (chains k) u e) where
     pub first-member : (h : ℕ) → h < e .count → opens e h ≡ true → anyOf (eqb (symbolColumn k s e (e .symbol h))) (symbolColumns k s u e) ≡ true
     unfolding firstMarks columnAt
     first-member h l p =

@@ -16,7 +16,7 @@ use Rattle.rows.specs.Row.{cell, rowBytes}
 use Rattle.rows.specs.Lists.{cellsOf}
 use Rattle.rows.specs.Marks.{total}
 use Rattle.rows.specs.declared.Rows.{Rows}
-use Rattle.ties.specs.Symbols.{namedSymbols, Within, Sound}
+use Rattle.ties.specs.Symbols.{namedSymbols, Within, SoundTies}
 use Rattle.ties.proofs.SymbolLaws.{named-symbols-most}
 use Rattle.ties.proofs.SoundLaws.{sound-ties, sound-within}
 use Rattle.register.specs.Circuit.{chains}
@@ -60,7 +60,7 @@ module _ (set : List ℕ) (a : Accepted set) where
   -- 29 to 31 leave sound ties
   pub set-ties : SoundFor (given set)
   set-ties =
-      subst (λ (n : ℕ). Sound (slicesOf set) n (marks set) (tiesOf set)) (sym (spread-length set))
+      subst (λ (n : ℕ). SoundTies (slicesOf set) n (marks set) (tiesOf set)) (sym (spread-length set))
       (sound-ties (slicesOf set) (chainsOf set) (marks set) (tiesOf set) (a .ties) (a .order) (a .sides))
 
   pub set-ties-within : Within (slicesOf set) (chains (circuitOf set)) (tiesOf set)

@@ -30,7 +30,7 @@ use Rattle.word.proofs.XorLaws.{xor-below-none, xor-below-suc, xor-below-ext, x
 use Rattle.rows.specs.Marks.{total}
 use Rattle.chains.specs.Driven.{chosen}
 use Rattle.ties.specs.Ties.{Ties}
-use Rattle.ties.specs.Symbols.{names, namingBelow, naming, Sound}
+use Rattle.ties.specs.Symbols.{names, namingBelow, naming, SoundTies}
 use Rattle.ties.proofs.SymbolLaws.{names-cell, names-own, naming-some, one-name, opening}
 use Rattle.register.specs.Circuit.{Circuit, uninverted, chains}
 use Rattle.signatures.specs.Signature.{Response, signature, onlyCell, column}
@@ -109,7 +109,7 @@ abbrev pub digitOf : (ℕ → ℕ) → Option ℕ → ℕ
 digitOf a none = 0
 digitOf a (some i) = a i
 
-module _ (s n : ℕ) (u : Response) (e : Ties) (sound : Sound s n u e) (a : ℕ → ℕ) (digits : (i : ℕ) → i < e .count → a i < 2) where
+module _ (s n : ℕ) (u : Response) (e : Ties) (sound : SoundTies s n u e) (a : ℕ → ℕ) (digits : (i : ℕ) → i < e .count → a i < 2) where
   tied-below : (t c k : ℕ) → k ≤ e .count → tied a e k t c ≡ digitOf a (namingBelow e k t c)
   unfolding tied namingBelow
   tied-below t c zero h = refl
@@ -164,7 +164,7 @@ module _ (k : Circuit) (s : ℕ) (u : Response) (e : Ties) where
       (λ i. cond {A = ℕ} (eqb (e .symbol i) j) (column k s (e .slice i) (e .chain i)) 0)
       (λ i l. chosen-cond (eqb (e .symbol i) j) (column k s (e .slice i) (e .chain i)))
 
-  module _ (sound : Sound s (chains k) u e) where
+  module _ (sound : SoundTies s (chains k) u e) where
     pub symbol-listed : (j : ℕ) → isXorOf (symbolColumns k s u e) (symbolColumn k s e j) ≡ true
     unfolding symbolColumn
     symbol-listed j = go (anyBelow (e .count) (λ i. eqb (e .symbol i) j)) refl

@@ -16,7 +16,7 @@ use Rattle.word.proofs.BoolLaws.{and-both, or-cases, not-true}
 use Rattle.word.proofs.SomeLaws.{any-below-false}
 use Rattle.rows.specs.Row.{Cells}
 use Rattle.ties.specs.Ties.{Ties, wrongCell, wrongCells, precedes, wrongOrder, wrongSides}
-use Rattle.ties.specs.Symbols.{names, Within, Sound}
+use Rattle.ties.specs.Symbols.{names, Within, SoundTies}
 use Rattle.ties.proofs.SymbolLaws.{names-cell}
 
 not-false : (b : Bool) → not b ≡ false → b ≡ true
@@ -66,7 +66,7 @@ module _ (s n : ℕ) (u : ℕ → Cells) (e : Ties) (cells : wrongCells s n u e 
       ⊎-elim (λ (b : e .slice h < e .slice i). let z : ⊥ = omega (arith, same .0) in z)
       (λ (b : (e .slice h ≡ e .slice i) × (e .chain h < e .chain i)). let z : ⊥ = omega (arith, same .1, b .1) in z) (all-before h i l m))
 
-  pub sound-ties : Sound s n u e
+  pub sound-ties : SoundTies s n u e
   unfolding wrongSides
   sound-ties = record {
     slices = λ i l. right-cell i l .0;
@@ -79,5 +79,5 @@ module _ (s n : ℕ) (u : ℕ → Cells) (e : Ties) (cells : wrongCells s n u e 
       right-side : (i : ℕ) → i < e .count → e .side i < 2
       right-side i l = omega (arith, ltb-false 1 (e .side i) (any-below-false (e .count) (λ j. ltb 1 (e .side j)) sides i l))
 
-pub sound-within : (s n : ℕ) (u : ℕ → Cells) (e : Ties) → Sound s n u e → e .count ≤ 256 → Within s n e
+pub sound-within : (s n : ℕ) (u : ℕ → Cells) (e : Ties) → SoundTies s n u e → e .count ≤ 256 → Within s n e
 sound-within s n u e sound few = record { few = few; slices = sound .slices; chains = sound .chains }

@@ -29,7 +29,7 @@ use Rattle.word.proofs.SomeLaws.{any-below-none, any-below-true, any-below-fals
 use Rattle.rows.specs.Row.{Cells}
 use Rattle.rows.proofs.MarkLaws.{total-le}
 use Rattle.ties.specs.Ties.{Ties}
-use Rattle.ties.specs.Symbols.{names, namingBelow, naming, opens, flag, namedSymbols, freeMark, freeMarks, firstMark, firstMarks, unmarked, Sound}
+use Rattle.ties.specs.Symbols.{names, namingBelow, naming, opens, flag, namedSymbols, freeMark, freeMarks, firstMark, firstMarks, unmarked, SoundTies}
 
 -- ---- cells
 
@@ -75,7 +75,7 @@ unnamed e z t c = go (naming e t c) refl
     go (some i) q = let found = naming-some e (e .count) t c i q in let clash : ⊥ = omega (arith, found .0) in absurd clash
 
 -- no other entry names the cell of one
-module _ (s n : ℕ) (u : ℕ → Cells) (e : Ties) (sound : Sound s n u e) where
+module _ (s n : ℕ) (u : ℕ → Cells) (e : Ties) (sound : SoundTies s n u e) where
   pub one-name : (h i t c : ℕ) → h < e .count → i < e .count → names e h t c ≡ true → names e i t c ≡ true → h ≡ i
   one-name h i t c lh li ph pi =
       dite (ℕ-discrete h i) (λ (same : h ≡ i). same)
@@ -149,7 +149,7 @@ unmarked-free u e t c = go (naming e t c) refl
         ap (λ (b : Bool). cond b 0 (u t c))
         (any-below-true (e .count) (λ h. names e h t c && eqb (getD [] h 0) 0) i (found .0) (and-intro _ _ (found .1) refl))
 
-module _ (s n : ℕ) (u : ℕ → Cells) (e : Ties) (sound : Sound s n u e) (ks : List ℕ) (right : (i : ℕ) → i < e .count → getD ks i 0 ≡ flag e i) where
+module _ (s n : ℕ) (u : ℕ → Cells) (e : Ties) (sound : SoundTies s n u e) (ks : List ℕ) (right : (i : ℕ) → i < e .count → getD ks i 0 ≡ flag e i) where
   pub unmarked-first : (t c : ℕ) → unmarked u e ks t c ≡ firstMarks u e t c
   unfolding firstMarks
   unmarked-first t c = go (naming e t c) refl

@@ -11,7 +11,7 @@
 --   flag e i            1 where entry i is the first with its symbol number, and else 0
 --   unmarked u e ks t c the marks u without those of the cells that entries of e name whose flag in the list ks is 0; past its end it is
 --   Within s n e        the entries of e are at most 256, and their cells lie in s slices and n chains
---   Sound s n u e       what 29 to 31 leave: each entry names an unknown cell that is there, no two the same, and its side is 0 or 1
+--   SoundTies s n u e   what 29 to 31 leave: each entry names an unknown cell that is there, no two the same, and its side is 0 or 1
 use mathlib.Core.Path.{_≡_}
 use mathlib.Core.Bool.{Bool, cond, not, false, _&&_}
 use mathlib.Core.List.{List}
@@ -69,7 +69,7 @@ pub record Within (s n : ℕ) (e : Ties) : Type 0 where
   pub slices : (i : ℕ) → i < e .count → e .slice i < s
   pub chains : (i : ℕ) → i < e .count → e .chain i < n
 
-pub record Sound (s n : ℕ) (u : ℕ → Cells) (e : Ties) : Type 0 where
+pub record SoundTies (s n : ℕ) (u : ℕ → Cells) (e : Ties) : Type 0 where
   pub slices : (i : ℕ) → i < e .count → e .slice i < s
   pub chains : (i : ℕ) → i < e .count → e .chain i < n
   pub unknown : (i : ℕ) → i < e .count → u (e .slice i) (e .chain i) ≡ 1

@@ -71,3 +71,18 @@ pub fn write_words(out: &mut [u8], at: usize, words: &[u64])
         c += 1;
     }
 }
+
+// The bytes from place `at` of out on; nothing past its end.
+pub fn write_bytes(out: &mut [u8], at: usize, bytes: &[u8])
+    ensures { λ _. ⌜ now (out .exit) ≡ sets (now (out .entry)) at (now (bytes .entry)) ⌝ }
+{
+    if out.len() <= at {
+        return;
+    }
+    let count = numbers::shorter(bytes.len(), out.len() - at);
+    let mut i = 0;
+    while i < count {
+        out[at + i] = bytes[i];
+        i += 1;
+    }
+}

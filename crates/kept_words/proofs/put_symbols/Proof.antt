@@ -20,8 +20,8 @@ few : (c : tie.After-count-flags) → c .count-flags .result ≤ 256
 few c =
     few-flags (c .before .before .opening-flags .result) (c .before .before .before .tie-limit .result) _ (omega (arith, c .before .before .before .tie-limit .ensures)) (c .count-flags .ensures)
 
-add-places : tie.Need-add-places
-add-places c = omega (arith, few c)
+add-end : tie.Need-add-end
+add-end c = omega (arith, few c)
 
 returns-2 : tie.Need-returns-2
 returns-2 c = (
@@ -52,7 +52,7 @@ put-symbols-spec =
     (λ c. search needs)
     slice-aggregate-count-flags
     (λ c κs. search needs)
-    add-places
+    add-end
     returns-2
     (λ c. search needs)
     (λ c. search needs)

@@ -1,12 +1,12 @@
 -- `write_bytes` meets its contract: the bytes from `i` on are left to be written.
 use borrow.Author.Needs.{needs}
-use Rattle.set_writer.proofs.WriteLaws.{BytesLeft, bytes-start, bytes-turn, bytes-end}
+use Rattle.written_numbers.proofs.BytesLaws.{BytesLeft, bytes-start, bytes-turn, bytes-end}
 use Rattle.numbers.proofs.ByteLaws.{sets-past-end}
 use native.Mathlib.Omega.{arith}
 use Prim.Native.Nat.{_≤_, _-_}
 use mathlib.Core.Path.{sym}
-use Rattle.set_writer.proofs.write_bytes.Statement.{statement}
-use Rattle.set_writer.proofs.write_bytes.Tie as tie
+use Rattle.written_numbers.proofs.write_bytes.Statement.{statement}
+use Rattle.written_numbers.proofs.write_bytes.Tie as tie
 
 abbrev Inv-loop : tie.InvT-loop
 Inv-loop out₀ at bytes count i₀ out i = (i ≤ count) × BytesLeft out₀ out bytes at i
