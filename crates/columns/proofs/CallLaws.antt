@@ -5,6 +5,8 @@
 --   list-past-set        past the set's numbers only 14 is left
 --   list-short           the list is shorter than the number of symbols
 --   list-answers         the columns are written
+--   whole, own-slices    a taken set is accepted, and has at most 512 slices
+--   own-marks            its rows of marks are the set's
 --   unknowns-are         the marks of a taken set counted are its unknown cells
 --   bare-symbols         .. and its symbols, where it has no entries of ties
 --   bare-columns         the columns of a taken set's marked cells are the set's, where it has none

@@ -3,12 +3,12 @@
 --
 --   Alone r n            rows of n chains that stand in a list of nothing else
 --   filled-columns       the columns of the marked cells fill a list that is as long
+--   flags-in             the flags made are the entries'
 --   heads-in             such rows mark the first cells of the symbols
 --   head-symbols         the marks counted are the symbols
 --   head-columns         the columns listed for them are the set's
 -- Assumes nothing.
 use mathlib.Core.Path.{_≡_, refl, sym, ap, ap₂, subst, _∙_}
-use mathlib.Core.Bool.{Bool, cond}
 use mathlib.Core.List.{List}
 use mathlib.Core.Option.{Option, none, some}
 use Prim.Native.Nat.{ℕ, suc, _+_, _-_, _*_, _≤_, _<_, min}
@@ -20,7 +20,6 @@ use Rattle.rows.specs.Row.{Cells, cell, rowBytes}
 use Rattle.rows.specs.Lists.{rowOf, listRow, cellsOf}
 use Rattle.rows.specs.Marks.{total}
 use Rattle.rows.specs.declared.Rows.{Rows}
-use Rattle.rows.proofs.CellLaws.{cell-lt}
 use Rattle.rows.proofs.MarkLaws.{total-suc, total-ext, total-le, total-add, row-total}
 use Rattle.ties.specs.Ties.{Ties, tiesIn}
 use Rattle.ties.specs.Symbols.{naming, flag, firstMark, firstMarks, unmarked, Sound}
@@ -28,7 +27,6 @@ use Rattle.ties.proofs.SymbolLaws.{names-cell, naming-some, naming-own, unmarke
 use Rattle.register.specs.Circuit.{Circuit, chains}
 use Rattle.marked_words.specs.Back.{back}
 use Rattle.marked_words.proofs.BackLaws.{back-whole}
-use Rattle.chains.specs.Driven.{badSpread}
 use Rattle.set_layout.specs.Layout.{circuitOf, chainsOf, slicesOf, markAt, markRow, marks, tieCountOf, tieBytes, tiesOf}
 use Rattle.set_layout.proofs.LayoutLaws.{spread-length}
 use Rattle.set_file.specs.Reading.{takenCircuit, TakenFrom}
