@@ -5,9 +5,11 @@
 --   list-past-set        past the set's numbers only 14 is left
 --   list-short           the list is shorter than the number of symbols
 --   list-answers         the columns are written
+--   whole, own-slices    a taken set is accepted, and has at most 512 slices
+--   own-marks            its rows of marks are the set's
 --   unknowns-are         the marks of a taken set counted are its unknown cells
---   bare-symbols         .. and its symbols, where it has no entries of ties
---   bare-columns         the columns of a taken set's marked cells are the set's, where it has none
+--   bare-short           .. its symbols, where it has no entries of ties, and the list is shorter
+--   bare-listed          the columns of its marked cells are the set's, where it has none
 -- Assumes nothing.
 use mathlib.Core.Path.{_≡_, refl, sym, ap, ap₂, _∙_}
 use mathlib.Core.List.{List, [], _∷_, _++_}
@@ -90,7 +92,7 @@ module _ (set : List ℕ) (k : Taken) (taken : TakenFrom set k) where
 
     -- without entries of ties
     module _ (count : ℕ) (ec : count ≡ tieCountOf set) (z : count ≡ 0) where
-      pub bare-symbols : (symbols : ℕ) → symbols ≡ total (k .s) (λ t. total 256 (cellsOf set r t)) → symbols ≡ symbolsOf set
+      bare-symbols : (symbols : ℕ) → symbols ≡ total (k .s) (λ t. total 256 (cellsOf set r t)) → symbols ≡ symbolsOf set
       unfolding unknownsOf symbolsOf
       bare-symbols symbols es = unknowns-are symbols es ∙ sym (symbols-free (given set) (sym ec ∙ z))
 
@@ -101,8 +103,19 @@ module _ (set : List ℕ) (k : Taken) (taken : TakenFrom set k) where
           ∙ columns-ext (circuitOf set) (slicesOf set) (cellsOf set r) (marks set) (slicesOf set) (λ t c lt lc. own-marks t c)
           ∙ sym (columns-free (given set) (sym ec ∙ z))
 
-      pub bare-columns : (symbols : ℕ) (l part : List ℕ) → symbols ≡ symbolsOf set → symbols ≤ length l
+      bare-columns : (symbols : ℕ) (l part : List ℕ) → symbols ≡ symbolsOf set → symbols ≤ length l
           → part ≡ back (columnsBelow (takenCircuit k) (min (k .s) 512) (cellsOf set r) (min (k .s) 512)) (take symbols l) → part ≡ columnsOf set
       bare-columns symbols l part many h ep =
           ep ∙ ap (λ (x : List ℕ). back x (take symbols l)) columns-are
           ∙ back-whole (columnsOf set) (take symbols l) (length-columns set ∙ sym many ∙ sym (length-take-le symbols l h))
+
+      -- the ways out
+      module _ (symbols : ℕ) (es : symbols ≡ total (k .s) (λ t. total 256 (cellsOf set r t))) (l : List ℕ) where
+        pub bare-short : length l < symbols → Lists set l (refusal 14) l
+        bare-short h = list-short set l (taken .none) symbols (bare-symbols symbols es) h
+
+        pub bare-listed : (part : List ℕ) → symbols ≤ length l
+            → part ≡ back (columnsBelow (takenCircuit k) (min (k .s) 512) (cellsOf set r) (min (k .s) 512)) (take symbols l)
+            → Lists set l (answer symbols) (part ++ drop symbols l)
+        bare-listed part h ep =
+            list-answers set l (taken .none) symbols (bare-symbols symbols es) part h (bare-columns symbols l part (bare-symbols symbols es) h ep)

@@ -3,24 +3,24 @@
 --
 --   Alone r n            rows of n chains that stand in a list of nothing else
 --   filled-columns       the columns of the marked cells fill a list that is as long
+--   flags-in             the flags made are the entries'
 --   heads-in             such rows mark the first cells of the symbols
---   head-symbols         the marks counted are the symbols
---   head-columns         the columns listed for them are the set's
+--   heads-short          the marks counted are the symbols, and the list is shorter
+--   heads-listed         the columns listed for them are the set's
 -- Assumes nothing.
 use mathlib.Core.Path.{_≡_, refl, sym, ap, ap₂, subst, _∙_}
-use mathlib.Core.Bool.{Bool, cond}
-use mathlib.Core.List.{List}
+use mathlib.Core.List.{List, _++_}
 use mathlib.Core.Option.{Option, none, some}
 use Prim.Native.Nat.{ℕ, suc, _+_, _-_, _*_, _≤_, _<_, min}
 use native.Mathlib.Nat.{zero-add, mul-zero}
 use native.Mathlib.Omega.{arith}
 use lib.ListN.{length, take, drop, getD}
 use lib.Seq.{length-take-le}
+use Rattle.word.specs.Reply.{answer, refusal}
 use Rattle.rows.specs.Row.{Cells, cell, rowBytes}
 use Rattle.rows.specs.Lists.{rowOf, listRow, cellsOf}
 use Rattle.rows.specs.Marks.{total}
 use Rattle.rows.specs.declared.Rows.{Rows}
-use Rattle.rows.proofs.CellLaws.{cell-lt}
 use Rattle.rows.proofs.MarkLaws.{total-suc, total-ext, total-le, total-add, row-total}
 use Rattle.ties.specs.Ties.{Ties, tiesIn}
 use Rattle.ties.specs.Symbols.{naming, flag, firstMark, firstMarks, unmarked, SoundTies}
@@ -28,7 +28,6 @@ use Rattle.ties.proofs.SymbolLaws.{names-cell, naming-some, naming-own, unmarke
 use Rattle.register.specs.Circuit.{Circuit, chains}
 use Rattle.marked_words.specs.Back.{back}
 use Rattle.marked_words.proofs.BackLaws.{back-whole}
-use Rattle.chains.specs.Driven.{badSpread}
 use Rattle.set_layout.specs.Layout.{circuitOf, chainsOf, slicesOf, markAt, markRow, marks, tieCountOf, tieBytes, tiesOf}
 use Rattle.set_layout.proofs.LayoutLaws.{spread-length}
 use Rattle.set_file.specs.Reading.{takenCircuit, TakenFrom}
@@ -43,7 +42,7 @@ use Rattle.signatures.proofs.SetLaws.{set-ties, set-ties-within}
 use Rattle.symbol_columns.specs.Powered.{FlagsIn}
 use Rattle.listed_symbols.specs.Heads.{HeadsIn}
 use Rattle.listed_symbols.proofs.BeforeLaws.{cells-lt}
-use Rattle.columns.proofs.CallLaws.{whole, own-slices, own-marks}
+use Rattle.columns.proofs.CallLaws.{Lists, list-short, list-answers, whole, own-slices, own-marks}
 
 abbrev pub Alone : Rows → ℕ → Type 0
 Alone r n = (r .at ≡ 0) × (r .stride ≡ rowBytes n) × (r .bytes ≡ rowBytes n)
@@ -170,7 +169,7 @@ module _ (set : List ℕ) (k : Taken) (taken : TakenFrom set k) (r : Rows)
       (subst (λ (z : Ties). HeadsIn (circuitOf set) (slicesOf set) (cellsOf heads r′) z) (sym same-ties) (firsts-in set own (cellsOf heads r′) cells-first)))
 
   module _ (symbols : ℕ) (es : symbols ≡ total (k .s) (λ t. total 256 (cellsOf heads r′ t))) where
-    pub head-symbols : symbols ≡ symbolsOf set
+    head-symbols : symbols ≡ symbolsOf set
     head-symbols =
         es ∙ ap (λ (s : ℕ). total s (λ t. total 256 (cellsOf heads r′ t))) (taken .slices) ∙ first-symbols set own (cellsOf heads r′) cells-first
 
@@ -184,7 +183,7 @@ module _ (set : List ℕ) (k : Taken) (taken : TakenFrom set k) (r : Rows)
         ∙ ap (λ (s : ℕ). total s (λ t. total 256 (cellsOf heads r′ t))) (own-slices set k taken ∙ sym (taken .slices)) ∙ sym es
         ∙ sym (length-take-le symbols l h)
 
-    pub head-columns : (l part : List ℕ) → symbols ≤ length l
+    head-columns : (l part : List ℕ) → symbols ≤ length l
         → (HeadsIn (takenCircuit k) (min (k .s) 512) (cellsOf heads r′) (tiesIn ties count) → FlagsIn flags (tiesIn ties count)
         → length (columnsBelow (takenCircuit k) (min (k .s) 512) (cellsOf heads r′) (min (k .s) 512)) ≡ length (take symbols l)
         → part ≡ listing (columnAt (takenCircuit k) (min (k .s) 512) (tiesIn ties count)) (cellsOf heads r′) (chains (takenCircuit k)) (min (k .s) 512))
@@ -194,3 +193,14 @@ module _ (set : List ℕ) (k : Taken) (taken : TakenFrom set k) (r : Rows)
         ∙ ap₂ (λ (x : Circuit) (y : ℕ). listing (columnAt x y (tiesIn ties count)) (cellsOf heads r′) (chains x) y) (taken .circuit) (own-slices set k taken)
         ∙ ap (λ (z : Ties). listing (columnAt (circuitOf set) (slicesOf set) z) (cellsOf heads r′) (chains (circuitOf set)) (slicesOf set)) same-ties
         ∙ first-columns set own (cellsOf heads r′) cells-first
+
+    -- the ways out
+    pub heads-short : (l : List ℕ) → length l < symbols → Lists set l (refusal 14) l
+    heads-short l h = list-short set l (taken .none) symbols head-symbols h
+
+    pub heads-listed : (l part : List ℕ) → symbols ≤ length l
+        → (HeadsIn (takenCircuit k) (min (k .s) 512) (cellsOf heads r′) (tiesIn ties count) → FlagsIn flags (tiesIn ties count)
+        → length (columnsBelow (takenCircuit k) (min (k .s) 512) (cellsOf heads r′) (min (k .s) 512)) ≡ length (take symbols l)
+        → part ≡ listing (columnAt (takenCircuit k) (min (k .s) 512) (tiesIn ties count)) (cellsOf heads r′) (chains (takenCircuit k)) (min (k .s) 512))
+        → Lists set l (answer symbols) (part ++ drop symbols l)
+    heads-listed l part h written = list-answers set l (taken .none) symbols head-symbols part h (head-columns l part h written)

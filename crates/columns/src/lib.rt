@@ -70,11 +70,11 @@ fn list_named(taken: Taken, set: &[u8], count: u16, columns: &mut [u64]) -> List
     let marks = set_layout::mark_rows(n);
     let heads = free_marks::unmark(set, marks, n, s, ties, count, &flags[..]);
     let rows = free_marks::list_rows(n);
-    let symbols = marked_words::count_marks(&heads[..], rows, s);
-    if (columns.len() as u64) < symbols {
+    let found = marked_words::count_marks(&heads[..], rows, s);
+    if (columns.len() as u64) < found {
         return Listed::Declined { number: 14 };
     }
-    let end = symbols as usize;
+    let end = found as usize;
     fill_named(
         taken,
         ties,
@@ -84,7 +84,7 @@ fn list_named(taken: Taken, set: &[u8], count: u16, columns: &mut [u64]) -> List
         rows,
         &mut columns[..end],
     );
-    Listed::Count { symbols }
+    Listed::Count { symbols: found }
 }
 
 // The columns of a set's symbols, by slice and then by chain, at the front of the lent list, and how many there are. It meets the set's

@@ -4,14 +4,15 @@
 --   set-starts              .. of no entry: the cells' own
 --   set-turns               .. of one more
 --   set-ends                .. of all
+--   opens-entry             an entry whose flag isn't 0 is its symbol's first
 --   set-none, set-past, set-one   what is set, by the flag and the room
 --   set-slices              for a number of slices that is another's
 -- Assumes nothing.
 use mathlib.Core.Path.{_≡_, refl, sym, ap, ap₂, subst, _∙_}
 use mathlib.Core.Bool.{Bool, true, false, cond}
-use mathlib.Core.List.{List, [], _∷_}
-use mathlib.Core.Option.{Option, some}
-use Prim.Native.Nat.{ℕ, zero, suc, _+_, _≤_, _<_}
+use mathlib.Core.List.{List}
+use mathlib.Core.Option.{some}
+use Prim.Native.Nat.{ℕ, suc, _+_, _≤_, _<_}
 use native.Mathlib.Numerals.{add-one}
 use native.Mathlib.Omega.{arith}
 use lib.ListN.{length, set}

@@ -3,7 +3,7 @@ use mathlib.Core.Path.{sym}
 use lib.Seq.{length-take-le}
 use borrow.Author.Needs.{needs}
 use Rattle.set_file.proofs.ReadLaws.{refused-set, taken-set}
-use Rattle.columns.proofs.CallLaws.{list-set-refused, list-short, list-answers, bare-symbols, bare-columns}
+use Rattle.columns.proofs.CallLaws.{list-set-refused, bare-short, bare-listed}
 use Rattle.columns.proofs.list_columns.Statement.{statement}
 use Rattle.columns.proofs.list_columns.Tie as tie
 
@@ -20,22 +20,18 @@ returns-2 c =
 returns-3 : tie.Need-returns-3
 returns-3 c =
     let taken = taken-set _ _ _ _ _ _ (c .before .before .before .before .before .before .before .before .before .read-set .ensures) (c .before .before .before .before .before .before .before .answer .given .1) in
-    let many = bare-symbols _ _ taken _ (c .before .before .mark-rows .ensures) _ (c .before .before .before .before .tie-count .ensures) (c .before .before .before .if1 .left) _ (c .before .count-marks .ensures) in
-    list-short _ (c .before .before .before .before .before .before .before .before .before .before .before .before .args .columns .now) (taken .none) _ many (c .if2 .taken)
+    bare-short _ _ taken _ (c .before .before .mark-rows .ensures) _ (c .before .before .before .before .tie-count .ensures) (c .before .before .before .if1 .left) _ (c .before .count-marks .ensures)
+    (c .before .before .before .before .before .before .before .before .before .before .before .before .args .columns .now) (c .if2 .taken)
 
 slice-aggregate-fill-columns : tie.Need-slice-aggregate-fill-columns
 slice-aggregate-fill-columns c = sym (length-take-le _ _ (search needs))
 
 returns-4 : tie.Need-returns-4
 returns-4 c =
-    let columns = c .before .before .before .before .before .before .before .before .before .before .before .before .before .before .before .before .args .columns .now in
     let taken = taken-set _ _ _ _ _ _ (c .before .before .before .before .before .before .before .before .before .before .before .before .before .read-set .ensures) (c .before .before .before .before .before .before .before .before .before .before .before .answer .given .1) in
-    let marks = c .before .before .before .before .before .before .mark-rows .ensures in
-    let count = c .before .before .before .before .before .before .before .before .tie-count .ensures in
-    let bare = c .before .before .before .before .before .before .before .if1 .left in
-    let many = bare-symbols _ _ taken _ marks _ count bare _ (c .before .before .before .before .before .count-marks .ensures) in
-    let room = c .before .before .before .before .if2 .left in
-    list-answers _ columns (taken .none) _ many _ room (bare-columns _ _ taken _ marks _ count bare _ columns _ many room (c .before .before .fill-columns .ensures))
+    let count = c .before .before .before .before .before .count-marks in
+    bare-listed _ _ taken _ (c .before .before .before .before .before .before .mark-rows .ensures) _ (c .before .before .before .before .before .before .before .before .tie-count .ensures) (c .before .before .before .before .before .before .before .if1 .left) _ (count .ensures) (c .before .before .before .before .before .before .before .before .before .before .before .before .before .before .before .before .args .columns .now) _
+    (c .before .before .before .before .if2 .left) (c .before .before .fill-columns .ensures)
 
 pub list-columns-spec : {M : Type 1} → statement M
 list-columns-spec =

@@ -2,8 +2,7 @@
 use mathlib.Core.Path.{sym}
 use lib.Seq.{length-take-le}
 use borrow.Author.Needs.{needs}
-use Rattle.columns.proofs.CallLaws.{list-short, list-answers}
-use Rattle.columns.proofs.FirstLaws.{head-symbols, head-columns}
+use Rattle.columns.proofs.FirstLaws.{heads-short, heads-listed}
 use Rattle.columns.proofs.list_named.Statement.{statement}
 use Rattle.columns.proofs.list_named.Tie as tie
 
@@ -15,11 +14,8 @@ returns c taken ec =
     let marks = c .before .before .before .before .before .before .mark-rows in
     let heads = c .before .before .before .before .unmark in
     let rows = c .before .before .before .list-rows in
-    let many =
-    head-symbols (args .set .now) (args .taken) taken (marks .result) (marks .ensures) (ties .result .now) (flags .result) (heads .result) (args .count) (rows .result) ec (ties .ensures)
-    (flags .ensures .0) (heads .ensures) (rows .ensures) _ (c .before .count-marks .ensures)
-    in
-    list-short (args .set .now) (args .columns .now) (taken .none) _ many (c .if1 .taken)
+    heads-short (args .set .now) (args .taken) taken (marks .result) (marks .ensures) (ties .result .now) (flags .result) (heads .result) (args .count) (rows .result) ec (ties .ensures)
+    (flags .ensures .0) (heads .ensures) (rows .ensures) _ (c .before .count-marks .ensures) (args .columns .now) (c .if1 .taken)
 
 slice-aggregate-fill-named-3 : tie.Need-slice-aggregate-fill-named-3
 slice-aggregate-fill-named-3 c = sym (length-take-le _ _ (search needs))
@@ -32,16 +28,8 @@ returns-2 c taken ec =
     let marks = c .before .before .before .before .before .before .before .before .before .before .before .before .mark-rows in
     let heads = c .before .before .before .before .before .before .before .before .before .before .unmark in
     let rows = c .before .before .before .before .before .before .before .before .before .list-rows in
-    let count = c .before .before .before .before .before .before .before .count-marks in
-    let many =
-    head-symbols (args .set .now) (args .taken) taken (marks .result) (marks .ensures) (ties .result .now) (flags .result) (heads .result) (args .count) (rows .result) ec (ties .ensures)
-    (flags .ensures .0) (heads .ensures) (rows .ensures) _ (count .ensures)
-    in
-    let written =
-    head-columns (args .set .now) (args .taken) taken (marks .result) (marks .ensures) (ties .result .now) (flags .result) (heads .result) (args .count) (rows .result) ec (ties .ensures)
-    (flags .ensures .0) (heads .ensures) (rows .ensures) _ (count .ensures) (args .columns .now) _ (c .before .before .before .before .before .before .if1 .left) (c .before .before .fill-named .ensures)
-    in
-    list-answers (args .set .now) (args .columns .now) (taken .none) _ many _ (c .before .before .before .before .before .before .if1 .left) written
+    heads-listed (args .set .now) (args .taken) taken (marks .result) (marks .ensures) (ties .result .now) (flags .result) (heads .result) (args .count) (rows .result) ec (ties .ensures)
+    (flags .ensures .0) (heads .ensures) (rows .ensures) _ (c .before .before .before .before .before .before .before .count-marks .ensures) (args .columns .now) _ (c .before .before .before .before .before .before .if1 .left) (c .before .before .fill-named .ensures)
 
 pub list-named-spec : {M : Type 1} → statement M
 list-named-spec =
