@@ -5,15 +5,12 @@
 --   list-past-set        past the set's numbers only 14 is left
 --   list-short           the list is shorter than the number of symbols
 --   list-answers         the columns are written
---   whole, own-slices    a taken set is accepted, and has at most 512 slices
---   own-marks            its rows of marks are the set's
---   unknowns-are         the marks of a taken set counted are its unknown cells
---   bare-short           .. its symbols, where it has no entries of ties, and the list is shorter
+--   bare-short           the marks of a taken set counted are its symbols, where it has no entries of ties, and the list is shorter
 --   bare-listed          the columns of its marked cells are the set's, where it has none
 -- Assumes nothing.
 use mathlib.Core.Path.{_≡_, refl, sym, ap, ap₂, _∙_}
 use mathlib.Core.List.{List, [], _∷_, _++_}
-use Prim.Native.Nat.{ℕ, _*_, _≤_, _<_, min}
+use Prim.Native.Nat.{ℕ, _≤_, _<_, min}
 use native.Mathlib.Omega.{arith}
 use borrow.Author.Tests.{lt-ltb, le-ltb}
 use lib.Dec.{ltb}
@@ -22,24 +19,22 @@ use lib.Seq.{length-take-le}
 use Rattle.word.specs.Reply.{_when_, Reply, answer, refusal, firstOf, front, lent}
 use Rattle.word.proofs.ReplyLaws.{refused-leaves, answered-writes}
 use Rattle.word.proofs.TestLaws.{first-of-later, first-sooner}
-use Rattle.rows.specs.Row.{cell, rowBytes}
 use Rattle.rows.specs.Lists.{cellsOf}
 use Rattle.rows.specs.Marks.{total}
 use Rattle.rows.specs.declared.Rows.{Rows}
-use Rattle.rows.proofs.MarkLaws.{total-ext}
 use Rattle.register.specs.Circuit.{Circuit}
 use Rattle.marked_words.specs.Back.{back}
 use Rattle.marked_words.proofs.BackLaws.{back-whole}
-use Rattle.set_layout.specs.Layout.{circuitOf, slicesOf, markAt, marks, tieCountOf}
-use Rattle.set_layout.proofs.SliceLaws.{mark-rows-row}
+use Rattle.set_layout.specs.Layout.{circuitOf, slicesOf, marks, tieCountOf}
 use Rattle.set_file.specs.Reading.{setTests, takenCircuit, TakenFrom}
 use Rattle.set_file.specs.declared.Taken.{Taken}
-use Rattle.set_file.proofs.Laws.{Accepted, accepted, set-numbered}
+use Rattle.set_file.proofs.Laws.{set-numbered}
 use Rattle.signatures.specs.Columns.{columnsBelow}
 use Rattle.signatures.specs.Sets.{given, columnsOf, symbolsOf, unknownsOf}
 use Rattle.signatures.proofs.ColumnLaws.{columns-ext}
 use Rattle.signatures.proofs.FreeLaws.{columns-free, symbols-free}
-use Rattle.signatures.proofs.SetLaws.{length-columns, marks-counted}
+use Rattle.signatures.proofs.SetLaws.{length-columns}
+use Rattle.signatures.proofs.TakenLaws.{own-slices, Marks, own-marks, unknowns-counted}
 use Rattle.columns.specs.Listing.{listTests, listReply}
 
 -- ---- the ways out
@@ -73,34 +68,18 @@ module _ (set l : List ℕ) (none : firstOf (setTests set) ≡ 0) (symbols : ℕ
 -- ---- a taken set
 
 module _ (set : List ℕ) (k : Taken) (taken : TakenFrom set k) where
-  pub whole : Accepted set
-  whole = accepted set (taken .none)
-
-  pub own-slices : min (k .s) 512 ≡ slicesOf set
-  own-slices = omega (arith, taken .slices, whole .slices)
-
-  module _ (r : Rows) (e : (r .at ≡ markAt (k .n) 0) × (r .stride ≡ 2 * rowBytes (k .n)) × (r .bytes ≡ rowBytes (k .n))) where
-    pub own-marks : (t c : ℕ) → cellsOf set r t c ≡ marks set t c
-    own-marks t c = ap (λ (row : List ℕ). cell row c) (mark-rows-row set (k .n) r (taken .chains) e t)
-
-    pub unknowns-are : (unknowns : ℕ) → unknowns ≡ total (k .s) (λ t. total 256 (cellsOf set r t)) → unknowns ≡ unknownsOf set
-    unknowns-are unknowns eu =
-        eu
-        ∙ total-ext (k .s) (λ t. total 256 (cellsOf set r t)) (λ t. total 256 (marks set t))
-        (λ t h. total-ext 256 (cellsOf set r t) (marks set t) (λ c l. own-marks t c))
-        ∙ ap (λ (s : ℕ). total s (λ t. total 256 (marks set t))) (taken .slices) ∙ marks-counted set whole
-
+  module _ (r : Rows) (e : Marks r (k .n)) where
     -- without entries of ties
     module _ (count : ℕ) (ec : count ≡ tieCountOf set) (z : count ≡ 0) where
       bare-symbols : (symbols : ℕ) → symbols ≡ total (k .s) (λ t. total 256 (cellsOf set r t)) → symbols ≡ symbolsOf set
       unfolding unknownsOf symbolsOf
-      bare-symbols symbols es = unknowns-are symbols es ∙ sym (symbols-free (given set) (sym ec ∙ z))
+      bare-symbols symbols es = unknowns-counted set k taken r e symbols es ∙ sym (symbols-free (given set) (sym ec ∙ z))
 
       columns-are : columnsBelow (takenCircuit k) (min (k .s) 512) (cellsOf set r) (min (k .s) 512) ≡ columnsOf set
       unfolding columnsOf
       columns-are =
-          ap₂ (λ (x : Circuit) (y : ℕ). columnsBelow x y (cellsOf set r) y) (taken .circuit) own-slices
-          ∙ columns-ext (circuitOf set) (slicesOf set) (cellsOf set r) (marks set) (slicesOf set) (λ t c lt lc. own-marks t c)
+          ap₂ (λ (x : Circuit) (y : ℕ). columnsBelow x y (cellsOf set r) y) (taken .circuit) (own-slices set k taken)
+          ∙ columns-ext (circuitOf set) (slicesOf set) (cellsOf set r) (marks set) (slicesOf set) (λ t c lt lc. own-marks set k taken r e t c)
           ∙ sym (columns-free (given set) (sym ec ∙ z))
 
       bare-columns : (symbols : ℕ) (l part : List ℕ) → symbols ≡ symbolsOf set → symbols ≤ length l

@@ -1,7 +1,6 @@
 -- The columns of the symbols of a taken set with entries of ties, from a copy of its rows of marks in which the first cell of each named symbol
 -- is the only one of its cells.
 --
---   Alone r n            rows of n chains that stand in a list of nothing else
 --   filled-columns       the columns of the marked cells fill a list that is as long
 --   flags-in             the flags made are the entries'
 --   heads-in             such rows mark the first cells of the symbols
@@ -23,6 +22,7 @@ use Rattle.rows.specs.Marks.{total}
 use Rattle.rows.specs.declared.Rows.{Rows}
 use Rattle.rows.proofs.MarkLaws.{total-suc, total-ext, total-le, total-add, row-total}
 use Rattle.ties.specs.Ties.{Ties, tiesIn}
+use Rattle.free_marks.proofs.AloneLaws.{Alone, alone-row}
 use Rattle.ties.specs.Symbols.{naming, flag, firstMark, firstMarks, unmarked, SoundTies}
 use Rattle.ties.proofs.SymbolLaws.{names-cell, naming-some, naming-own, unmarked-first}
 use Rattle.register.specs.Circuit.{Circuit, chains}
@@ -39,19 +39,11 @@ use Rattle.signatures.specs.Symbols.{columnAt, listing}
 use Rattle.signatures.specs.Sets.{columnsOf, symbolsOf}
 use Rattle.signatures.proofs.ListingLaws.{listing-ext, same-listed, listing-columns, length-listing, total-grows}
 use Rattle.signatures.proofs.SetLaws.{set-ties, set-ties-within}
+use Rattle.signatures.proofs.TakenLaws.{whole, own-slices, own-marks}
 use Rattle.symbol_columns.specs.Powered.{FlagsIn}
 use Rattle.listed_symbols.specs.Heads.{HeadsIn}
 use Rattle.listed_symbols.proofs.BeforeLaws.{cells-lt}
-use Rattle.columns.proofs.CallLaws.{Lists, list-short, list-answers, whole, own-slices, own-marks}
-
-abbrev pub Alone : Rows → ℕ → Type 0
-Alone r n = (r .at ≡ 0) × (r .stride ≡ rowBytes n) × (r .bytes ≡ rowBytes n)
-
-alone-row : (l : List ℕ) (r : Rows) (n t : ℕ) → Alone r n → rowOf l r t ≡ listRow n l t
-unfolding listRow
-alone-row l r n t e =
-    let place : r .at + r .stride * t ≡ rowBytes n * t = ap₂ (λ (a b : ℕ). a + b * t) (e .0) (e .1) ∙ zero-add (rowBytes n * t) in
-    ap₂ (λ (b i : ℕ). take b (drop i l)) (e .2) place
+use Rattle.columns.proofs.CallLaws.{Lists, list-short, list-answers}
 
 -- ---- the list filled
 

@@ -1,6 +1,6 @@
 -- Each way out of the call that gives the expected bits of a list of words, and what it answers; and what the call answers for a list that
 -- meets no number (expect-answered). Assumes nothing.
-use mathlib.Core.Path.{_≡_, sym, ap, ap₂, _∙_, subst}
+use mathlib.Core.Path.{_≡_, sym, ap, ap₂, _∙_}
 use mathlib.Core.Bool.{true, false}
 use mathlib.Core.List.{List}
 use Prim.Native.Nat.{ℕ, _≤_, min}
@@ -15,7 +15,7 @@ use Rattle.word.proofs.TestLaws.{none-and-rest, first-of-later, first-sooner}
 use Rattle.combinations.specs.Reduced.{isReduced}
 use Rattle.reduced_list.specs.WordCount.{badWordCount}
 use Rattle.reduced_list.proofs.CountLaws.{good-count}
-use Rattle.ties.specs.Ties.{Ties, tiesIn}
+use Rattle.ties.specs.Ties.{tiesIn}
 use Rattle.ties.specs.Symbols.{Within}
 use Rattle.chains.specs.Driven.{badSpread}
 use Rattle.register.specs.Circuit.{Circuit, chains}
@@ -26,7 +26,8 @@ use Rattle.set_file.proofs.Laws.{accepted, accepted-width, set-numbered}
 use Rattle.signatures.specs.Signature.{signature}
 use Rattle.signatures.specs.Symbols.{sideColumns}
 use Rattle.signatures.specs.Sets.{zeroSignature}
-use Rattle.signatures.proofs.SetLaws.{set-ties-within, zero-of-values}
+use Rattle.signatures.proofs.SetLaws.{zero-of-values}
+use Rattle.signatures.proofs.TakenLaws.{own-slices, own-spread, own-ties, own-within}
 use Rattle.signing.specs.Signing.{valueCells}
 use Rattle.expectation.specs.Expecting.{expectedFor, wordTests, expectTests, expectReply}
 
@@ -36,15 +37,9 @@ pub opposite-taken : (set : List ℕ) (k : Taken) (ties : List ℕ) (count r : �
     → r ≡ sideColumns (takenCircuit k) (min (k .s) 512) (tiesIn ties count))
     → r ≡ sideColumns (circuitOf set) (slicesOf set) (tiesOf set)
 opposite-taken set k ties count r taken et ec made =
-    let same : tiesIn ties count ≡ tiesOf set = ap₂ tiesIn et ec in
-    let slices : min (k .s) 512 ≡ slicesOf set = omega (arith, taken .slices, accepted set (taken .none) .slices) in
-    let width : min (k .register .m) 64 ≡ widthOf set = omega (arith, taken .width, accepted-width set (accepted set (taken .none)) .1) in
-    made
-    (subst (λ (e : Ties). Within (min (k .s) 512) (chains (takenCircuit k)) e) (sym same)
-    (subst (λ (x : Circuit). Within (min (k .s) 512) (chains x) (tiesOf set)) (sym (taken .circuit))
-    (subst (λ (s : ℕ). Within s (chains (circuitOf set)) (tiesOf set)) (sym slices) (set-ties-within set (accepted set (taken .none))))))
-    (ap₂ badSpread width (taken .spread) ∙ accepted set (taken .none) .spread)
-    ∙ ap₂ (λ (x : Circuit) (s : ℕ). sideColumns x s (tiesIn ties count)) (taken .circuit) slices ∙ ap (sideColumns (circuitOf set) (slicesOf set)) same
+    made (own-within set k taken ties count et ec) (own-spread set k taken)
+    ∙ ap₂ (λ (x : Circuit) (s : ℕ). sideColumns x s (tiesIn ties count)) (taken .circuit) (own-slices set k taken)
+    ∙ ap (sideColumns (circuitOf set) (slicesOf set)) (own-ties set k taken ties count et ec)
 
 -- .. XORed with the signature of its value rows give that for all symbols 0
 pub zero-taken : (set : List ℕ) (k : Taken) (y r : ℕ) → TakenFrom set k → y ≡ signature (takenCircuit k) (valueCells (k .n) set) (k .s)

@@ -1,5 +1,5 @@
 -- The columns of the named symbols behind the first 64 working places. Assumes nothing.
-use mathlib.Core.Path.{_≡_, refl, sym, ap, ap₂, _∙_, subst}
+use mathlib.Core.Path.{_≡_, refl, sym, ap, ap₂, _∙_}
 use mathlib.Core.Bool.{Bool, true, false, cond}
 use mathlib.Core.List.{List, [], _++_, append-assoc}
 use Prim.Native.Nat.{ℕ, zero, suc, _+_, _-_, _*_, _≤_, _<_, min}
@@ -24,12 +24,11 @@ use Rattle.set_file.specs.declared.Taken.{Taken}
 use Rattle.signatures.specs.Symbols.{symbolColumn, namedColumns}
 use Rattle.signatures.specs.Sets.{given, namedOf}
 use Rattle.signatures.proofs.FreeLaws.{named-free}
-use Rattle.signatures.proofs.SetLaws.{set-ties-within}
+use Rattle.signatures.proofs.TakenLaws.{whole, own-slices, own-spread, own-ties, own-within}
 use Rattle.symbol_flags.proofs.FlagLaws.{flags-counted}
 use Rattle.symbol_columns.specs.Powered.{FlagsIn}
 use Rattle.symbol_columns.proofs.FillLaws.{named-length}
 use Rattle.kept_words.specs.Working.{workingPlaces, namedOfSet, withSymbols}
-use Rattle.kept_words.proofs.FreeLaws.{whole, own-width, own-slices}
 
 -- ---- how many
 
@@ -102,25 +101,15 @@ module _ (set : List ℕ) (k : Taken) (taken : TakenFrom set k) (w : List ℕ) (
     few : count ≤ 256
     few = omega (arith, ec, whole set k taken .few)
 
-    same-ties : tiesIn ties count ≡ tiesOf set
-    same-ties = ap₂ tiesIn et ec
-
     counted : symbols ≡ namedOf set
     unfolding namedOf
     counted =
         let all : limit ≡ count = omega (arith, el, few) in
         es ∙ ap (λ (i : ℕ). total (length (take i flags)) (λ j. cond (eqb (getD (take i flags) j 0) 0) 0 1)) all
-        ∙ flags-counted (tiesIn ties count) flags (omega (arith, long, few)) (right few) ∙ ap namedSymbols same-ties
+        ∙ flags-counted (tiesIn ties count) flags (omega (arith, long, few)) (right few) ∙ ap namedSymbols (own-ties set k taken ties count et ec)
 
     pub put-short : length w < 64 + symbols → PutFor symbols w
     put-short h = (counted, short-symbols set w (omega (arith, h, counted)))
-
-    -- the conditions of `fill_symbols`
-    inside : Within (min (k .s) 512) (chains (takenCircuit k)) (tiesIn ties count)
-    inside =
-        subst (λ (e : Ties). Within (min (k .s) 512) (chains (takenCircuit k)) e) (sym same-ties)
-        (subst (λ (x : Circuit). Within (min (k .s) 512) (chains x) (tiesOf set)) (sym (taken .circuit))
-        (subst (λ (s : ℕ). Within s (chains (circuitOf set)) (tiesOf set)) (sym (own-slices set k taken)) (set-ties-within set (whole set k taken))))
 
     pub put-part : (part : List ℕ) → 64 + symbols ≤ length w
         → (Within (min (k .s) 512) (chains (takenCircuit k)) (tiesIn ties count) → badSpread (min (k .register .m) 64) (take (k .n) (k .spread)) ≡ false
@@ -132,16 +121,13 @@ module _ (set : List ℕ) (k : Taken) (taken : TakenFrom set k) (w : List ℕ) (
     put-part part room written =
         let same : namedColumns (takenCircuit k) (min (k .s) 512) (tiesIn ties count) ≡ namedOfSet set =
         ap₂ (λ (x : Circuit) (y : ℕ). namedColumns x y (tiesIn ties count)) (taken .circuit) (own-slices set k taken)
-        ∙ ap (namedColumns (circuitOf set) (slicesOf set)) same-ties
-        in
-        let good : badSpread (min (k .register .m) 64) (take (k .n) (k .spread)) ≡ false =
-        ap₂ badSpread (own-width set k taken) (taken .spread) ∙ whole set k taken .spread
+        ∙ ap (namedColumns (circuitOf set) (slicesOf set)) (own-ties set k taken ties count et ec)
         in
         let place : length (take (64 + symbols - 64) (drop 64 w)) ≡ symbols = length-take-le (64 + symbols - 64) (drop 64 w) (omega (arith, length-drop 64 w, room)) ∙ less in
         let fits : length (namedColumns (takenCircuit k) (min (k .s) 512) (tiesIn ties count)) ≡ length (take (64 + symbols - 64) (drop 64 w)) =
         ap length same ∙ named-of-set set ∙ sym counted ∙ sym place
         in
-        let put : part ≡ namedOfSet set = written inside good (right few) (omega (arith, fits)) ∙ front-all _ _ fits ∙ same in
+        let put : part ≡ namedOfSet set = written (own-within set k taken ties count et ec) (own-spread set k taken) (right few) (omega (arith, fits)) ∙ front-all _ _ fits ∙ same in
         let sum : 64 + symbols ≡ workingPlaces set = ap (λ (i : ℕ). 64 + i) counted in
         let behind : drop (64 + symbols - 64) (drop 64 w) ≡ drop (workingPlaces set) w =
         ap (λ (i : ℕ). drop i (drop 64 w)) less ∙ drop-drop symbols 64 w ∙ ap (λ (i : ℕ). drop i w) sum

@@ -8,3 +8,4 @@ pub mod FillingLaws
 pub mod SymbolLaws
 pub mod FreeLaws
 pub mod SetLaws
+pub mod TakenLaws

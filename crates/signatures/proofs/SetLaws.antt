@@ -3,7 +3,7 @@ use mathlib.Core.Path.{_≡_, sym, ap, _∙_, subst}
 use mathlib.Core.Bool.{false}
 use mathlib.Core.Logic.{⊎-elim}
 use mathlib.Core.List.{List}
-use Prim.Native.Nat.{ℕ, _*_, _≤_, _<_, _^_}
+use Prim.Native.Nat.{ℕ, _≤_, _<_, _^_}
 use native.Mathlib.Omega.{arith}
 use lib.Bits.{bitXor}
 use lib.ListN.{length}
@@ -12,22 +12,16 @@ use Rattle.word.specs.Some.{anyOf}
 use Rattle.word.proofs.Laws.{bit-cases}
 use Rattle.rows.proofs.CellLaws.{cell-lt}
 use Rattle.rows.proofs.MarkLaws.{total-ext, row-total}
-use Rattle.rows.specs.Row.{cell, rowBytes}
-use Rattle.rows.specs.Lists.{cellsOf}
 use Rattle.rows.specs.Marks.{total}
-use Rattle.rows.specs.declared.Rows.{Rows}
 use Rattle.ties.specs.Symbols.{namedSymbols, Within, SoundTies}
 use Rattle.ties.proofs.SymbolLaws.{named-symbols-most}
 use Rattle.ties.proofs.SoundLaws.{sound-ties, sound-within}
 use Rattle.register.specs.Circuit.{chains}
 use Rattle.register.proofs.Laws.{good-taps, good-inversion}
 use Rattle.chains.proofs.Laws.{good-spread}
-use Rattle.set_layout.specs.Layout.{widthOf, tapsOf, inversionOf, chainsOf, spreadOf, slicesOf, circuitOf, valueRow, markRow, markAt, values, marks, tiesOf}
+use Rattle.set_layout.specs.Layout.{widthOf, tapsOf, inversionOf, chainsOf, spreadOf, slicesOf, circuitOf, valueRow, markRow, values, marks, tiesOf}
 use Rattle.set_layout.proofs.LayoutLaws.{spread-length}
-use Rattle.set_layout.proofs.SliceLaws.{mark-rows-row}
-use Rattle.set_file.specs.Reading.{TakenFrom}
-use Rattle.set_file.specs.declared.Taken.{Taken}
-use Rattle.set_file.proofs.Laws.{Accepted, accepted, accepted-chains, mark-row-length, mark-row-clean, unknown-unvalued}
+use Rattle.set_file.proofs.Laws.{Accepted, accepted-chains, mark-row-length, mark-row-clean, unknown-unvalued}
 use Rattle.signatures.specs.Signature.{Response, signature}
 use Rattle.signatures.specs.Symbols.{sideColumns}
 use Rattle.signatures.specs.Sets.{given, columnsOf, symbolsOf, namedOf, unknownsOf, zeroSignature, Revised}
@@ -103,13 +97,3 @@ module _ (set : List ℕ) (a : Accepted set) where
       (λ t l.
       row-total (chainsOf set) (markRow set t) (mark-row-length set a t l) (mark-row-clean set a t l) (accepted-chains set a .1)
       ∙ ap (λ (n : ℕ). total n (marks set t)) (sym (spread-length set)))
-
--- .. of a taken set k, where its rows of marks stand
-pub unknowns-counted : (set : List ℕ) (k : Taken) → TakenFrom set k → (r : Rows)
-    → (r .at ≡ markAt (k .n) 0) × (r .stride ≡ 2 * rowBytes (k .n)) × (r .bytes ≡ rowBytes (k .n)) → (u : ℕ)
-    → u ≡ total (k .s) (λ t. total 256 (cellsOf set r t)) → u ≡ unknownsOf set
-unknowns-counted set k taken r e u eu =
-    eu
-    ∙ total-ext (k .s) (λ t. total 256 (cellsOf set r t)) (λ t. total 256 (marks set t))
-    (λ t h. ap (λ (row : List ℕ). total 256 (cell row)) (mark-rows-row set (k .n) r (taken .chains) e t))
-    ∙ ap (λ (s : ℕ). total s (λ t. total 256 (marks set t))) (taken .slices) ∙ marks-counted set (accepted set (taken .none))

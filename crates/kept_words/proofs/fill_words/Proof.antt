@@ -12,7 +12,7 @@ use Rattle.combinations.specs.Step.{units}
 use Rattle.combinations.proofs.Units.{length-units, units-front}
 use Rattle.set_file.specs.Reading.{TakenFrom}
 use Rattle.kept_words.specs.Working.{wordsOf, workingPlaces}
-use Rattle.kept_words.proofs.FreeLaws.{own-width}
+use Rattle.signatures.proofs.TakenLaws.{own-width}
 use Rattle.kept_words.proofs.KeptLaws.{ends-14, ends-17, ends-18, ends-words, cleared-places, put-short-14, put-room, put-behind, put-cleared}
 use borrow.Author.Needs.{needs}
 use Rattle.kept_words.proofs.fill_words.Statement.{statement}

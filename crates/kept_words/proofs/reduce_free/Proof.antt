@@ -4,7 +4,8 @@ use mathlib.Core.List.{List}
 use Prim.Native.Nat.{ℕ}
 use lib.ListN.{length}
 use Rattle.combinations.specs.Step.{units}
-use Rattle.kept_words.proofs.FreeLaws.{own-width, bare-words, copied-words}
+use Rattle.signatures.proofs.TakenLaws.{own-width}
+use Rattle.kept_words.proofs.FreeLaws.{bare-words, copied-words}
 use borrow.Author.Needs.{needs}
 use Rattle.kept_words.proofs.reduce_free.Statement.{statement}
 use Rattle.kept_words.proofs.reduce_free.Tie as tie

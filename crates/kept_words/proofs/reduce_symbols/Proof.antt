@@ -5,7 +5,7 @@ use native.Mathlib.Omega.{arith}
 use lib.ListN.{length, length-take}
 use lib.Seq.{length-take-le}
 use Rattle.set_words.proofs.ReduceLaws.{fewer-words}
-use Rattle.kept_words.proofs.FreeLaws.{whole}
+use Rattle.signatures.proofs.TakenLaws.{whole}
 use Rattle.kept_words.proofs.JoinLaws.{symbols-reduced}
 use borrow.Author.Needs.{needs}
 use Rattle.kept_words.proofs.reduce_symbols.Statement.{statement}

@@ -3,7 +3,7 @@ use mathlib.Core.Path.{sym}
 use lib.Seq.{length-take-le}
 use borrow.Author.Needs.{needs}
 use Rattle.set_file.proofs.ReadLaws.{refused-set, taken-set}
-use Rattle.signatures.proofs.SetLaws.{unknowns-counted}
+use Rattle.signatures.proofs.TakenLaws.{unknowns-counted}
 use Rattle.planner.proofs.NumberLaws.{set-first}
 use Rattle.planner.proofs.CallLaws.{ends-early}
 use Rattle.plan_text.proofs.PrintLaws.{ends-at-set, prints-refused, printed-words, prints-plan}
