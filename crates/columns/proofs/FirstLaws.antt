@@ -11,13 +11,13 @@ use mathlib.Core.Path.{_≡_, refl, sym, ap, ap₂, subst, _∙_}
 use mathlib.Core.List.{List, _++_}
 use mathlib.Core.Option.{Option, none, some}
 use Prim.Native.Nat.{ℕ, suc, _+_, _-_, _*_, _≤_, _<_, min}
-use native.Mathlib.Nat.{zero-add, mul-zero}
+use native.Mathlib.Nat.{mul-zero}
 use native.Mathlib.Omega.{arith}
 use lib.ListN.{length, take, drop, getD}
 use lib.Seq.{length-take-le}
 use Rattle.word.specs.Reply.{answer, refusal}
 use Rattle.rows.specs.Row.{Cells, cell, rowBytes}
-use Rattle.rows.specs.Lists.{rowOf, listRow, cellsOf}
+use Rattle.rows.specs.Lists.{listRow, cellsOf}
 use Rattle.rows.specs.Marks.{total}
 use Rattle.rows.specs.declared.Rows.{Rows}
 use Rattle.rows.proofs.MarkLaws.{total-suc, total-ext, total-le, total-add, row-total}

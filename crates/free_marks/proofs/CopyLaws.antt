@@ -4,18 +4,17 @@
 --   Copied b f l t           the rows f 0 to f (t - 1) stand in l, b bytes each, and zeros behind them
 --   copied-starts, rows-turn, rows-end   the loop that copies rows: at its end every cell is that of the row that was copied
 -- Assumes nothing.
-use mathlib.Core.Path.{_≡_, refl, sym, ap, ap₂, _∙_}
+use mathlib.Core.Path.{_≡_, refl, sym, ap, _∙_}
 use mathlib.Core.Logic.{dite}
 use mathlib.Core.List.{List, [], _∷_}
-use Prim.Native.Nat.{ℕ, zero, suc, _+_, _-_, _*_, _/_, _%_, _≤_, _<_, min}
-use native.Mathlib.Nat.{add-zero, mul-suc, mul-le-mul-left, mul-le-mul-right}
+use Prim.Native.Nat.{ℕ, zero, suc, _+_, _-_, _*_, _/_, _%_, _≤_, _<_}
+use native.Mathlib.Nat.{mul-suc, mul-le-mul-left, mul-le-mul-right}
 use native.Mathlib.Numerals.{add-one}
 use native.Mathlib.Decide.{decLt}
 use native.Mathlib.Omega.{arith}
-use lib.ListN.{length, getD, drop, set, replicate, length-set, length-take, drop-of-length-le, getD-replicate, List·getD-eq-default, length-replicate}
-use lib.Seq.{drop-cons, sets, getD-set-same, getD-set-other, getD-take, getD-drop}
+use lib.ListN.{length, getD, drop, set, replicate, length-set, length-take, getD-replicate, List·getD-eq-default, length-replicate}
+use lib.Seq.{sets, getD-set-same, getD-set-other, getD-take, getD-drop}
 use Rattle.word.specs.Word.{digit}
-use Rattle.numbers.proofs.ByteLaws.{sets-past-end}
 use Rattle.rows.specs.Row.{rowBytes, cell}
 use Rattle.rows.specs.Lists.{listRow, rowOf}
 use Rattle.rows.specs.declared.Rows.{Rows}

@@ -5,7 +5,6 @@ ghost use mathlib.Core.Bool.{cond, _&&_};
 ghost use Prim.Native.Nat.{ℕ, _<_, _≤_};
 ghost use lib.Dec.{eqb};
 ghost use lib.ListN.{getD, replicate};
-ghost use lib.Seq.{sets};
 ghost use Rattle.rows.specs.Row.{rowBytes, cell};
 ghost use Rattle.rows.specs.Lists.{listRow, cellsOf};
 ghost use Rattle.ties.specs.Ties.{tiesIn};

@@ -8,7 +8,7 @@
 --   untied-expected   its expected bits are the parities with the signature for all unknowns 0
 --   untied-counts     it has as many symbols as unknown cells, and planning needs 64 working places
 -- Assumes nothing.
-use mathlib.Core.Path.{_≡_, ap, ap₂, _∙_}
+use mathlib.Core.Path.{_≡_, ap, ap₂}
 use mathlib.Core.List.{List}
 use Prim.Native.Nat.{ℕ, _+_}
 use Rattle.word.specs.Parities.{parities}

@@ -1,12 +1,8 @@
 -- The words of a taken set's free cells, from the set's own rows of marks or from a copy without those of named cells. Assumes nothing.
 use mathlib.Core.Path.{_≡_, sym, ap, ap₂, _∙_}
-use mathlib.Core.Bool.{Bool, cond}
 use mathlib.Core.List.{List, []}
-use Prim.Native.Nat.{ℕ, _+_, _*_, _≤_, _<_, min}
-use native.Mathlib.Nat.{zero-add}
+use Prim.Native.Nat.{ℕ, _≤_, _<_}
 use native.Mathlib.Omega.{arith}
-use lib.ListN.{take, drop}
-use Rattle.word.specs.Some.{anyBelow}
 use Rattle.combinations.specs.Reduced.{reducedList}
 use Rattle.rows.specs.Row.{cell, rowBytes}
 use Rattle.rows.specs.Lists.{listRow, cellsOf}
@@ -15,7 +11,7 @@ use Rattle.ties.specs.Ties.{tiesIn}
 use Rattle.ties.specs.Symbols.{naming, freeMark, freeMarks, unmarked}
 use Rattle.ties.proofs.SymbolLaws.{unnamed, unmarked-free}
 use Rattle.register.specs.Circuit.{Circuit, chains}
-use Rattle.set_layout.specs.Layout.{widthOf, circuitOf, chainsOf, slicesOf, markAt, marks, tieCountOf, tieBytes, tiesOf}
+use Rattle.set_layout.specs.Layout.{circuitOf, slicesOf, marks, tieCountOf, tieBytes, tiesOf}
 use Rattle.free_marks.proofs.AloneLaws.{Alone, alone-cells}
 use Rattle.set_file.specs.Reading.{TakenFrom}
 use Rattle.set_file.specs.declared.Taken.{Taken}
@@ -23,7 +19,7 @@ use Rattle.set_file.proofs.Laws.{accepted-chains}
 use Rattle.signatures.specs.Columns.{columnsBelow}
 use Rattle.signatures.proofs.ColumnLaws.{columns-ext}
 use Rattle.signatures.proofs.TakenLaws.{whole, own-width, own-slices, Marks, own-marks}
-use Rattle.set_words.specs.Working.{takenWidth, takenWords}
+use Rattle.set_words.specs.Working.{takenWords}
 use Rattle.kept_words.specs.Working.{freeWords}
 
 module _ (set : List ℕ) (k : Taken) (taken : TakenFrom set k) where

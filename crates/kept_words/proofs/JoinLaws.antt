@@ -3,14 +3,13 @@
 --   joined-words      the columns of the named symbols make the words of the free cells those of the set
 --   symbols-reduced   .. where they stand behind the first 64 working places
 -- Assumes nothing.
-use mathlib.Core.Path.{_≡_, sym, ap, ap₂, _∙_}
+use mathlib.Core.Path.{_≡_, sym, ap, _∙_}
 use mathlib.Core.List.{List, _++_}
 use Prim.Native.Nat.{ℕ, _-_, _≤_}
 use native.Mathlib.Omega.{arith}
 use lib.ListN.{length, take, drop, length-take, length-drop}
 use lib.Seq.{take-all, take-append-le, drop-at, length-take-le}
 use Rattle.word.specs.Zeros.{filled}
-use Rattle.combinations.specs.Reduced.{reducedList}
 use Rattle.combinations.specs.Step.{steps}
 use Rattle.combinations.proofs.Theorems.{portion-after}
 use Rattle.combinations.proofs.Portions.{order-alike}
@@ -19,7 +18,6 @@ use Rattle.set_layout.specs.Layout.{widthOf, circuitOf, slicesOf, marks, tiesOf
 use Rattle.set_file.proofs.Laws.{Accepted}
 use Rattle.signatures.specs.Columns.{columnsBelow}
 use Rattle.signatures.specs.Symbols.{namedColumns}
-use Rattle.signatures.specs.Sets.{columnsOf}
 use Rattle.signatures.proofs.MemberLaws.{same-members}
 use Rattle.signatures.proofs.SetLaws.{set-ties}
 use Rattle.set_words.proofs.ReduceLaws.{front-words}

@@ -1,6 +1,6 @@
 -- Each way out of the call that makes the words, and what it answers and leaves in the two lent lists. Assumes nothing.
-use mathlib.Core.Path.{_≡_, refl, sym, ap, ap₂, _∙_, subst}
-use mathlib.Core.Bool.{Bool, true, false}
+use mathlib.Core.Path.{_≡_, refl, sym, ap, ap₂, _∙_}
+use mathlib.Core.Bool.{true, false}
 use mathlib.Core.List.{List, [], _∷_, _++_}
 use Prim.Native.Nat.{ℕ, _+_, _≤_, _<_}
 use native.Mathlib.Omega.{arith}
@@ -8,7 +8,7 @@ use borrow.Author.Tests.{le-ltb, lt-ltb, eq-eqb, ne-eqb}
 use lib.Dec.{eqb, ltb}
 use lib.ListN.{length, take, drop}
 use lib.Seq.{take-all, take-at, drop-at, length-take-le}
-use Rattle.word.specs.Reply.{Reply, answer, refusal, front, lent}
+use Rattle.word.specs.Reply.{answer, refusal, front, lent}
 use Rattle.word.specs.Zeros.{zeros}
 use Rattle.word.proofs.FrontLaws.{length-zeros}
 use Rattle.word.proofs.ReplyLaws.{refusal-leaves, answer-leaves}

@@ -2,7 +2,7 @@
 use mathlib.Core.Path.{_≡_, refl, sym, ap, ap₂, _∙_}
 use mathlib.Core.Bool.{Bool, true, false, cond}
 use mathlib.Core.List.{List, [], _++_, append-assoc}
-use Prim.Native.Nat.{ℕ, zero, suc, _+_, _-_, _*_, _≤_, _<_, min}
+use Prim.Native.Nat.{ℕ, _+_, _-_, _≤_, _<_, min}
 use native.Mathlib.Nat.{mul-one}
 use native.Mathlib.Omega.{arith}
 use borrow.Author.Tests.{lt-ltb, le-ltb}
@@ -14,11 +14,11 @@ use Rattle.word.proofs.FrontLaws.{front-all}
 use Rattle.numbers.specs.Joined.{joined}
 use Rattle.rows.specs.Marks.{listed, total}
 use Rattle.rows.proofs.MarkLaws.{total-le}
-use Rattle.ties.specs.Ties.{Ties, tiesIn}
+use Rattle.ties.specs.Ties.{tiesIn}
 use Rattle.ties.specs.Symbols.{flag, namedSymbols, Within}
 use Rattle.chains.specs.Driven.{badSpread}
 use Rattle.register.specs.Circuit.{Circuit, chains}
-use Rattle.set_layout.specs.Layout.{widthOf, spreadOf, circuitOf, slicesOf, tieCountOf, tieBytes, tiesOf}
+use Rattle.set_layout.specs.Layout.{circuitOf, slicesOf, tieCountOf, tieBytes, tiesOf}
 use Rattle.set_file.specs.Reading.{takenCircuit, TakenFrom}
 use Rattle.set_file.specs.declared.Taken.{Taken}
 use Rattle.signatures.specs.Symbols.{symbolColumn, namedColumns}

@@ -1,8 +1,8 @@
 -- The numbers of planning, which the call that gives the words meets too: the set's and 14, then 17 and 18; and what is
 -- known of a set to which none of them applies: it has words, at most m of them, and they are reduced. Assumes nothing.
-use mathlib.Core.Path.{_≡_, refl, sym, ap, _∙_}
+use mathlib.Core.Path.{_≡_, refl, sym, _∙_}
 use mathlib.Core.Bool.{true, false}
-use mathlib.Core.List.{List, [], _∷_, _++_}
+use mathlib.Core.List.{List, [], _∷_}
 use Prim.Native.Nat.{ℕ, _≤_}
 use native.Mathlib.Omega.{arith}
 use borrow.Author.Tests.{eqb-false}

@@ -7,7 +7,7 @@
 -- Assumes nothing.
 use mathlib.Core.Path.{_≡_, refl, sym, ap, ap₂, _∙_}
 use mathlib.Core.Bool.{Bool, false, true, cond, _&&_, _||_}
-use mathlib.Core.Logic.{⊎-elim, dite}
+use mathlib.Core.Logic.{dite}
 use mathlib.Core.List.{List, [], _∷_, _++_, append-assoc, append-nil}
 use Prim.Native.Nat.{ℕ, zero, suc, _+_, _%_, _≤_, _<_}
 use native.Mathlib.Nat.{le-step}
@@ -18,8 +18,8 @@ use lib.Bits.{bitXor, xor-zero-r, xor-self}
 use lib.Dec.{eqb, ltb}
 use Rattle.word.specs.Span.{isXorOf}
 use Rattle.word.proofs.BoolLaws.{and-none}
-use Rattle.word.proofs.Laws.{mod2-lt, xor-assoc, xor-cancel, xor-zero-eq}
-use Rattle.word.proofs.SpanLaws.{xor-of-zero, xor-of-head, xor-of-nil, xor-of-join, xor-of-split, xor-of-left, xor-of-one}
+use Rattle.word.proofs.Laws.{mod2-lt, xor-assoc, xor-cancel}
+use Rattle.word.proofs.SpanLaws.{xor-of-zero, xor-of-head, xor-of-join, xor-of-left}
 use Rattle.rows.specs.Marks.{listed}
 use Rattle.chains.specs.Driven.{chosen}
 use Rattle.register.specs.Circuit.{Circuit, chains}

@@ -30,7 +30,7 @@ use Rattle.signatures.proofs.ColumnLaws.{only-cell-other}
 use Rattle.signatures.proofs.ListingLaws.{listing-some}
 use Rattle.signatures.proofs.MemberLaws.{freeColumns, free-member}
 use Rattle.signatures.proofs.DifferenceLaws.{alike-differ, flipped, flip-column}
-use Rattle.signatures.proofs.TieLaws.{tied, tied-lt, chosenColumns, with-tied, digitOf, tied-cell, hasSymbol, has-symbol-lt, symbol-of-columns, together}
+use Rattle.signatures.proofs.TieLaws.{tied, chosenColumns, with-tied, digitOf, tied-cell, hasSymbol, has-symbol-lt, symbol-of-columns, together}
 
 -- ties that are sound where they are given
 abbrev pub SoundFor : Given → Type 0

@@ -24,7 +24,7 @@ use lib.ListN.{length, set, length-append}
 use lib.Seq.{set-append-seam, set-append-left}
 use Rattle.word.specs.Some.{anyBelow, anyOf}
 use Rattle.word.proofs.BoolLaws.{or-none, and-intro, and-both}
-use Rattle.word.proofs.SomeLaws.{any-of-append, any-below-ext, any-below-true, any-below-some}
+use Rattle.word.proofs.SomeLaws.{any-of-append, any-below-true, any-below-some}
 use Rattle.numbers.specs.Joined.{joined}
 use Rattle.rows.specs.Row.{Cells}
 use Rattle.rows.specs.Marks.{listed, total}

@@ -7,9 +7,8 @@
 --                            of the cells that take the opposite of their symbol
 --   revised-symbols          with other values the columns stay
 -- Assumes nothing.
-use mathlib.Core.Path.{_≡_, refl, sym, ap, ap₂, _∙_, subst}
+use mathlib.Core.Path.{_≡_, refl, sym, ap, ap₂, _∙_}
 use mathlib.Core.Bool.{Bool, true, false, cond, not, _&&_}
-use mathlib.Core.List.{List}
 use mathlib.Core.Option.{Option, none, some}
 use Prim.Native.Nat.{ℕ, zero, suc, _+_, _%_, _^_, _<_}
 use native.Mathlib.Omega.{arith}
@@ -20,14 +19,13 @@ use lib.ListN.{length, getD}
 use lib.Pow.{pow-pos}
 use Rattle.word.specs.Word.{beyond}
 use Rattle.word.specs.Some.{anyBelow, anyOf}
-use Rattle.word.specs.Span.{xorBelow}
 use Rattle.word.proofs.BoolLaws.{and-none}
 use Rattle.word.proofs.SomeLaws.{any-below-none}
 use Rattle.word.proofs.WordLaws.{not-beyond}
 use Rattle.word.proofs.XorLaws.{xor-below-lt}
 use Rattle.rows.specs.Marks.{listed}
 use Rattle.ties.specs.Ties.{Ties}
-use Rattle.ties.specs.Symbols.{naming, opens, flag, firstMark, firstMarks}
+use Rattle.ties.specs.Symbols.{naming, opens, firstMark, firstMarks}
 use Rattle.ties.proofs.SymbolLaws.{names-cell, naming-some}
 use Rattle.register.specs.Circuit.{Circuit, chains}
 use Rattle.signatures.specs.Signature.{Response, signature, column}
@@ -36,7 +34,7 @@ use Rattle.signatures.specs.Given.{Given, columnsFor, sideOf, zeroed, ze
 use Rattle.signatures.proofs.SignatureLaws.{signature-ext}
 use Rattle.signatures.proofs.ColumnLaws.{column-lt}
 use Rattle.signatures.proofs.ListingLaws.{any-listing, markedWith, listing-ext, length-listing}
-use Rattle.signatures.proofs.TieLaws.{tied, tied-lt, with-tied, digitOf, tied-cell}
+use Rattle.signatures.proofs.TieLaws.{tied, with-tied, digitOf, tied-cell}
 use Rattle.signatures.proofs.FillingLaws.{SoundFor}
 
 -- ---- how many

@@ -3,15 +3,14 @@
 --   sound-ties     ties that none of the three refuses are sound
 --   sound-within   sound ties of at most 256 entries lie within their slices and chains
 -- Assumes nothing.
-use mathlib.Core.Path.{_≡_, refl, sym, ap, _∙_}
-use mathlib.Core.Bool.{Bool, true, false, not, _&&_, _||_}
+use mathlib.Core.Path.{_≡_, refl, sym, _∙_}
+use mathlib.Core.Bool.{Bool, true, false, not, _&&_}
 use mathlib.Core.Logic.{_⊎_, inl, inr, ⊎-elim}
-use Prim.Native.Nat.{ℕ, zero, suc, _+_, _-_, _≤_, _<_}
-use native.Mathlib.Nat.{not-suc-le-zero, lt-suc-self, le-step, eq-or-lt-of-le, le-of-suc-le-suc}
+use Prim.Native.Nat.{ℕ, zero, suc, _-_, _≤_, _<_}
+use native.Mathlib.Nat.{not-suc-le-zero, eq-or-lt-of-le, le-of-suc-le-suc}
 use native.Mathlib.Omega.{arith}
 use borrow.Author.Tests.{eqb-true, ltb-true, ltb-false}
 use lib.Dec.{eqb, ltb}
-use Rattle.word.specs.Some.{anyBelow}
 use Rattle.word.proofs.BoolLaws.{and-both, or-cases, not-true}
 use Rattle.word.proofs.SomeLaws.{any-below-false}
 use Rattle.rows.specs.Row.{Cells}

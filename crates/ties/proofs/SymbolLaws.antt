@@ -11,7 +11,7 @@
 --   unmarked-free   without flags the marks of all named cells are taken out
 --   unmarked-first  with those of the first entries, all but the first cells of the symbols
 -- Assumes nothing.
-use mathlib.Core.Path.{_≡_, refl, sym, ap, ap₂, _∙_, subst}
+use mathlib.Core.Path.{_≡_, refl, sym, ap, ap₂, _∙_}
 use mathlib.Core.Bool.{Bool, true, false, cond, not, _&&_}
 use mathlib.Core.Logic.{⊎-elim, dite}
 use mathlib.Core.List.{List, []}
@@ -24,8 +24,8 @@ use borrow.Author.Tests.{eqb-true, eq-eqb}
 use lib.Dec.{eqb}
 use lib.ListN.{getD}
 use Rattle.word.specs.Some.{anyBelow}
-use Rattle.word.proofs.BoolLaws.{and-both, and-intro, true-not-false, not-true, or-false}
-use Rattle.word.proofs.SomeLaws.{any-below-none, any-below-true, any-below-false, any-below-some}
+use Rattle.word.proofs.BoolLaws.{and-both, and-intro, true-not-false, not-true}
+use Rattle.word.proofs.SomeLaws.{any-below-none, any-below-true, any-below-some}
 use Rattle.rows.specs.Row.{Cells}
 use Rattle.rows.proofs.MarkLaws.{total-le}
 use Rattle.ties.specs.Ties.{Ties}

@@ -2,7 +2,6 @@
 -- symbol's column is [..] listed where its first cell was"; "planning needs one more working place for each named symbol".
 --
 --   names e i t c       entry i of e names the cell of slice t and chain c
---   isNamed e t c       some entry does
 --   naming e t c        the entry that does, if there is one
 --   opens e i           entry i is the first with its symbol number. Entries ascend (30), so its cell is the symbol's first
 --   namedSymbols e      the number of named symbols
@@ -26,9 +25,6 @@ use Rattle.ties.specs.Ties.{Ties}
 
 unfoldable pub names : Ties → ℕ → ℕ → ℕ → Bool
 names e i t c = eqb (e .slice i) t && eqb (e .chain i) c
-
-unfoldable pub isNamed : Ties → ℕ → ℕ → Bool
-isNamed e t c = anyBelow (e .count) (λ i. names e i t c)
 
 -- among the first k entries
 unfoldable pub namingBelow : Ties → ℕ → ℕ → ℕ → Option ℕ

@@ -19,7 +19,7 @@ use Prim.Native.Nat.{ℕ, zero, suc, _^_, _<_}
 use native.Mathlib.Nat.{not-suc-le-zero, lt-suc-self, le-step, eq-or-lt-of-le, le-of-suc-le-suc}
 use native.Mathlib.Omega.{arith}
 use borrow.Author.Tests.{eqb-true, eq-eqb}
-use lib.Bits.{bitXor, xor-comm, xor-self, xor-zero-r, xor-lt}
+use lib.Bits.{bitXor, xor-comm, xor-zero-r, xor-lt}
 use lib.Dec.{eqb}
 use lib.Pow.{pow-pos}
 use Rattle.word.specs.Some.{anyOf}

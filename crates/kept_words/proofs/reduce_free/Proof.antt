@@ -1,7 +1,5 @@
 -- `reduce_free` meets its contract: without entries from the set's own rows of marks, and else from a copy.
 use mathlib.Core.Path.{sym, ap, _∙_}
-use mathlib.Core.List.{List}
-use Prim.Native.Nat.{ℕ}
 use lib.ListN.{length}
 use Rattle.combinations.specs.Step.{units}
 use Rattle.signatures.proofs.TakenLaws.{own-width}

@@ -1,8 +1,7 @@
 -- `reduce_symbols` meets its contract: the words of the free cells, and then the columns of the named symbols.
-use mathlib.Core.Path.{sym, ap, _∙_}
-use Prim.Native.Nat.{_≤_}
+use mathlib.Core.Path.{sym}
 use native.Mathlib.Omega.{arith}
-use lib.ListN.{length, length-take}
+use lib.ListN.{length-take}
 use lib.Seq.{length-take-le}
 use Rattle.set_words.proofs.ReduceLaws.{fewer-words}
 use Rattle.signatures.proofs.TakenLaws.{whole}
