@@ -22,15 +22,22 @@ MANY_SLICES = [13, 16, 33, 64, 100]
 NUMBERS = [0, 1, 2, 3, 7, 8, 9, 15, 16, 62, 63, 64, 65, 66, 127, 128, 129, 255, 256, 257, 511, 512, 513, 65535, 65536,
            (1 << 32) - 1, 1 << 32, (1 << 63) - 1, 1 << 63, ALL - 1, ALL]
 
-# The places of planning's working list that are worked in, and the lengths of the list that is lent: the printer lends 4,096.
+# The bytes of an entry of ties, and the most entries that a set has.
+ENTRY_BYTES, MOST_TIES = 7, 256
+
+# The symbol numbers that entries of ties have, beside any others.
+SYMBOLS = [0, 1, 2, 7, 8, 255, 256, 257, 511, 512, 65535]
+
+# The places of planning's working list that are worked in where no symbol is named, and the most that are lent: the printer lends 4,096.
 WORKING = 64
-WORKING_LISTS = [0, 1, WORKING - 2, WORKING - 1, WORKING, WORKING + 1, 200, 4096]
+MOST_WORKING = 4096
 
 # For each call of the boundary, those below it that take the same: some of its inputs go to each of them as well.
 BELOW = {
     "canceller_read_set": ["set_file::read_set", "set_file::set_refusal", "set_layout::parts", "set_layout::spread_words"],
     "canceller_value_row": ["slice_rows::value_place"],
     "canceller_mark_row": ["slice_rows::mark_place"],
+    "canceller_ties": ["slice_rows::ties_place"],
     "canceller_write_set": ["set_writer::write_set", "set_content::write_refusal"],
     "canceller_clock": ["register::clock"],
     "canceller_sign": ["signing::sign_record"],
@@ -80,17 +87,62 @@ def eight_bytes(x):
     return (x & ALL).to_bytes(8, "little")
 
 
-class Set:
-    """A set: its register, its spread words, and for each slice a number for its value row and one for its mark row."""
+def entry_data(ties):
+    """Entries of ties as bytes, without their count."""
+    return b"".join(two_bytes(t) + two_bytes(c) + two_bytes(symbol) + bytes([side]) for t, c, symbol, side in ties)
 
-    def __init__(self, m, taps, inversion, spread, slices):
+
+class Set:
+    """A set: its register, its spread words, for each slice a number for its value row and one for its mark row, and its entries of ties,
+    each a slice, a chain, a symbol number and a side."""
+
+    def __init__(self, m, taps, inversion, spread, slices, ties=()):
         self.m, self.taps, self.inversion, self.spread, self.slices = m, taps, inversion, list(spread), list(slices)
         self.n, self.s, self.b = len(spread), len(slices), row_bytes(len(spread))
+        self.ties = list(ties)
 
     def data(self):
         return (two_bytes(self.m) + eight_bytes(self.taps) + eight_bytes(self.inversion) + two_bytes(self.n)
                 + b"".join(map(eight_bytes, self.spread)) + two_bytes(self.s)
-                + b"".join(self.row(v) + self.row(x) for v, x in self.slices))
+                + b"".join(self.row(v) + self.row(x) for v, x in self.slices)
+                + two_bytes(len(self.ties)) + self.entries())
+
+    def entries(self):
+        return entry_data(self.ties)
+
+    def rows_end(self):
+        """The place behind the last slice, where the count of ties stands."""
+        return rows_at(self.n) + 2 * self.b * self.s
+
+    def with_ties(self, ties):
+        return Set(self.m, self.taps, self.inversion, self.spread, self.slices, ties)
+
+    def named(self):
+        """The number of named symbols."""
+        return len({symbol for _, _, symbol, _ in self.ties})
+
+    def symbols(self):
+        return self.unknowns() - len(self.ties) + self.named()
+
+    def working(self):
+        """The places that planning works in."""
+        return WORKING + self.named()
+
+    def numbers(self):
+        return [symbol for _, _, symbol, _ in self.ties]
+
+    def flags(self):
+        """For each entry 1 where it is the first with its symbol number, and else 0."""
+        numbers = self.numbers()
+        return [int(symbol not in numbers[:i]) for i, symbol in enumerate(numbers)]
+
+    def cell_columns(self):
+        """For each slice the columns of all its cells, known or not."""
+        words, out = list(self.spread), []
+        for _ in range(self.s):
+            out.append(words)
+            words = [clocked(self.m, self.taps, w) for w in words]
+        return out[::-1]
 
     def row(self, cells):
         return cells.to_bytes(self.b, "little")
@@ -112,8 +164,14 @@ class Set:
             words = [clocked(self.m, self.taps, w) for w in words]
 
     def columns(self):
-        """The columns of the unknown cells, from the last slice to the first."""
-        return (w for columns in self.slice_columns() for w in columns)
+        """The columns of the symbols: without ties those of the unknown cells, from the last slice to the first."""
+        if not self.ties:
+            return [w for columns in self.slice_columns() for w in columns]
+        cells, named, symbols = self.cell_columns(), {(t, c) for t, c, _, _ in self.ties}, {}
+        for t, c, symbol, _ in self.ties:
+            symbols[symbol] = symbols.get(symbol, 0) ^ cells[t][c]
+        free = [cells[t][c] for t, (_, x) in enumerate(self.slices) for c in range(self.n) if x >> c & 1 and (t, c) not in named]
+        return free + list(symbols.values())
 
     def left(self):
         """How many words a plan of this set has: m less the rank of its columns."""
@@ -127,11 +185,11 @@ class Set:
     def revised(self, values):
         """This set with other values: for each slice a number for all its cells, of which the known ones count."""
         slices = [(v & ~x & low_row(self.n), x) for v, (_, x) in zip(values, self.slices)]
-        return Set(self.m, self.taps, self.inversion, self.spread, slices)
+        return Set(self.m, self.taps, self.inversion, self.spread, slices, self.ties)
 
 
 def sample():
-    """The sample of document 01."""
+    """The sample of document 01, with its count of ties."""
     return Set(3, 3, 0, [1, 4], [(1, 2), (1, 0)])
 
 
@@ -166,9 +224,15 @@ class Batch:
     def junk_words(self, count):
         return [self.bits(64) for _ in range(max(count, 0))]
 
-    def working(self):
-        """A working list for planning: most are long enough, and few are as long as the printer's. What it holds changes nothing."""
-        return self.junk_words(self.pick([WORKING] * 12, WORKING_LISTS[:-1] * 2, WORKING_LISTS[-1:]))
+    def working(self, one):
+        """A working list for planning a set: most are long enough, and few are as long as the printer's. What it holds changes nothing."""
+        lengths = self.working_lists(one)
+        return self.junk_words(self.pick([one.working()] * 12, lengths[:-1] * 2, lengths[-1:]))
+
+    def working_lists(self, one):
+        """The lengths of working lists for planning a set, the printer's last."""
+        need = one.working()
+        return [0, 1, WORKING, need - 2, need - 1, need, need + 1, need + 136, MOST_WORKING]
 
     def near(self, count):
         """Lengths around one that just suffices."""
@@ -276,7 +340,53 @@ class Batch:
         if s is None:
             s = self.pick(SLICES) if n > 17 or self.random.random() < 0.85 else self.pick(MANY_SLICES)
         kind = kind or self.pick(["none", "one", "one", "few", "few", "few", "half", "half", "dense", "all", "last", "first"])
-        return Set(m, self.taps(m), self.inversion(m), self.spread(m, n), self.cells(n, s, kind))
+        one = Set(m, self.taps(m), self.inversion(m), self.spread(m, n), self.cells(n, s, kind))
+        return self.tied(one) if self.random.random() < 0.4 else one
+
+    def tied(self, one, kind=None):
+        """A set with entries of ties. The kinds: a single cell, one symbol, first and last cell, two symbols, every cell a symbol by itself,
+        and any number of symbols, of all cells or of as many as there may be."""
+        cells = [(t, c) for t, (_, x) in enumerate(one.slices) for c in range(one.n) if x >> c & 1]
+        kind = kind or self.pick(["single", "one", "one", "ends", "two", "two", "apart", "any", "any", "most"])
+        some = self.random.sample(cells, min(len(cells), self.pick([2, 3, 4, 5, 9, 17])))
+        chosen = {"single": some[:1], "ends": cells[:1] + cells[-1:], "most": cells, "any": cells if self.bits(1) else some}.get(kind, some)
+        if len(chosen) > MOST_TIES:
+            chosen = self.random.sample(chosen, MOST_TIES)
+        few = self.random.sample(SYMBOLS + [self.bits(16) | 8192], {"two": 2, "any": 4, "most": 9}.get(kind, 1))
+        apart = self.random.sample(range(65536), len(chosen))
+        sides = self.pick(["none", "all", "any", "any"])
+        ties = [(t, c, apart[i] if kind == "apart" or (kind == "most" and self.random.random() < 0.5) else self.pick(few),
+                 {"none": 0, "all": 1}.get(sides, self.bits(1))) for i, (t, c) in enumerate(sorted(set(chosen)))]
+        return one.with_ties(ties)
+
+    def bad_ties(self, one):
+        """Entries of ties that a set can't have, by one fault and by two."""
+        n, s, ties = one.n, one.s, one.ties or self.tied(one).ties
+        known = [(t, c) for t, (_, x) in enumerate(one.slices) for c in range(n) if not x >> c & 1]
+        symbol, out = self.pick(SYMBOLS), []
+        cells = [(s, 0), (s, n - 1), (s, self.random.randrange(n)), (s + 1, 0), (65535, 0), (256 + s, 0), (0, n), (max(0, s - 1), n),
+                 (0, 65535), (max(0, s - 1), 256 + n - 1)]
+        cells += self.random.sample(known, min(len(known), 3)) + known[:1] + known[-1:]
+        for t, c in cells:
+            out.append(sorted(ties + [(t, c, symbol, self.bits(1))]))
+            out.append([(t, c, symbol, 0)])
+        if len(ties) > 1:
+            i = self.random.randrange(len(ties) - 1)
+            swapped = ties[:i] + [ties[i + 1], ties[i]] + ties[i + 2:]
+            out += [ties[::-1], swapped, ties[:-2] + ties[-1:] + ties[-2:-1]]
+            out.append([(t, c, k, 2) for t, c, k, _ in swapped])
+        if ties:
+            i = self.random.randrange(len(ties))
+            (t, c, k, side), (t_0, c_0, k_0, _) = ties[i], ties[0]
+            out += [ties[:i + 1] + ties[i:], ties[:i + 1] + [(t, c, k ^ 1, 1 - side)] + ties[i + 1:], ties + ties[-1:]]
+            for bad in (2, 3, 128, 254, 255):
+                out.append(ties[:i] + [(t, c, k, bad)] + ties[i + 1:])
+            out += [[(t_0, c_0, k_0, 2)] + ties[1:], ties[:-1] + [ties[-1][:3] + (2,)]]
+            # two faults
+            out += [ties + [(s, 0, symbol, 2)], ties + ties[-1:] + [(s, n, symbol, 0)], [(s, 0, symbol, 0)] + ties]
+            if known:
+                out += [sorted(ties + [known[0] + (symbol, 2)]), [known[-1] + (symbol, 0)] * 2, [known[-1] + (symbol, 0)] + ties]
+        return [bad for bad in out if len(bad) <= MOST_TIES]
 
     def word_list(self, m, q=None):
         """A reduced list for m of q words: each with a highest bit of its own, clear in the others."""
@@ -297,11 +407,22 @@ class Batch:
             self.call("canceller_mark_row", [t], a=data)
             self.call("slice_rows::value_row", [t], a=data, d=self.junk(40))
             self.call("slice_rows::mark_row", [t], a=data, d=self.junk(40))
+        self.ties_of(data)
+
+    def ties_of(self, data):
+        self.call("canceller_ties", a=data)
+        room = len(data) if len(data) < 200 else 1900
+        self.call("slice_rows::ties_stretch", a=data, d=self.junk(room))
+        self.call("set_layout::ties", [self.pick(CHAINS, NUMBERS), self.pick(SLICES, NUMBERS)], a=data, d=self.junk(room))
 
     def record_of(self, one, kind):
         rows = [self.bits(one.n) for _ in range(one.s)]
         if kind == "filled":
             rows = [v | (self.bits(one.n) & x) for v, x in one.slices]
+        if kind == "obeying":
+            rows, values = [v | (self.bits(one.n) & x) for v, x in one.slices], self.bits(65536)
+            for t, c, symbol, side in one.ties:
+                rows[t] = rows[t] & ~(1 << c) | (values >> symbol & 1 ^ side) << c
         record = b"".join(one.row(r) for r in rows)
         if kind == "short":
             return record[:-1]
@@ -322,32 +443,32 @@ class Batch:
         return record
 
     def sign(self, one, data):
-        for kind in ("any", "filled", self.pick(["short", "long", "long by a 0", "a row long", "none"]), "spare"):
+        for kind in ("any", self.pick(["filled", "obeying"]), self.pick(["short", "long", "long by a 0", "a row long", "none"]), "spare"):
             self.call("canceller_sign", a=data, b=self.record_of(one, kind))
 
     def plan_of(self, one, data, judged=True):
-        unknowns, left = one.unknowns(), one.left()
-        for room in {unknowns, max(0, unknowns - 1), self.near(unknowns)}:
+        symbols, left, working = one.symbols(), one.left(), one.working()
+        for room in {symbols, max(0, symbols - 1), self.near(symbols)}:
             self.call("canceller_list_columns", a=data, u=self.junk_words(room))
-        for room, places in ((WORKING, left), (WORKING, max(0, left - 1)), (WORKING - 1, left), (WORKING + 3, 64)):
+        for room, places in ((working, left), (working, max(0, left - 1)), (working - 1, left), (working + 3, 64), (WORKING, 64)):
             self.call("canceller_plan", a=data, u=self.junk_words(room), v=self.junk_words(places))
-        self.call("canceller_plan", a=data, u=self.working(), v=self.junk_words(self.near(left)))
+        self.call("canceller_plan", a=data, u=self.working(one), v=self.junk_words(self.near(left)))
         for places in (left + 1, self.near(left)):
-            self.call("plan_text::print_plan", a=data, u=self.working(), v=self.junk_words(places), d=self.junk(4096))
+            self.call("plan_text::print_plan", a=data, u=self.working(one), v=self.junk_words(places), d=self.junk(4096))
         if not judged:
             return
         size = 6 + 8 * left + row_bytes(left)
-        kinds = ["any", "filled", "filled", "short", "long", "spare"]
+        kinds = ["any", "filled", "obeying", "obeying", "short", "long", "spare"]
         for file in (size, size - 1, size + 9, self.near(size)):
             first, second = self.record_of(one, self.pick(kinds)), self.record_of(one, self.pick(kinds))
-            room = {"u": self.junk_words(WORKING), "v": self.junk_words(left), "d": self.junk(file)}
+            room = {"u": self.junk_words(working), "v": self.junk_words(left), "d": self.junk(file)}
             self.call("guarantee::judge_record", a=data, b=first, **room)
             self.call("guarantee::judge_records", a=data, b=first, c=second, **room)
-        for room, places in ((WORKING - 1, left), (WORKING, max(0, left - 1))):
+        for room, places in ((working - 1, left), (working, max(0, left - 1))):
             self.call("guarantee::judge_record", a=data, b=self.record_of(one, "filled"), u=self.junk_words(room),
                       v=self.junk_words(places), d=self.junk(size))
         self.call("guarantee::judge_records", a=data, b=self.record_of(one, "any"), c=self.record_of(one, "filled"),
-                  u=self.working(), v=self.junk_words(self.near(left)), d=self.junk(600))
+                  u=self.working(one), v=self.junk_words(self.near(left)), d=self.junk(600))
 
     # A taken set is m, the tap word, the inversion word, n, s and a state; rows are their place, their stride and their bytes.
 
@@ -355,10 +476,17 @@ class Batch:
         for name in names or FILLERS:
             self.call(name, taken + rows, v=spread, a=data, u=self.junk_words(room))
 
-    def keep(self, taken, spread, data, rows, places, working=None):
-        """The words of marked cells, from a working list."""
-        working = self.working() if working is None else self.junk_words(working)
-        self.call("set_words::fill_words", taken + rows, b=packed(spread), a=data, u=working, v=self.junk_words(places))
+    def reduce(self, taken, spread, data, rows, working=None):
+        """The words of marked cells, from the words of single bits on."""
+        working = self.pick([0, 1, WORKING - 1, WORKING, WORKING, WORKING, WORKING + 1, 200]) if working is None else working
+        units = [1 << k for k in range(min(taken[0], 64))]
+        self.call("set_words::reduce_cells", taken + rows, b=packed(spread), a=data, u=self.junk_words(working), v=units)
+
+    def keep(self, one, data, spread, places, working=None):
+        """The words of a taken set, from a working list."""
+        working = self.working(one) if working is None else self.junk_words(working)
+        taken = [one.m, one.taps, one.inversion, one.n, one.s, 0]
+        self.call("kept_words::fill_words", taken, b=packed(spread), a=data, u=working, v=self.junk_words(places))
 
     def portions(self, register, s, data, rows, words, powers, room):
         """The columns of marked cells portion by portion, each from where the one before it ends: `room` places for each."""
@@ -396,12 +524,16 @@ class Batch:
         if self.random.random() < 0.2:
             self.fill(taken, spread, data, marks, 600, [self.pick(FILLERS)])
         self.call("signing::sign_rows", taken + self.pick([values, marks]), a=data, v=spread)
-        self.call("signing::zero_signature", taken, a=data, v=spread)
+        self.call("signing::sign_values", taken, a=data, v=spread)
         self.call("marked_words::count_marks", marks + [s], a=data)
         left = one.left()
         for places in {left, max(0, left - 1), self.near(left)}:
-            self.keep(taken, spread, data, marks, places)
-        self.keep(taken, spread, data, marks, left, WORKING)
+            self.keep(one, data, spread, places)
+        for working in {WORKING, one.working(), one.working() - 1}:
+            self.keep(one, data, spread, left, working)
+        self.reduce(taken, spread, data, marks)
+        self.reduce(taken, spread, data, marks, WORKING)
+        self.tie_parts(one, data, taken, marks)
         self.portions_of(one, data)
         bad = list(spread)
         for c in (n - 1, self.random.randrange(n)):
@@ -411,11 +543,87 @@ class Batch:
         room = self.pick([unknowns, unknowns, max(0, unknowns - 1), unknowns + 5])
         self.fill(taken, bad, data, marks, room, [self.pick(FILLERS)])
         self.fill([m, taps, inversion] + taken[3:], self.pick([bad, spread]), data, marks, room, [self.pick(FILLERS)])
-        self.keep([m, taps, inversion] + taken[3:], self.pick([bad, spread]), data, marks, 64)
-        self.keep(taken, bad, data, marks, 64, WORKING)
+        self.reduce([m, taps, inversion] + taken[3:], self.pick([bad, spread]), data, marks)
+        self.reduce(taken, bad, data, marks, WORKING)
         for words in (spread, bad, spread[:n - 1] + [0] + spread[n:], (spread[:n] + self.junk_words(256))[:256]):
             self.call("sparse_columns::has_bad_word", [self.pick([one.m, one.m, m])] + taken[1:], v=words)
-        self.call("signing::zero_signature", [m, taps, inversion] + taken[3:], a=data, v=bad)
+        self.call("signing::sign_values", [m, taps, inversion] + taken[3:], a=data, v=bad)
+
+    def tie_parts(self, one, data, taken, marks):
+        """The calls that go by the entries of ties, as what is made of them asks for."""
+        n, s, b, ties, entries, flags, numbers = one.n, one.s, one.b, one.ties, one.entries(), one.flags(), one.numbers()
+        count, spread, named = len(ties), (one.spread + [0] * 256)[:256], one.named()
+        self.tie_tests(entries, count, data, marks, n, s)
+        self.call("free_marks::unmark", marks + [n, s, count], a=data, b=entries, v=flags, d=self.junk(b * s))
+        for given in ([], [0] * count, [self.bits(1) for _ in ties], [self.pick([0, 2, 1 << 63, ALL]) for _ in ties], flags[:count // 2]):
+            if count and self.random.random() < 0.5:
+                self.call("free_marks::unmark", marks + [n, s, count], a=data, b=entries, v=given, d=self.junk(b * s))
+        if not count:
+            return
+        packs = b"".join(map(two_bytes, numbers))
+        for few in {count, count + 1, self.random.randint(0, count), self.pick([0, 1, 255, 256, 257, 65535])}:
+            self.call("symbol_flags::symbol_numbers", [few], a=entries, d=self.junk(2 * min(few, MOST_TIES)))
+            if few <= MOST_TIES:
+                self.call("symbol_flags::opening_flags", [few], a=entries, v=self.junk_words(MOST_TIES))
+        for number in {numbers[0], numbers[-1], numbers[0] ^ 1, numbers[-1] ^ 256, self.bits(16)}:
+            self.call("symbol_flags::has_number", [number], a=self.pick([packs, packs[2:], packs[:-2]]))
+        self.call("symbol_flags::count_flags", v=flags)
+        self.call("symbol_flags::count_flags", v=[self.pick([0, 1, 2, 1 << 32, ALL]) for _ in range(self.pick([0, 1, 5, 256]))])
+        for i in {0, count - 1, self.random.randrange(count + 2), self.pick(NUMBERS)}:
+            self.call("ties::entry", [i], a=self.pick([entries, entries, entries[:-1]]))
+        table, first = packed(powers_of(one.m, one.taps)), [i for i in range(count) if flags[i]]
+        for i in {first[0], first[-1], self.pick(first)}:
+            self.call("symbol_columns::symbol_column_of", [one.m, s, i], b=table, v=one.spread, a=entries, c=packs)
+        for room in {named, named + self.pick([1, 3, 20])}:
+            self.call("symbol_columns::fill_symbols", taken + [count], v=spread, a=entries, b=packed(flags), u=self.junk_words(room))
+        self.call("symbol_columns::side_columns", taken + [count], v=spread, a=entries)
+        # the marks of the symbols' first cells, and the columns of the cells that have one
+        heads, cells = [x for _, x in one.slices], one.cell_columns()
+        for (t, c, _, _), flag in zip(ties, flags):
+            heads[t] &= ~(0 if flag else 1 << c)
+        columns = [cells[t][c] for t, x in enumerate(heads) for c in range(n) if x >> c & 1]
+        self.call("listed_symbols::set_symbols", taken + [count, 0, b, b], v=spread, c=entries, b=packed(flags),
+                  a=b"".join(map(one.row, heads)), u=columns)
+
+    def tie_tests(self, entries, count, data, marks, n, s):
+        """The tests of entries of ties, with the numbers and lists as they are and with others."""
+        name = "ties::ties_refusal"
+        self.call(name, [count] + marks + [n, s], a=entries, b=data)
+        if self.random.random() < 0.3:
+            few, n = self.pick([0, count, count + 1, self.pick(NUMBERS)]), self.pick([n, n + 1, n - 1, self.pick(NUMBERS)])
+            s = self.pick([s, s + 1, max(0, s - 1), self.pick(NUMBERS)])
+            self.call(name, [few] + marks + [n, s], a=self.pick([entries, entries[:-1]]), b=data)
+
+    def tie_lists(self, count):
+        """Entries of ties beside rows of marks that go on past the last slice and the last chain, and lists of any entries."""
+        for _ in range(count):
+            n, s = self.pick(CHAINS, MANY_CHAINS), self.pick([0, 1, 2, 3, 5, 8])
+            b = row_bytes(n)
+            rows, data = self.pick([[0, b, b], [3, b, b], [b, 2 * b, b]]), bytes([255]) * (2 * b * (s + 2) + 3)
+            cells = sorted({(self.random.randrange(s + 1), self.random.randrange(n)) for _ in range(self.pick([1, 2, 3, 9]))})
+            for more in ([], [(s, 0)], [(s, n - 1)], [(s, n)], [(s - 1, n)], [(s + 1, 0)]):
+                sides = self.pick([[0, 1], [0, 1, 1, 0, 2]])
+                inside = [cell for cell in cells if cell[0] < s]
+                ties = [(max(0, t), c, self.pick(SYMBOLS), self.pick(sides)) for t, c in self.pick([inside, cells]) + more]
+                self.tie_tests(entry_data(ties), len(ties), self.pick([data, data, self.junk(len(data))]), rows, n, s)
+            few = self.pick([0, 1, 2, 5, 40, 255, 256, 257])
+            numbers = [self.pick([self.bits(16), self.pick(SYMBOLS), self.pick(SYMBOLS)]) for _ in range(few)]
+            entries = entry_data([(self.random.randrange(s + 2), self.random.randrange(n + 2), k, self.pick([0, 1, 1, 2])) for k in numbers])
+            entries += self.junk(self.pick([0, 0, 1, 5]))
+            for given in {few, max(0, few - 1), few + 1, self.pick(NUMBERS) % 65536}:
+                self.call("symbol_flags::symbol_numbers", [given], a=entries, d=self.junk(2 * min(given, MOST_TIES)))
+                if given <= MOST_TIES:
+                    self.call("symbol_flags::opening_flags", [given], a=entries, v=self.junk_words(MOST_TIES))
+            self.call("symbol_flags::has_number", [self.pick(numbers or [0], SYMBOLS)], a=b"".join(map(two_bytes, numbers)))
+            for i in (0, few, self.random.randrange(few + 1), self.pick(NUMBERS)):
+                self.call("ties::entry", [i], a=entries)
+            self.call("free_marks::list_rows", [self.pick([n, self.pick(NUMBERS)])])
+            # rows of any bytes and cells outside them; all rows are there up to 512 slices
+            rows = self.pick([rows, [0, 1, b], [3, 0, b], [self.pick(NUMBERS), self.pick(NUMBERS), b], [len(data), b, b]])
+            flags = [self.pick([0, 0, 1, ALL]) for _ in range(self.pick([0, few // 2, few, few + 3]))]
+            slices = self.pick([s, s, s + 1, 512])
+            self.call("free_marks::unmark", rows + [n, slices, self.pick([few, few, few // 2, few + 2])],
+                      a=self.pick([data, self.junk(len(data))]), b=entries, v=flags, d=self.junk(b * slices))
 
     def lists_of_rows(self, count):
         """The same calls with rows that stand anywhere in a list of bytes, and with counts above the limits."""
@@ -429,7 +637,7 @@ class Batch:
             taken = [m, self.pick([self.taps(min(max(m, 1), 64)), self.bits(64)]),
                      self.pick([self.inversion(min(max(m, 1), 64)), self.bits(64)]), n, s, self.pick([0, self.bits(64)])]
             self.fill(taken, spread, data, rows, self.pick([0, 1, 5, 64, 300]), None if s < 100 else [self.pick(FILLERS)])
-            self.keep(taken, spread, data, rows, self.pick([0, 1, 5, 64, 70]))
+            self.reduce(taken, spread, data, rows)
             self.call("signing::sign_rows", taken + rows, a=data, v=spread)
             self.call("marked_words::count_marks", rows + [s], a=data)
             self.call("rows::row_of", rows + [self.pick([0, 1, 2, self.pick(NUMBERS)])], a=data, d=self.junk(40))
@@ -447,15 +655,23 @@ class Batch:
     def damaged(self, one):
         """Sets with one fault, and some with two: the data of each."""
         data, m, n, s, b = one.data(), one.m, one.n, one.s, one.b
-        rows = rows_at(n)
+        rows, end, count = rows_at(n), one.rows_end(), len(one.ties)
 
         def with_bytes(at, new, of=None):
             of = data if of is None else of
             return of[:at] + new + of[at + len(new):]
 
         out = [data[:k] for k in (0, 1, 2, 3, *range(9, 22), 27, 28, rows - 3, rows - 2, rows - 1, rows, rows + 1,
-                                  len(data) - 1, len(data) - 2, len(data) - b, len(data) - 2 * b) if 0 <= k < len(data)]
-        out += [data + self.junk(k) for k in (1, 2, b, 2 * b)] + [data + b"\0", data + bytes(2 * b)]
+                                  len(data) - 1, len(data) - 2, len(data) - ENTRY_BYTES, end, end + 1, end - 1, end - b, end - 2 * b,
+                                  end + 2, end + 9) if 0 <= k < len(data)]
+        out += [data + self.junk(k) for k in (1, 2, b, 2 * b, ENTRY_BYTES)] + [data + b"\0", data + bytes(2 * b), data + bytes(ENTRY_BYTES)]
+        for other in {0, 1, count - 1, count + 1, 255, 256, 257, 65535, 256 * count, 256 + count} - {-1}:
+            out.append(with_bytes(end, two_bytes(other)))
+            if other < 300:
+                more = self.pick([[(0, 0, 0, 0)], one.ties[-1:] or [(0, 0, 7, 1)]]) * 300
+                out.append(one.with_ties((one.ties + more)[:other]).data())
+        bad = self.bad_ties(one)
+        out += [one.with_ties(ties).data() for ties in self.random.sample(bad, min(len(bad), 14))]
         for width in (0, 1, 2, m - 1, m + 1, 63, 64, 65, 66, 128, 256 + m, 256 * m, 65535):
             out.append(with_bytes(0, two_bytes(width)))
         for taps in (0, 2, one.taps ^ 1, one.taps | 1 << min(m, 63), one.taps | 1 << 63, ALL, ALL - 1, 1 << min(m, 63)):
@@ -520,9 +736,9 @@ class Batch:
         """Sets of many slices whose one fault is in the last of them."""
         for n, s in ((1, 40), (3, 200), (7, 512), (12, 90)):
             one = self.any_set(n=n, s=s, kind="few")
-            data = bytearray(one.data())
-            values, marks = len(data) - 2 * one.b, len(data) - one.b
-            for places, bit in (([marks - 1], 128), ([len(data) - 1], 128), ([values, marks], 1)):
+            data, end = bytearray(one.data()), one.rows_end()
+            values, marks = end - 2 * one.b, end - one.b
+            for places, bit in (([marks - 1], 128), ([end - 1], 128), ([values, marks], 1)):
                 faulty = bytearray(data)
                 for place in places:
                     faulty[place] |= bit
@@ -532,8 +748,8 @@ class Batch:
         """The set reader, and one or two of the calls that take a set."""
         self.call("canceller_read_set", a=data, v=self.junk_words(256))
         unknowns, left = one.unknowns(), one.left()
-        for kind in which or self.random.sample(range(8), 2):
-            room = {"u": self.working(), "v": self.junk_words(left)}
+        for kind in which or self.random.sample(range(9), 2):
+            room = {"u": self.working(one), "v": self.junk_words(left)}
             if kind == 0:
                 self.call("canceller_value_row", [self.random.randrange(one.s + 1)], a=data)
             elif kind == 1:
@@ -552,6 +768,8 @@ class Batch:
                     self.call("guarantee::judge_record", a=data, b=first, d=self.junk(540), **room)
                 else:
                     self.call("guarantee::judge_records", a=data, b=first, c=second, d=self.junk(540), **room)
+            elif kind == 7:
+                self.ties_of(data)
             else:
                 self.call("slice_rows::" + self.pick(["value_row", "mark_row"]), [self.random.randrange(one.s + 1)], a=data, d=self.junk(40))
         n, s = self.pick([one.n, self.pick(CHAINS), self.pick(NUMBERS)]), self.pick([one.s, self.pick(SLICES), self.pick(MANY_SLICES)])
@@ -560,7 +778,7 @@ class Batch:
         if kind == 0:
             self.call("marked_words::count_marks", marks + [s], a=data)
         elif kind == 1:
-            self.call("signing::zero_signature", [one.m, one.taps, one.inversion, n, s], a=data, v=spread)
+            self.call("signing::sign_values", [one.m, one.taps, one.inversion, n, s], a=data, v=spread)
         elif kind == 2:
             self.fill([one.m, one.taps, one.inversion, one.n, s, 0], spread, data, marks,
                       self.pick([unknowns, unknowns + 8, 20, 520]), [self.pick(FILLERS)])
@@ -569,11 +787,11 @@ class Batch:
 
     def write_set(self, one):
         m, taps, inversion, spread, s, n, b = one.m, one.taps, one.inversion, one.spread, one.s, one.n, one.b
-        values, marks, size = one.values(), one.marks(), len(one.data())
+        values, marks, ties, size = one.values(), one.marks(), one.entries(), len(one.data())
 
-        def call(room=None, m=m, taps=taps, inversion=inversion, s=s, spread=spread, values=values, marks=marks):
+        def call(room=None, m=m, taps=taps, inversion=inversion, s=s, spread=spread, values=values, marks=marks, ties=ties):
             room = max(0, self.near(size) if room is None else room)
-            self.call("canceller_write_set", [m, taps, inversion, s, room], v=spread, a=values, b=marks, d=self.junk(room))
+            self.call("canceller_write_set", [m, taps, inversion, s, room], v=spread, a=values, b=marks, c=ties, d=self.junk(room))
 
         for room in (size, size - 1, size - 2, size + 1, size + 7, 0):
             call(room)
@@ -606,6 +824,20 @@ class Batch:
         call(values=values + self.junk(1))
         call(marks=marks + b"\0")
         call(values=values + bytes(b), marks=marks + bytes(b))
+        # entries that aren't whole, more than 256 of them, and such as a set can't have
+        for more in (1, 2, 3, 4, 5, 6):
+            call(ties=ties + self.junk(more), room=size + 20)
+            call(ties=ties + bytes(more), room=size + 20)
+        call(ties=ties[:-1])
+        call(ties=b"")
+        for few in (255, 256, 257, 258):
+            call(ties=entry_data((one.ties + [(0, 0, 0, 0)] * few)[:few]), room=size + 2000)
+        call(ties=bytes(ENTRY_BYTES * MOST_TIES + 1), room=size + 2000)
+        call(ties=bytes(65537 * 8 % 40000), room=size + 2000)
+        bad = self.bad_ties(one)
+        for wrong in self.random.sample(bad, min(len(bad), 12)):
+            call(ties=entry_data(wrong), room=self.pick([size, size + 40, 0]))
+        call(ties=self.tied(one).entries(), room=size + 2000)
         for _ in range(2):
             if not s:
                 break
@@ -759,6 +991,8 @@ class Batch:
             for room in (0, 1, len(words), len(words) + 1, 64):
                 self.call("elimination::write_front", v=self.junk_words(room), u=words)
             self.call("word::clear_words", v=self.junk_words(self.pick([0, 1, 2, 63, 64, 65, 200])))
+            self.call("powers::from_powers", [self.pick([self.bits(64), self.bits(m), self.pick(NUMBERS)])],
+                      u=self.pick([powers_of(m, self.taps(m))[:m], self.junk_words(self.pick([0, 1, 3, 63, 64, 65, 70]))]))
         self.call("elimination::unit_words", v=self.junk_words(64))
         self.call("powers::no_powers", v=self.junk_words(576))
         for m in (1, 5, 64):
@@ -888,18 +1122,16 @@ class Batch:
     def expected(self, one):
         """The words of a set and the expected bits of lists of words for it, by the calls of the boundary and below it."""
         data, left = one.data(), one.left()
-        for room, places in ((WORKING, left), (WORKING + 1, 64), (WORKING, max(0, left - 1)), (WORKING - 1, 64)):
+        working = one.working()
+        for room, places in ((working, left), (working + 1, 64), (working, max(0, left - 1)), (working - 1, 64)):
             self.call("canceller_plan_words", a=data, u=self.junk_words(room), v=self.junk_words(places))
-        self.call("canceller_plan_words", a=data, u=self.working(), v=self.junk_words(self.near(left)))
-        taken = [one.m, one.taps, one.inversion, one.n, one.s, self.pick([0, self.bits(64)])]
+        self.call("canceller_plan_words", a=data, u=self.working(one), v=self.junk_words(self.near(left)))
+        taken = [one.m, one.taps, one.inversion, one.n, one.s, 0]
         spread, lists = (one.spread + [0] * 256)[:256], self.word_lists(one)
         for words in lists:
             self.call("canceller_expect", a=data, v=words)
         for words in [one.words(), self.junk_words(self.pick([1, 5, 63, 64, 65, 80]))] + self.random.sample(lists, 3):
             self.call("expectation::expected_bits", taken, a=data, v=spread, u=words)
-        odd = [self.pick([one.m, 0, 65, self.pick(NUMBERS)]), self.pick([one.taps, self.bits(64)]), self.pick([one.inversion, self.bits(64)]),
-               self.pick([one.n, self.pick(CHAINS), self.pick(NUMBERS)]), self.pick([one.s, self.pick(SLICES), self.pick(MANY_SLICES)])]
-        self.call("expectation::expected_bits", odd + taken[5:], a=data, v=self.pick([spread, self.junk_words(256)]), u=self.pick(lists))
 
     # ---- cutting
 
@@ -953,7 +1185,7 @@ class Batch:
         leave, and one more of each; with cut lists that just suffice, that are too short and that are longer. Other values change
         nothing."""
         m, data, slices = one.m, one.data(), list(one.slice_columns())[::-1]
-        least, whole = m - max(map(rank_of, slices), default=0), one.left()
+        least, whole = m - max(map(rank_of, slices), default=0), m - rank_of(w for columns in slices for w in columns)
         for k in {0, 1, 2, 8, m - 1, m, m + 1, least - 1, least, least + 1, whole, whole + 1, self.random.randint(1, m),
                   self.pick(NUMBERS)} - {-1}:
             runs = runs_of(m, slices, k) if 1 <= k <= m else 0
@@ -1146,9 +1378,9 @@ class Batch:
         names = ["crossing::" + x for x in ("set_of", "stretch_of", "set_written_of", "plan_written_of", "clocked_of", "signed_of",
                                             "listed_of", "eliminated_of", "worded_of", "expected_of", "planned_of", "read_of",
                                             "judged_of", "cutting_of")]
-        names += [x + "::number_of" for x in ("planner", "set_words", "elimination", "set_file", "plan_file")]
+        names += [x + "::number_of" for x in ("planner", "kept_words", "elimination", "set_file", "plan_file")]
         for name in names:
-            for number in (0, 0, 0, 1, 17, 24, 25, 28, self.random.randrange(1, 29), ALL):
+            for number in (0, 0, 0, 1, 17, 24, 25, 28, 29, 31, self.random.randrange(1, 32), ALL):
                 data = [self.pick([self.bits(64), self.pick(NUMBERS)]) for _ in range(6)]
                 if name == "crossing::judged_of":
                     data[0] = self.random.randrange(2)
@@ -1158,7 +1390,7 @@ class Batch:
         self.call("set_layout::constants", v=self.junk_words(256))
         for _ in range(count):
             n, s = self.pick(NUMBERS, CHAINS, MANY_CHAINS), self.pick(NUMBERS, SLICES, MANY_SLICES)
-            self.call("set_layout::lengths", [n, s])
+            self.call("set_layout::lengths", [n, s, self.pick(NUMBERS, [255, 256, 257, 1000])])
             self.call("set_layout::rows", [n])
             self.call("reduced_list::is_bad_word_count", [self.pick(NUMBERS, WIDTHS), self.pick(NUMBERS, WIDTHS)])
             m = self.pick(WIDTHS)
@@ -1179,6 +1411,21 @@ class Batch:
         self.use(whole, big=True)
         self.use_damaged(whole, data + b"\0", [0, 2, 3])
         self.use_damaged(whole, data[:-1], [1, 4])
+        # the longest set there is, by its ties too, and a byte more
+        longest = self.tied(self.single_cells(64, 256, 512, 40), "most")
+        self.use(longest, big=True)
+        self.use_damaged(longest, longest.data() + b"\0", [0, 2, 3, 4, 5, 7])
+        self.use_damaged(longest, longest.data()[:-1], [1, 4, 7])
+        # as many entries of ties as there may be, one less, and more
+        for n, s in ((256, 2), (9, 40), (64, 5)):
+            one = self.tied(Set(64, self.taps(64), self.inversion(64), self.spread(64, n), self.cells(n, s, "all")), "most")
+            self.use(one, big=True)
+            self.write_set(one)
+            self.use(one.with_ties(one.ties[:-1]), big=True)
+            cells = [(t, c, self.pick(SYMBOLS), self.bits(1)) for t in range(s) for c in range(n)]
+            for few in (255, 256, 257, 258):
+                over = one.with_ties(cells[:few])
+                self.use_damaged(over, over.data(), [0, 2, 3, 4, 6, 7])
         # as many unknown cells as the printer lends places, and one more
         for n, s in ((16, 256), (17, 241)):
             self.use(Set(64, 1, self.inversion(64), [low(64)] * n, self.cells(n, s, "all")), big=True)
@@ -1196,7 +1443,7 @@ class Batch:
             over = Set(m, 1, self.inversion(m), self.spread(m, n), self.cells(n, s, "one"))
             self.use_damaged(over, over.data(), [0, 1, 2, 3, 4, 5, 6])
             self.call("canceller_write_set", [m, 1, over.inversion, s, len(over.data())], v=over.spread, a=over.values(),
-                      b=over.marks(), d=self.junk(len(over.data())))
+                      b=over.marks(), c=over.entries(), d=self.junk(len(over.data())))
             if n > 256:
                 self.call("canceller_clock", [m, 1, over.inversion, 1], v=over.spread, a=bytes(over.b))
 
@@ -1260,12 +1507,49 @@ class Batch:
         sets.append(self.single_cells(64, 256, 40, 50))
         for one in sets:
             self.use(one, big=True)
-            for room in WORKING_LISTS:
+            for room in self.working_lists(one):
                 self.call("canceller_plan", a=one.data(), u=self.junk_words(room), v=self.junk_words(self.near(one.left())))
 
     def sets(self, count):
         for _ in range(count):
             self.use(self.any_set())
+
+    def faulty_ties(self, count):
+        """Sets whose one fault, or whose two, are in their entries of ties."""
+        for _ in range(count):
+            one = self.any_set(n=self.pick([2, 3, 9, 12, 17]), s=self.pick([1, 2, 3, 5]), kind=self.pick(["few", "half", "half", "dense"]))
+            one = self.tied(one, self.pick(["one", "two", "any", "most"]))
+            marks = [rows_at(one.n) + one.b, 2 * one.b, one.b]
+            for ties in self.bad_ties(one):
+                data = one.with_ties(ties).data()
+                self.use_damaged(one, data)
+                self.tie_tests(entry_data(ties), len(ties), data, marks, one.n, one.s)
+                if self.random.random() < 0.4:
+                    self.call("canceller_expect", a=data, v=self.pick(self.word_lists(one)))
+                    self.call("canceller_plan_words", a=data, u=self.working(one), v=self.junk_words(64))
+                    self.call("canceller_cut", [self.pick([0, 1, 1, one.m, one.m + 1])], a=data,
+                              v=self.junk_words(self.pick([0, one.s, 512])))
+
+    def tied_sets(self, count):
+        """Sets with ties, among them some that no other set has: a symbol of cells with one column each, a symbol across slices, symbols
+        whose columns make up for each other, and a symbol of which the later cells stand between those of another."""
+        for _ in range(count):
+            self.use(self.tied(self.any_set(s=self.pick([1, 2, 3, 5, 8]), kind=self.pick(["one", "few", "half", "half", "all"]))))
+        for m in (1, 3, 8, 17, 64):
+            n, s = self.pick([2, 3, 9, 17]), self.pick([2, 3, 9])
+            every = Set(m, self.taps(m), self.inversion(m), self.spread(m, n), self.cells(n, s, "all"))
+            same = Set(m, 1, self.inversion(m), [low(m)] * n, self.cells(n, s, "half"))
+            cells = [(t, c) for t in range(s) for c in range(n)]
+            for which in ([cells[0], cells[-1]], [(t, 0) for t in range(s)], cells[:2], cells[:MOST_TIES], cells[::2]):
+                for sides in (0, 1, None):
+                    self.use(every.with_ties([(t, c, m, self.bits(1) if sides is None else sides) for t, c in which]))
+            self.use(every.with_ties([(t, c, c, t & 1) for t, c in cells][:MOST_TIES]))
+            self.use(every.with_ties([(t, c, t, c & 1) for t, c in cells][:MOST_TIES]))
+            self.use(self.tied(same, "any"))
+            self.use(self.tied(same, "one"))
+            for one in (self.first_slice(m, n, s, 0), self.single_cells(m, n, s, 2)):
+                for kind in ("one", "two", "apart"):
+                    self.use(self.tied(one, kind))
 
     def damages(self, count):
         for _ in range(count):
@@ -1402,7 +1686,9 @@ def calls_of(number):
                 batch.use(batch.any_set(m=m, n=3, s=3, kind=kind))
         batch.largest()
     batch.sets(70)
+    batch.tied_sets(20)
     batch.damages(10)
+    batch.faulty_ties(8)
     batch.late()
     for _ in range(12):
         batch.write_set(batch.any_set(s=batch.pick([0, 1, 2, 3])))
@@ -1427,6 +1713,7 @@ def calls_of(number):
     batch.texts(60)
     batch.words(80)
     batch.layouts(40)
+    batch.tie_lists(60)
     batch.answers()
     batch.two_calls(25)
     batch.cuttings(30)
