@@ -14,6 +14,8 @@ mod plain;
 mod row;
 mod rows;
 mod same;
+mod small;
+mod tied;
 mod timing;
 
 use row::{Row, Side};
@@ -54,12 +56,36 @@ fn names() -> [&'static str; COUNTED.len()] {
     COUNTED.map(|(name, _)| name)
 }
 
+/// A row of a table, as `planning-500-10`: the call, the unknown cells and the rank; or of a small set, as `sample-plan`; or with ties, as
+/// `tied-planning-512-4096-40-16`: the call, the slices, the unknown cells, the rank and the named symbols.
+fn row_by_parts(call: &str) -> Row {
+    let parts: Vec<&str> = call.split('-').collect();
+    if let [small @ ("sample" | "8x3"), call] = parts[..] {
+        return small::row(small, call);
+    }
+    if let ["tied", call, ref sizes @ ..] = parts[..] {
+        let sizes: Vec<usize> = sizes.iter().map(|n| n.parse().expect("a number")).collect();
+        let [slices, unknowns, rank, symbols] = sizes[..] else {
+            panic!("CALL")
+        };
+        return tied::row(call, [slices, unknowns, rank, symbols], 1);
+    }
+    let [call, unknowns, rank] = parts[..] else {
+        panic!("CALL")
+    };
+    let [unknowns, rank] = [unknowns, rank].map(|n| n.parse().expect("a number"));
+    match call {
+        "listing" => rows::listing(512, unknowns, rank, 1),
+        "planning" => rows::planning(512, unknowns, rank, 1),
+        "words" => rows::wording(512, unknowns, rank, 1),
+        "cutting" => rows::cutting(512, unknowns, rank, 8, 1),
+        _ => panic!("CALL"),
+    }
+}
+
 fn row_of(call: &str) -> Row {
-    let (_, row) = COUNTED
-        .iter()
-        .find(|(name, _)| *name == call)
-        .expect("CALL");
-    row()
+    let named = COUNTED.iter().find(|(name, _)| *name == call);
+    named.map_or_else(|| row_by_parts(call), |(_, row)| row())
 }
 
 fn name_of(side: &Side) -> &'static str {
@@ -90,12 +116,14 @@ fn main() {
     match words[..] {
         ["--count", ..] => return counted(&words[1..]),
         ["--serve", call] => return against::serve(row_of(call)),
+        ["--ties"] => return tied::print_all(),
         ["--against", other] => return against::print_all(other, &names()),
         _ => {}
     }
     println!("| Call | Size | Gives | Ours | Same algorithm in Rust | Straightforward | Others |");
     println!("|---|---|---|---|---|---|---|");
     rows::print_all();
+    tied::print_all();
     let lines = growth::print_all();
     if let Some(path) = words.first() {
         std::fs::write(path, growth::picture(&lines)).unwrap_or_else(|e| panic!("{path}: {e}"));
