@@ -43,8 +43,10 @@ fn name_cells(r: &mut Random, content: &mut Content, symbols: usize) {
         .collect();
     let order = some_of(r, NAMED, NAMED);
     let entries = chosen.into_iter().zip(order);
-    let entry =
-        |(i, k): (usize, usize)| tie(cells[i], numbers[k % symbols], (k / symbols % 2) as u8);
+    let entry = |(i, k): (usize, usize)| {
+        let opposite = (k / symbols + k) % 2;
+        tie(cells[i], numbers[k % symbols], opposite as u8)
+    };
     content.ties = entries.flat_map(entry).collect();
 }
 
@@ -190,10 +192,10 @@ pub fn row(call: &str, sizes: [usize; 4], inputs: usize) -> Row {
             ask.then_some(got)
         }
     };
-    let slices = if s == 512 {
-        String::new()
-    } else {
-        format!("{s} slices, ")
+    let slices = match s {
+        512 => String::new(),
+        1 => "1 slice, ".to_string(),
+        _ => format!("{s} slices, "),
     };
     let of = match rank {
         64 => "full rank".to_string(),
