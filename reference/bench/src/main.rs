@@ -2,9 +2,10 @@
 //! they are installed; planning and the expected bits also beside other calls of ours that do the same, or most of it. A second table
 //! of how listing and planning grow, drawn as a picture.
 //!
-//! `bench` prints the tables, `bench PICTURE` also writes the picture. `bench --count CALL SIDE TIMES` makes one call so many times
-//! and nothing else, for counting instructions; SIDE is `ours`, `rust`, `plain` or the name of another way. `bench --against OTHER`
-//! times these calls beside those of another folder's bench, whose program OTHER is (`against.rs`).
+//! `bench` prints the tables, `bench PICTURE` also writes the picture, `bench --ties` prints the table of sets with named cells alone.
+//! `bench --count CALL SIDE TIMES` makes one call so many times and nothing else, for counting instructions; SIDE is `ours`, `rust`,
+//! `plain` or the name of another way, CALL a name of its list or a row of a table (`row_by_parts`). `bench --against OTHER` times these
+//! calls beside those of another folder's bench, whose program OTHER is (`against.rs`).
 
 mod against;
 mod growth;
@@ -22,7 +23,7 @@ use row::{Row, Side};
 use std::hint::black_box;
 
 /// The calls whose instructions are counted, each with one input.
-const COUNTED: [(&str, fn() -> Row); 27] = [
+const COUNTED: [(&str, fn() -> Row); 31] = [
     ("read_set", rows::reader),
     ("value_row", || rows::stretch(false)),
     ("write_set", rows::set_writer),
@@ -40,6 +41,18 @@ const COUNTED: [(&str, fn() -> Row); 27] = [
     ("plan-80000", || rows::planning(512, 80_000, 63, 1)),
     ("plan-131072", || rows::planning(512, 131_072, 40, 1)),
     ("plan-full", || rows::planning(512, 131_072, 64, 1)),
+    ("plan-256-tied", || {
+        tied::row("planning", [512, 256, 40, 128], 1)
+    }),
+    ("plan-4096-tied", || {
+        tied::row("planning", [512, 4_096, 40, 128], 1)
+    }),
+    ("list-4096-tied", || {
+        tied::row("listing", [512, 4_096, 40, 128], 1)
+    }),
+    ("expect-tied", || {
+        tied::row("expected", [512, 4_096, 40, 128], 1)
+    }),
     ("cut-512", || rows::cutting(512, 512, 64, 8, 1)),
     ("cut-4096", || rows::cutting(512, 4_096, 64, 8, 1)),
     ("cut-48-one-run", || rows::cutting(512, 48, 48, 8, 1)),
