@@ -3,9 +3,10 @@
 # (Debian: apt-get install libm4ri-dev libpari-dev); one that isn't is named and left out of the table. One that is there and
 # doesn't compile is an error.
 #   scripts/bench.sh               the tables, and the picture docs/growth.svg
+#   scripts/bench.sh ties          the table of sets with named cells alone
 #   scripts/bench.sh instructions  instructions of each call by valgrind's callgrind, ours and the same algorithm in Rust
 #   scripts/bench.sh against FOLDER  each call beside that of another folder of this repository, in one run; `make lib` has been
-#                                  run there, and its benchmark is built as it stands there
+#                                  run there, and its benchmark is built as it stands there, with sets of its own layout
 set -euo pipefail
 cd "$(dirname "$0")/.."
 
@@ -41,6 +42,8 @@ if [ "${1:-}" = instructions ]; then
         rust=$(each "$call" rust)
         printf '%-18s %12d %12d %8s\n' "$call" "$ours" "$rust" "$(awk "BEGIN { printf \"%.2f\", $ours / $rust }")"
     done
+elif [ "${1:-}" = ties ]; then
+    "$bench" --ties
 elif [ "${1:-}" = against ]; then
     before=${2:-}
     [ -r "$before/target/staticlib/libcanceller.a" ] || { echo "'$before' has no target/staticlib/libcanceller.a: name a folder of this repository in which make lib has been run" >&2; exit 1; }

@@ -1,5 +1,6 @@
 //! This library beside another one, each in a bench of its own, since both export the same names: `bench --against OTHER`, where
-//! OTHER is the program `bench` of another folder. The two are timed in turn, so that what disturbs the machine disturbs both alike.
+//! OTHER is the program `bench` of another folder, which makes its sets by the layout of that folder. The two are timed in turn, so that
+//! what disturbs the machine disturbs both alike.
 
 use crate::row::{Row, Side};
 use crate::timing::{ratio, Batches, Times};

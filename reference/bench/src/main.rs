@@ -2,9 +2,10 @@
 //! they are installed; planning and the expected bits also beside other calls of ours that do the same, or most of it. A second table
 //! of how listing and planning grow, drawn as a picture.
 //!
-//! `bench` prints the tables, `bench PICTURE` also writes the picture. `bench --count CALL SIDE TIMES` makes one call so many times
-//! and nothing else, for counting instructions; SIDE is `ours`, `rust`, `plain` or the name of another way. `bench --against OTHER`
-//! times these calls beside those of another folder's bench, whose program OTHER is (`against.rs`).
+//! `bench` prints the tables, `bench PICTURE` also writes the picture, `bench --ties` prints the table of sets with named cells alone.
+//! `bench --count CALL SIDE TIMES` makes one call so many times and nothing else, for counting instructions; SIDE is `ours`, `rust`,
+//! `plain` or the name of another way, CALL a name of its list or a row of a table (`row_by_parts`). `bench --against OTHER` times these
+//! calls beside those of another folder's bench, whose program OTHER is (`against.rs`).
 
 mod against;
 mod growth;
@@ -14,13 +15,15 @@ mod plain;
 mod row;
 mod rows;
 mod same;
+mod small;
+mod tied;
 mod timing;
 
 use row::{Row, Side};
 use std::hint::black_box;
 
 /// The calls whose instructions are counted, each with one input.
-const COUNTED: [(&str, fn() -> Row); 27] = [
+const COUNTED: [(&str, fn() -> Row); 31] = [
     ("read_set", rows::reader),
     ("value_row", || rows::stretch(false)),
     ("write_set", rows::set_writer),
@@ -38,6 +41,18 @@ const COUNTED: [(&str, fn() -> Row); 27] = [
     ("plan-80000", || rows::planning(512, 80_000, 63, 1)),
     ("plan-131072", || rows::planning(512, 131_072, 40, 1)),
     ("plan-full", || rows::planning(512, 131_072, 64, 1)),
+    ("plan-256-tied", || {
+        tied::row("planning", [512, 256, 40, 128], 1)
+    }),
+    ("plan-4096-tied", || {
+        tied::row("planning", [512, 4_096, 40, 128], 1)
+    }),
+    ("list-4096-tied", || {
+        tied::row("listing", [512, 4_096, 40, 128], 1)
+    }),
+    ("expect-tied", || {
+        tied::row("expected", [512, 4_096, 40, 128], 1)
+    }),
     ("cut-512", || rows::cutting(512, 512, 64, 8, 1)),
     ("cut-4096", || rows::cutting(512, 4_096, 64, 8, 1)),
     ("cut-48-one-run", || rows::cutting(512, 48, 48, 8, 1)),
@@ -54,12 +69,36 @@ fn names() -> [&'static str; COUNTED.len()] {
     COUNTED.map(|(name, _)| name)
 }
 
+/// A row of a table, as `planning-500-10`: the call, the unknown cells and the rank; or of a small set, as `sample-plan`; or with ties, as
+/// `tied-planning-512-4096-40-16`: the call, the slices, the unknown cells, the rank and the named symbols.
+fn row_by_parts(call: &str) -> Row {
+    let parts: Vec<&str> = call.split('-').collect();
+    if let [small @ ("sample" | "8x3"), call] = parts[..] {
+        return small::row(small, call);
+    }
+    if let ["tied", call, ref sizes @ ..] = parts[..] {
+        let sizes: Vec<usize> = sizes.iter().map(|n| n.parse().expect("a number")).collect();
+        let [slices, unknowns, rank, symbols] = sizes[..] else {
+            panic!("CALL")
+        };
+        return tied::row(call, [slices, unknowns, rank, symbols], 1);
+    }
+    let [call, unknowns, rank] = parts[..] else {
+        panic!("CALL")
+    };
+    let [unknowns, rank] = [unknowns, rank].map(|n| n.parse().expect("a number"));
+    match call {
+        "listing" => rows::listing(512, unknowns, rank, 1),
+        "planning" => rows::planning(512, unknowns, rank, 1),
+        "words" => rows::wording(512, unknowns, rank, 1),
+        "cutting" => rows::cutting(512, unknowns, rank, 8, 1),
+        _ => panic!("CALL"),
+    }
+}
+
 fn row_of(call: &str) -> Row {
-    let (_, row) = COUNTED
-        .iter()
-        .find(|(name, _)| *name == call)
-        .expect("CALL");
-    row()
+    let named = COUNTED.iter().find(|(name, _)| *name == call);
+    named.map_or_else(|| row_by_parts(call), |(_, row)| row())
 }
 
 fn name_of(side: &Side) -> &'static str {
@@ -90,12 +129,14 @@ fn main() {
     match words[..] {
         ["--count", ..] => return counted(&words[1..]),
         ["--serve", call] => return against::serve(row_of(call)),
+        ["--ties"] => return tied::print_all(),
         ["--against", other] => return against::print_all(other, &names()),
         _ => {}
     }
     println!("| Call | Size | Gives | Ours | Same algorithm in Rust | Straightforward | Others |");
     println!("|---|---|---|---|---|---|---|");
     rows::print_all();
+    tied::print_all();
     let lines = growth::print_all();
     if let Some(path) = words.first() {
         std::fs::write(path, growth::picture(&lines)).unwrap_or_else(|e| panic!("{path}: {e}"));

@@ -1,5 +1,6 @@
 //! The straightforward algorithms on machine words, to measure against: cell by cell, column by column, bit by bit.
 
+use std::collections::BTreeMap;
 use std::ops::Range;
 
 /// A set that was checked: its numbers, and its rows where they stand.
@@ -11,6 +12,14 @@ pub struct PlainSet<'a> {
     pub s: usize,
     pub b: usize,
     pub rows: &'a [u8],
+    ties: Vec<Tie>,
+}
+
+/// An entry: its slice and chain, its symbol number, and whether its cell takes the opposite.
+struct Tie {
+    cell: (usize, usize),
+    symbol: usize,
+    opposite: bool,
 }
 
 fn count(bytes: &[u8], at: usize) -> usize {
@@ -78,7 +87,6 @@ pub fn read_set(set: &[u8]) -> Result<PlainSet<'_>, u64> {
     if set.len() < ties_at + 2 || count(set, ties_at) > 256 {
         return Err(8);
     }
-    // the sets that are measured have no ties
     if set.len() != ties_at + 2 + 7 * count(set, ties_at) {
         return Err(8);
     }
@@ -93,7 +101,7 @@ pub fn read_set(set: &[u8]) -> Result<PlainSet<'_>, u64> {
             }
         }
     }
-    Ok(PlainSet {
+    let mut read = PlainSet {
         m,
         taps,
         inversion,
@@ -101,7 +109,31 @@ pub fn read_set(set: &[u8]) -> Result<PlainSet<'_>, u64> {
         s,
         b,
         rows,
-    })
+        ties: Vec::new(),
+    };
+    read.ties = read_ties(&read, &set[ties_at + 2..])?;
+    Ok(read)
+}
+
+/// The entries, with numbers 29 to 31.
+fn read_ties(set: &PlainSet, bytes: &[u8]) -> Result<Vec<Tie>, u64> {
+    let ties = bytes.chunks(7).map(|entry| Tie {
+        cell: (count(entry, 0), count(entry, 2)),
+        symbol: count(entry, 4),
+        opposite: entry[6] == 1,
+    });
+    let ties: Vec<Tie> = ties.collect();
+    let is_unknown = |(t, c)| t < set.s && c < set.spread.len() && set.unknown(t, c);
+    if !ties.iter().all(|tie| is_unknown(tie.cell)) {
+        return Err(29);
+    }
+    if ties.windows(2).any(|two| two[0].cell >= two[1].cell) {
+        return Err(30);
+    }
+    if bytes.chunks(7).any(|entry| entry[6] > 1) {
+        return Err(31);
+    }
+    Ok(ties)
 }
 
 impl PlainSet<'_> {
@@ -158,7 +190,32 @@ impl PlainSet<'_> {
 
     /// The columns, each clocked to the end.
     pub fn columns(&self) -> Vec<u64> {
-        self.run_columns(0..self.s)
+        self.of_symbols(self.run_columns(0..self.s))
+    }
+
+    /// The columns of symbols, from those of all unknown cells: a cell's is put to that of its symbol's first cell.
+    fn of_symbols(&self, cells: Vec<u64>) -> Vec<u64> {
+        if self.ties.is_empty() {
+            return cells;
+        }
+        let mut columns: Vec<u64> = Vec::new();
+        let mut places: BTreeMap<usize, usize> = BTreeMap::new();
+        let mut cells = cells.into_iter();
+        for t in 0..self.s {
+            for c in (0..self.spread.len()).filter(|c| self.unknown(t, *c)) {
+                let column = cells.next().expect("a column for each unknown cell");
+                let tie = self.ties.binary_search_by_key(&(t, c), |tie| tie.cell);
+                let place = match tie {
+                    Ok(i) => *places.entry(self.ties[i].symbol).or_insert(columns.len()),
+                    Err(_) => columns.len(),
+                };
+                match columns.get_mut(place) {
+                    Some(sum) => *sum ^= column,
+                    None => columns.push(column),
+                }
+            }
+        }
+        columns
     }
 
     /// The first slice of each run, by the words of each run that is tried.
@@ -195,7 +252,7 @@ impl PlainSet<'_> {
             }
         }
         columns.reverse();
-        columns
+        self.of_symbols(columns)
     }
 
     /// The words: sweep and walk. None where there is none.
@@ -205,7 +262,11 @@ impl PlainSet<'_> {
 
     /// Each word's parity with the signature cell by cell.
     fn expected(&self, words: &[u64]) -> u64 {
-        let zero = self.signature(self.rows, 2 * self.b);
+        let mut zero = self.signature(self.rows, 2 * self.b);
+        for tie in self.ties.iter().filter(|tie| tie.opposite) {
+            let (t, c) = tie.cell;
+            zero ^= (t + 1..self.s).fold(self.spread[c], |state, _| self.clocked(state));
+        }
         words
             .iter()
             .enumerate()

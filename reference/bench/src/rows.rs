@@ -22,14 +22,14 @@ pub fn inputs_for(columns: usize) -> usize {
 }
 
 /// What the sides of a row read stands until the benchmark ends.
-fn kept<T>(value: T) -> &'static T {
+pub fn kept<T>(value: T) -> &'static T {
     Box::leak(Box::new(value))
 }
 
-type Files = &'static Vec<Vec<u8>>;
+pub type Files = &'static Vec<Vec<u8>>;
 
 /// A content of m 64 and 256 chains that inverts at least one input of the register.
-fn inverting(r: &mut Random, s: usize, rank: usize, unknowns: usize) -> Content {
+pub fn inverting(r: &mut Random, s: usize, rank: usize, unknowns: usize) -> Content {
     let mut content = content_of_rank(r, (64, 256, s), rank, unknowns);
     content.inversion |= 1;
     content
@@ -83,11 +83,11 @@ fn of_rank(unknowns: usize, rank: usize) -> String {
 }
 
 /// What planning, the plan reader and the call that makes words answer with, q second, and the words.
-fn of_plan(answer: &[u64], words: &[u64]) -> Vec<u64> {
+pub fn of_plan(answer: &[u64], words: &[u64]) -> Vec<u64> {
     [answer, &words[..answer[1] as usize]].concat()
 }
 
-fn planned(p: CPlanned) -> [u64; 3] {
+pub fn planned(p: CPlanned) -> [u64; 3] {
     [p.m, p.q, p.expected]
 }
 

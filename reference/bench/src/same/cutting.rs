@@ -1,7 +1,7 @@
 //! Cutting: the slices in runs, by one pass over them; and by restarting each run, which makes a run's columns anew for each end tried.
 
 use super::elimination::{reduce, unit_words};
-use super::response::{fill_swept, list_row, mark_row};
+use super::response::{fill_swept, list_row, Marks};
 use super::set::{read_set, Read};
 
 /// Puts for each word what it was so many clocks earlier.
@@ -69,9 +69,10 @@ fn cut_slices(
     let table = eight_back(read);
     let mut columns = [0; 256];
     let mut held = unit_words();
+    let marks = Marks::of_set(set, read.n);
     let (mut left, mut runs) = (0, 0);
     for t in 0..read.s {
-        let place = list_row(&mut columns, words, mark_row(set, read.n, t));
+        let place = list_row(&mut columns, words, marks.row(t));
         unclock_words(read, t % 8, &mut columns[place..]);
         let turn = put_slice(&mut held, left, &columns[place..], read.m as usize, k);
         left = turn.0;
@@ -97,7 +98,13 @@ fn restart_slices(
 ) -> Result<usize, u64> {
     let mut columns = vec![0; read.n * read.s];
     let mut leaves = |start: usize, end: usize| {
-        let place = fill_swept(set, read, spread, start..end, &mut columns);
+        let place = fill_swept(
+            Marks::of_set(set, read.n),
+            read,
+            spread,
+            start..end,
+            &mut columns,
+        );
         k <= reduce(&mut unit_words()[..read.m as usize], &columns[place..])
     };
     let (mut start, mut runs) = (0, 0);

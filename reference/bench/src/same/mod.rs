@@ -7,6 +7,7 @@ pub mod elimination;
 pub mod plan;
 pub mod response;
 pub mod set;
+pub mod ties;
 pub mod words;
 
 /// The count of two bytes at place `at`, which are there.
@@ -33,6 +34,13 @@ fn beyond(m: u64, w: u64) -> bool {
 
 fn odd(a: u64, b: u64) -> u64 {
     u64::from((a & b).count_ones() & 1)
+}
+
+/// The XOR of the powers whose bit in w is 1.
+fn from_powers(powers: &[u64], w: u64) -> u64 {
+    let bit = |k: usize| (w >> k & 1).wrapping_neg();
+    let chosen = powers.iter().enumerate().map(|(k, p)| p & bit(k));
+    chosen.fold(0, |a, p| a ^ p)
 }
 
 /// The parities of the words with y as one word, bit i for word i.

@@ -4,6 +4,7 @@
 use super::elimination::eliminate;
 use super::plan::{is_bad_word_count, is_reduced};
 use super::set::{head_length, next_state, read_set, Read};
+use super::ties::{opening_flags, set_symbols, side_columns, unmark, Ties};
 use super::words::fill_words;
 use super::*;
 use std::ops::Range;
@@ -50,22 +51,48 @@ pub fn sign(set: &[u8], record: &[u8]) -> Result<u64, u64> {
     Ok(run_rows(read, &spread[..read.n], record, b, b))
 }
 
-pub fn mark_row(set: &[u8], n: usize, t: usize) -> &[u8] {
-    let b = n.div_ceil(8);
-    let at = head_length(n) + 2 * b * t + b;
-    &set[at..at + b]
+/// Rows of marks: those of a set, or some that stand one after the other in a list of nothing else.
+#[derive(Clone, Copy)]
+pub struct Marks<'a> {
+    list: &'a [u8],
+    stride: usize,
+    bytes: usize,
 }
 
-/// The unknown cells, by four words of 64 marks for each row.
-pub fn count_unknowns(set: &[u8], read: Read) -> usize {
-    let mut found = 0;
-    for t in 0..read.s {
-        let row = mark_row(set, read.n, t);
-        for i in 0..4 {
-            found += word(row, 8 * i).count_ones() as usize;
+impl<'a> Marks<'a> {
+    pub fn of_set(set: &'a [u8], n: usize) -> Marks<'a> {
+        let bytes = n.div_ceil(8);
+        Marks {
+            list: set.get(head_length(n) + bytes..).unwrap_or_default(),
+            stride: 2 * bytes,
+            bytes,
         }
     }
-    found
+
+    pub fn of_list(list: &'a [u8], n: usize) -> Marks<'a> {
+        let bytes = n.div_ceil(8);
+        Marks {
+            list,
+            stride: bytes,
+            bytes,
+        }
+    }
+
+    pub fn row(self, t: usize) -> &'a [u8] {
+        &self.list[self.stride * t..][..self.bytes]
+    }
+
+    /// The marked cells of some slices, by four words of 64 marks for each row.
+    pub fn count(self, slices: Range<usize>) -> usize {
+        let mut found = 0;
+        for t in slices {
+            let row = self.row(t);
+            for i in 0..4 {
+                found += word(row, 8 * i).count_ones() as usize;
+            }
+        }
+        found
+    }
 }
 
 /// Marks 64 i to 64 i + 63 of a row, as far as there are chains.
@@ -109,7 +136,7 @@ pub fn advance_words(read: Read, words: &mut [u64]) {
 /// The columns of a run of slices over the end of the list, from the last slice on, all chains' words advanced by one clock for each; how
 /// many places stand before them.
 pub fn fill_swept(
-    set: &[u8],
+    marks: Marks,
     read: Read,
     spread: &[u64; 256],
     slices: Range<usize>,
@@ -119,7 +146,7 @@ pub fn fill_swept(
     let words = &mut all[..read.n];
     let mut place = columns.len();
     for t in slices.rev() {
-        place = list_row(&mut columns[..place], words, mark_row(set, read.n, t));
+        place = list_row(&mut columns[..place], words, marks.row(t));
         advance_words(read, words);
     }
     place
@@ -139,20 +166,16 @@ pub fn powers(read: Read) -> [u64; 576] {
 /// Puts for each word the XOR of the powers whose bit in it is 1.
 pub fn power_words(powers: &[u64], words: &mut [u64]) {
     for word in words {
-        let w = *word;
-        let bit = |k: usize| (w >> k & 1).wrapping_neg();
-        let chosen = powers.iter().enumerate().map(|(k, p)| p & bit(k));
-        *word = chosen.fold(0, |a, p| a ^ p);
+        *word = from_powers(powers, *word);
     }
 }
 
 /// Each column from the powers of the register: bit i of the spread word, j clocks later, is bit 0 after i + j clocks.
-fn fill_sparse(set: &[u8], read: Read, spread: &[u64; 256], columns: &mut [u64]) {
+fn fill_sparse(marks: Marks, read: Read, spread: &[u64; 256], columns: &mut [u64]) {
     let table = powers(read);
     let mut place = columns.len();
     for t in (0..read.s).rev() {
-        let row = mark_row(set, read.n, t);
-        let start = list_row(&mut columns[..place], &spread[..read.n], row);
+        let start = list_row(&mut columns[..place], &spread[..read.n], marks.row(t));
         let later = &table[read.s - 1 - t..][..read.m as usize];
         power_words(later, &mut columns[start..place]);
         place = start;
@@ -160,22 +183,43 @@ fn fill_sparse(set: &[u8], read: Read, spread: &[u64; 256], columns: &mut [u64])
 }
 
 /// Up to 512 columns are made one by one; for more, all the chains' words are advanced together.
-fn fill_columns(set: &[u8], read: Read, spread: &[u64; 256], columns: &mut [u64]) {
+fn fill_columns(marks: Marks, read: Read, spread: &[u64; 256], columns: &mut [u64]) {
     if columns.len() > 512 || bad_spread(read.m, &spread[..read.n]) {
-        fill_swept(set, read, spread, 0..read.s, columns);
+        fill_swept(marks, read, spread, 0..read.s, columns);
     } else {
-        fill_sparse(set, read, spread, columns)
+        fill_sparse(marks, read, spread, columns)
     }
 }
 
-/// The unknown cells' columns over the front of the list, and how many they are.
-fn listed(set: &[u8], read: Read, spread: &[u64; 256], columns: &mut [u64]) -> Result<usize, u64> {
-    let unknowns = count_unknowns(set, read);
-    if columns.len() < unknowns {
+/// The columns of the cells that the rows mark over the front of the list, and how many they are.
+fn list_marked(
+    marks: Marks,
+    read: Read,
+    spread: &[u64; 256],
+    columns: &mut [u64],
+) -> Result<usize, u64> {
+    let found = marks.count(0..read.s);
+    if columns.len() < found {
         return Err(14);
     }
-    fill_columns(set, read, spread, &mut columns[..unknowns]);
-    Ok(unknowns)
+    fill_columns(marks, read, spread, &mut columns[..found]);
+    Ok(found)
+}
+
+/// The symbols' columns over the front of the list, and how many they are: with ties, those of a symbol's first cell and of unnamed cells
+/// first, and then the symbols' own in the places of the first cells.
+fn listed(set: &[u8], read: Read, spread: &[u64; 256], columns: &mut [u64]) -> Result<usize, u64> {
+    let marks = Marks::of_set(set, read.n);
+    let ties = Ties::of_set(set, read.n, read.s);
+    if ties.len() == 0 {
+        return list_marked(marks, read, spread, columns);
+    }
+    let flags = opening_flags(ties);
+    let heads = unmark(marks, (read.n, read.s), ties, |i| flags[i]);
+    let marks = Marks::of_list(&heads, read.n);
+    let symbols = list_marked(marks, read, spread, columns)?;
+    set_symbols(read, spread, ties, &flags, marks, &mut columns[..symbols]);
+    Ok(symbols)
 }
 
 /// The columns.
@@ -205,7 +249,8 @@ fn expected_bits(set: &[u8], read: Read, spread: &[u64; 256], words: &[u64]) -> 
     let b = read.n.div_ceil(8);
     let rows = &set[head_length(read.n)..];
     let zero = run_rows(read, &spread[..read.n], rows, 2 * b, b);
-    parities(words, zero)
+    let ties = Ties::of_set(set, read.n, read.s);
+    parities(words, zero ^ side_columns(read, spread, ties))
 }
 
 fn worded(

@@ -1,5 +1,7 @@
 //! The set file: its reader, the rows of one slice, its writer; and the register's clock.
 
+use super::response::Marks;
+use super::ties::{ties_refusal, Ties};
 use super::*;
 use reference::second::set::Content;
 
@@ -74,7 +76,7 @@ fn share_a_bit(values: &[u8], marks: &[u8]) -> bool {
     shared != 0
 }
 
-/// .. and 7 to 10: 9 by one byte of each row, 10 by whole bytes. The sets that are measured have no ties, and 29 to 31 don't come up.
+/// .. 7 to 10, and 29 to 31: 9 by one byte of each row, 10 by whole bytes.
 fn first_refusal(set: &[u8]) -> u64 {
     let number = head_refusal(set);
     if number != 0 {
@@ -97,7 +99,11 @@ fn first_refusal(set: &[u8]) -> u64 {
             return 10;
         }
     }
-    0
+    let ties = Ties::of_set(set, n, s);
+    if ties.len() == 0 {
+        return 0;
+    }
+    ties_refusal(ties, Marks::of_set(set, n), n, s)
 }
 
 pub fn read_set(set: &[u8]) -> Result<(Read, [u64; 256]), u64> {

@@ -3,6 +3,7 @@
 use super::elimination::{byte_table, put_words, reduce, skip_by_table, unit_words};
 use super::response::*;
 use super::set::Read;
+use super::ties::{count_flags, fill_symbols, opening_flags, unmark, Ties};
 use super::*;
 
 /// As much of a row as there is room for, over the end of the list: by words of 64 marks, up to the first that doesn't fit. How many
@@ -31,7 +32,7 @@ struct Portion {
 /// Where the marked cells come from, and the powers of the register, or none.
 #[derive(Clone, Copy)]
 struct Source<'a> {
-    set: &'a [u8],
+    marks: Marks<'a>,
     read: Read,
     powers: &'a [u64],
 }
@@ -43,10 +44,14 @@ fn fill_portion(
     columns: &mut [u64],
     (mut t, mut chains): (usize, usize),
 ) -> Portion {
-    let Source { set, read, powers } = source;
+    let Source {
+        marks,
+        read,
+        powers,
+    } = source;
     let mut place = columns.len();
     while 0 < t {
-        let row = mark_row(set, read.n, t - 1);
+        let row = marks.row(t - 1);
         let (start, left) = list_fitting(&mut columns[..place], &words[..chains], row);
         if !powers.is_empty() {
             let later = &powers[read.s - t..][..read.m as usize];
@@ -140,8 +145,45 @@ fn reduce_all(
     at.left
 }
 
-/// The words of a set that was read: how many they are. Up to 512 columns are made one by one; for more, all the chains' words are
-/// advanced together.
+/// The columns of the named symbols behind the first 64 places, and how many they are.
+fn put_symbols(
+    read: Read,
+    spread: &[u64; 256],
+    ties: Ties,
+    working: &mut [u64],
+) -> Result<usize, u64> {
+    if ties.len() == 0 {
+        return Ok(0);
+    }
+    let flags = opening_flags(ties);
+    let symbols = count_flags(&flags);
+    let places = working.get_mut(64..64 + symbols).ok_or(14u64)?;
+    fill_symbols(read, spread, ties, &flags, places);
+    Ok(symbols)
+}
+
+/// The words of the cells that the rows mark: how many they are. Up to 512 columns are made one by one; for more, all the chains' words
+/// are advanced together.
+fn reduce_cells(
+    marks: Marks,
+    read: Read,
+    spread: &[u64; 256],
+    working: &mut [u64],
+    held: &mut [u64],
+) -> usize {
+    let mut all = *spread;
+    let unknowns = marks.count(0..read.s);
+    let many = unknowns > 512 || bad_spread(read.m, &spread[..read.n]);
+    let table = (!many).then(|| powers(read));
+    let source = Source {
+        marks,
+        read,
+        powers: table.as_ref().map_or(&[][..], |p| p),
+    };
+    reduce_all(source, &mut all[..read.n], working, held, unknowns)
+}
+
+/// The words of a set that was read: how many they are. Those of the cells without an entry, and then the named symbols' columns.
 pub fn fill_words(
     set: &[u8],
     read: Read,
@@ -149,18 +191,23 @@ pub fn fill_words(
     working: &mut [u64],
     words: &mut [u64],
 ) -> Result<usize, u64> {
-    let Some(working) = working.get_mut(..64) else {
+    let ties = Ties::of_set(set, read.n, read.s);
+    let symbols = put_symbols(read, spread, ties, working)?;
+    let Some(working) = working.get_mut(..64 + symbols) else {
         return Err(14);
     };
     let mut held = unit_words();
-    let mut all = *spread;
-    let unknowns = count_unknowns(set, read);
-    let many = unknowns > 512 || bad_spread(read.m, &spread[..read.n]);
-    let table = (!many).then(|| powers(read));
-    let powers = table.as_ref().map_or(&[][..], |p| p);
-    let source = Source { set, read, powers };
-    let (words_of_chains, held_words) = (&mut all[..read.n], &mut held[..read.m as usize]);
-    let left = reduce_all(source, words_of_chains, working, held_words, unknowns);
+    let held = &mut held[..read.m as usize];
+    let marks = Marks::of_set(set, read.n);
+    let (portion, named) = working.split_at_mut(64);
+    let left = if ties.len() == 0 {
+        reduce_cells(marks, read, spread, portion, held)
+    } else {
+        let free = unmark(marks, (read.n, read.s), ties, |_| false);
+        let free = Marks::of_list(&free, read.n);
+        let left = reduce_cells(free, read, spread, portion, held);
+        reduce(&mut held[..left], named)
+    };
     working.fill(0);
     put_words(&held[..left], words)
 }
