@@ -102,8 +102,8 @@ fn exactly_the_signatures_of_fillings_that_obey_the_ties_pass() {
     );
 }
 
-/// Every list of ties of two unknown cells and of three, with one symbol, two or three, and each last byte, against the words and
-/// expected bits that the test works out: all words that no filling changes, reduced.
+/// Every list of ties of up to three unknown cells, with up to three symbols and each last byte: exactly the explained signatures pass,
+/// and planning gives 17 where these are all.
 #[test]
 fn every_way_to_tie_three_cells() {
     let mut both = Both::new();
@@ -324,7 +324,7 @@ fn single_bits_expect_the_signature_with_opposite_cells_1() {
     assert!(moved > 300, "{moved} sets expect other bits for their ties");
 }
 
-/// A set with no entries, and one in which each symbol has one cell: columns, words, plan and cutting are those of all cells free.
+/// A set with no entries, and one in which each symbol has one cell: columns, words and plan are those of all cells free.
 #[test]
 fn without_entries_or_with_symbols_of_one_cell_every_cell_is_free() {
     let mut both = Both::new();
@@ -561,7 +561,7 @@ fn of_two_numbers_or_three_the_first_is_given() {
                 for (_, fault) in [a, b, c] {
                     fault(&mut bad);
                 }
-                // in the order of the call, not of the numbers' size
+                // the order of the call is here that of the numbers' size
                 let numbers = [a.0, b.0, c.0];
                 let first = *numbers.iter().min().expect("three");
                 both.at = format!("{numbers:?}: {bad:?}");
@@ -699,8 +699,7 @@ fn the_count_is_exact_and_at_most_256() {
     let mut r = Random::new(413_000);
     let free = content(&mut r, 12, 20, 20, 1, 1);
     for entries in [0, 1, 2, 255, 256, 257, 258, 300] {
-        let count = entries.min(400);
-        let ties = some_ties(&mut r, &free, count, &[1, 2, 3], &[0, 1]);
+        let ties = some_ties(&mut r, &free, entries, &[1, 2, 3], &[0, 1]);
         let content = Content {
             ties,
             ..free.clone()

@@ -16,7 +16,7 @@ use Rattle.combinations.specs.Combination.{onlyEmpty}
 use Rattle.combinations.proofs.Theorems.{only-empty-list}
 use Rattle.set_layout.specs.Layout.{widthOf}
 use Rattle.signatures.specs.Sets.{columnsOf, namedOf}
-use Rattle.kept_words.specs.Working.{wordsOf, workingPlaces, workingTest, workingAfter, keptTests, keptReply, said, namedOfSet, withSymbols}
+use Rattle.kept_words.specs.Working.{wordsOf, workingPlaces, workingTest, workingAfter, keptTests, keptReply, said, namedColumnsOf, withSymbols}
 use Rattle.kept_words.proofs.PutLaws.{short-symbols, symbols-behind, rest-as-was}
 use Rattle.kept_words.specs.declared.Kept.{Kept}
 use Rattle.kept_words.specs.declared.Kept.the-variants.{Words, Refused}
@@ -104,7 +104,7 @@ module _ (set w w′ : List ℕ) (symbols : ℕ) (put : (symbols ≡ namedOf set
     pub put-room : workingPlaces set ≤ length w
     put-room = omega (arith, h, long, places)
 
-    pub put-behind : drop 64 (take (64 + symbols) w′) ≡ namedOfSet set
+    pub put-behind : drop 64 (take (64 + symbols) w′) ≡ namedColumnsOf set
     put-behind = ap₂ (λ (i : ℕ) (l : List ℕ). drop 64 (take i l)) places (put .1) ∙ symbols-behind set w put-room
 
     pub put-cleared : (part z : List ℕ) → length part ≡ length (take (64 + symbols) w′)

@@ -28,7 +28,7 @@ use Rattle.signatures.proofs.TakenLaws.{whole, own-slices, own-spread, own-ties
 use Rattle.symbol_flags.proofs.FlagLaws.{flags-counted}
 use Rattle.symbol_columns.specs.Powered.{FlagsIn}
 use Rattle.symbol_columns.proofs.FillLaws.{named-length}
-use Rattle.kept_words.specs.Working.{workingPlaces, namedOfSet, withSymbols}
+use Rattle.kept_words.specs.Working.{workingPlaces, namedColumnsOf, withSymbols}
 
 -- ---- how many
 
@@ -42,8 +42,8 @@ few-flags fs limit symbols h e =
     one true = omega arith
     one false = omega arith
 
-pub named-of-set : (set : List ℕ) → length (namedOfSet set) ≡ namedOf set
-unfolding namedOfSet namedOf
+pub named-of-set : (set : List ℕ) → length (namedColumnsOf set) ≡ namedOf set
+unfolding namedColumnsOf namedOf
 named-of-set set = named-length (circuitOf set) (slicesOf set) (tiesOf set)
 
 -- ---- a working list with them
@@ -52,28 +52,28 @@ module _ (set w : List ℕ) where
   pub short-symbols : length w < workingPlaces set → w ≡ withSymbols set w
   short-symbols h = rw (lt-ltb (length w) (workingPlaces set) h)
 
-  pub room-symbols : workingPlaces set ≤ length w → withSymbols set w ≡ take 64 w ++ (namedOfSet set ++ drop (workingPlaces set) w)
+  pub room-symbols : workingPlaces set ≤ length w → withSymbols set w ≡ take 64 w ++ (namedColumnsOf set ++ drop (workingPlaces set) w)
   room-symbols h = rw (le-ltb (length w) (workingPlaces set) h)
 
   module _ (h : workingPlaces set ≤ length w) where
-    front-long : length (take 64 w ++ namedOfSet set) ≡ workingPlaces set
+    front-long : length (take 64 w ++ namedColumnsOf set) ≡ workingPlaces set
     front-long =
-        length-append (take 64 w) (namedOfSet set) ∙ ap₂ _+_ (length-take-le 64 w (omega (arith, h))) (named-of-set set)
+        length-append (take 64 w) (namedColumnsOf set) ∙ ap₂ _+_ (length-take-le 64 w (omega (arith, h))) (named-of-set set)
 
-    split : withSymbols set w ≡ (take 64 w ++ namedOfSet set) ++ drop (workingPlaces set) w
-    split = room-symbols h ∙ sym (append-assoc (take 64 w) (namedOfSet set) (drop (workingPlaces set) w))
+    split : withSymbols set w ≡ (take 64 w ++ namedColumnsOf set) ++ drop (workingPlaces set) w
+    split = room-symbols h ∙ sym (append-assoc (take 64 w) (namedColumnsOf set) (drop (workingPlaces set) w))
 
     -- they stand behind the first 64 places
-    pub symbols-behind : drop 64 (take (workingPlaces set) (withSymbols set w)) ≡ namedOfSet set
+    pub symbols-behind : drop 64 (take (workingPlaces set) (withSymbols set w)) ≡ namedColumnsOf set
     symbols-behind =
         ap (λ (l : List ℕ). drop 64 (take (workingPlaces set) l)) split
-        ∙ ap (drop 64) (take-at (take 64 w ++ namedOfSet set) (drop (workingPlaces set) w) (workingPlaces set) front-long)
-        ∙ drop-at (take 64 w) (namedOfSet set) 64 (length-take-le 64 w (omega (arith, h)))
+        ∙ ap (drop 64) (take-at (take 64 w ++ namedColumnsOf set) (drop (workingPlaces set) w) (workingPlaces set) front-long)
+        ∙ drop-at (take 64 w) (namedColumnsOf set) 64 (length-take-le 64 w (omega (arith, h)))
 
     -- .. and nothing else has changed there
     pub rest-as-was : drop (workingPlaces set) (withSymbols set w) ≡ drop (workingPlaces set) w
     rest-as-was =
-        ap (drop (workingPlaces set)) split ∙ drop-at (take 64 w ++ namedOfSet set) (drop (workingPlaces set) w) (workingPlaces set) front-long
+        ap (drop (workingPlaces set)) split ∙ drop-at (take 64 w ++ namedColumnsOf set) (drop (workingPlaces set) w) (workingPlaces set) front-long
 
 -- ---- the ways out
 
@@ -83,15 +83,15 @@ module _ (set : List ℕ) (k : Taken) (taken : TakenFrom set k) (w : List ℕ) (
   PutFor r w′ = (r ≡ namedOf set) × (w′ ≡ withSymbols set w)
 
   pub put-none : count ≡ 0 → PutFor 0 w
-  unfolding namedOf namedOfSet namedColumns joined
+  unfolding namedOf namedColumnsOf namedColumns joined
   put-none z =
       let bare : tieCountOf set ≡ 0 = sym ec ∙ z in
       let none : namedOf set ≡ 0 = named-free (given set) bare in
-      let empty : namedOfSet set ≡ [] =
+      let empty : namedColumnsOf set ≡ [] =
       ap (joined (λ i. listed (flag (tiesOf set) i) (symbolColumn (circuitOf set) (slicesOf set) (tiesOf set) (tiesOf set .symbol i)))) bare
       in (sym none, go (ltb (length w) (workingPlaces set)) (ap (λ (n : ℕ). 64 + n) none) empty)
     where
-      go : (b : Bool) → workingPlaces set ≡ 64 → namedOfSet set ≡ [] → w ≡ cond b w (take 64 w ++ (namedOfSet set ++ drop (workingPlaces set) w))
+      go : (b : Bool) → workingPlaces set ≡ 64 → namedColumnsOf set ≡ [] → w ≡ cond b w (take 64 w ++ (namedColumnsOf set ++ drop (workingPlaces set) w))
       go true p q = refl
       go false p q = sym (ap₂ (λ (l : List ℕ) (n : ℕ). take 64 w ++ (l ++ drop n w)) q p ∙ take-append-drop 64 w)
 
@@ -117,9 +117,9 @@ module _ (set : List ℕ) (k : Taken) (taken : TakenFrom set k) (w : List ℕ) (
         → length (namedColumns (takenCircuit k) (min (k .s) 512) (tiesIn ties count)) ≤ length (take (64 + symbols - 64) (drop 64 w))
         → part ≡ front (namedColumns (takenCircuit k) (min (k .s) 512) (tiesIn ties count)) (take (64 + symbols - 64) (drop 64 w)))
         → PutFor symbols (take 64 w ++ (part ++ drop (64 + symbols - 64) (drop 64 w)))
-    unfolding namedOfSet
+    unfolding namedColumnsOf
     put-part part room written =
-        let same : namedColumns (takenCircuit k) (min (k .s) 512) (tiesIn ties count) ≡ namedOfSet set =
+        let same : namedColumns (takenCircuit k) (min (k .s) 512) (tiesIn ties count) ≡ namedColumnsOf set =
         ap₂ (λ (x : Circuit) (y : ℕ). namedColumns x y (tiesIn ties count)) (taken .circuit) (own-slices set k taken)
         ∙ ap (namedColumns (circuitOf set) (slicesOf set)) (own-ties set k taken ties count et ec)
         in
@@ -127,7 +127,7 @@ module _ (set : List ℕ) (k : Taken) (taken : TakenFrom set k) (w : List ℕ) (
         let fits : length (namedColumns (takenCircuit k) (min (k .s) 512) (tiesIn ties count)) ≡ length (take (64 + symbols - 64) (drop 64 w)) =
         ap length same ∙ named-of-set set ∙ sym counted ∙ sym place
         in
-        let put : part ≡ namedOfSet set = written (own-within set k taken ties count et ec) (own-spread set k taken) (right few) (omega (arith, fits)) ∙ front-all _ _ fits ∙ same in
+        let put : part ≡ namedColumnsOf set = written (own-within set k taken ties count et ec) (own-spread set k taken) (right few) (omega (arith, fits)) ∙ front-all _ _ fits ∙ same in
         let sum : 64 + symbols ≡ workingPlaces set = ap (λ (i : ℕ). 64 + i) counted in
         let behind : drop (64 + symbols - 64) (drop 64 w) ≡ drop (workingPlaces set) w =
         ap (λ (i : ℕ). drop i (drop 64 w)) less ∙ drop-drop symbols 64 w ∙ ap (λ (i : ℕ). drop i w) sum

@@ -10,7 +10,7 @@
 --   keptTests set p w       the numbers that a taken set meets, in order, for p working places and w word places
 --   keptReply set p w       the reply: q
 --   said a                  the paper's reading of what the call hands back
---   namedOfSet set          the columns of its named symbols
+--   namedColumnsOf set      the columns of its named symbols
 --   withSymbols set l       the list l with these behind its first 64 places, where they fit
 --   freeWords set           the reduced list for the columns of its free cells
 use mathlib.Core.Bool.{cond}
@@ -62,11 +62,11 @@ said (Refused n) = refusal n
 
 -- ---- the work
 
-unfoldable pub namedOfSet : List ℕ → List ℕ
-namedOfSet set = namedColumns (circuitOf set) (slicesOf set) (tiesOf set)
+unfoldable pub namedColumnsOf : List ℕ → List ℕ
+namedColumnsOf set = namedColumns (circuitOf set) (slicesOf set) (tiesOf set)
 
 abbrev pub withSymbols : List ℕ → List ℕ → List ℕ
-withSymbols set l = cond (ltb (length l) (workingPlaces set)) l (take 64 l ++ (namedOfSet set ++ drop (workingPlaces set) l))
+withSymbols set l = cond (ltb (length l) (workingPlaces set)) l (take 64 l ++ (namedColumnsOf set ++ drop (workingPlaces set) l))
 
 unfoldable pub freeWords : List ℕ → List ℕ
 freeWords set = reducedList (widthOf set) (columnsBelow (circuitOf set) (slicesOf set) (freeMarks (marks set) (tiesOf set)) (slicesOf set))

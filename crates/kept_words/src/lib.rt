@@ -10,7 +10,7 @@ ghost use Rattle.rows.specs.Row.{rowBytes};
 ghost use Rattle.set_layout.specs.Layout.{widthOf, markAt};
 ghost use Rattle.set_file.specs.Reading.{TakenFrom};
 ghost use Rattle.signatures.specs.Sets.{namedOf};
-ghost use Rattle.kept_words.specs.Working.{wordsOf, workingTest, workingAfter, keptReply, said, namedOfSet, withSymbols, freeWords};
+ghost use Rattle.kept_words.specs.Working.{wordsOf, workingTest, workingAfter, keptReply, said, namedColumnsOf, withSymbols, freeWords};
 use rows::Rows;
 use set_file::Taken;
 
@@ -79,7 +79,7 @@ fn reduce_free(taken: Taken, set: &[u8], working: &mut [u64], held: &mut [u64]) 
 // All the words of a taken set, where the columns of its named symbols stand behind the first 64 places of `working`, and nothing behind them.
 fn reduce_symbols(taken: Taken, set: &[u8], working: &mut [u64], held: &mut [u64]) -> usize
     ensures left { λ r. ⌜ r ≤ length (now (held .entry)) ⌝ }
-    ensures words { λ r. ⌜ (TakenFrom (now (set .entry)) taken → 64 ≤ length (now (working .entry)) → drop 64 (now (working .entry)) ≡ namedOfSet (now (set .entry)) → now (held .entry) ≡ units (widthOf (now (set .entry))) → (r ≡ length (wordsOf (now (set .entry)))) × (take r (now (held .exit)) ≡ wordsOf (now (set .entry)))) ⌝ }
+    ensures words { λ r. ⌜ (TakenFrom (now (set .entry)) taken → 64 ≤ length (now (working .entry)) → drop 64 (now (working .entry)) ≡ namedColumnsOf (now (set .entry)) → now (held .entry) ≡ units (widthOf (now (set .entry))) → (r ≡ length (wordsOf (now (set .entry)))) × (take r (now (held .exit)) ≡ wordsOf (now (set .entry)))) ⌝ }
 {
     if working.len() < WORKING_PLACES {
         return held.len();

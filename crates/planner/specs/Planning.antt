@@ -1,8 +1,9 @@
 -- Planning. Document 01: "Planning is lent a column list and a word list and answers with m, q and the expected bits as one
 -- word, bit i for word i". Document 02, No. 3: "Words are to come from a working list of 64 places, with the same answer. Refusal 14 in
 -- planning now means fewer than 64 places. Past 14, those 64 hold zero when the call ends, accepted or not." Document 02, No. 7: "planning
--- needs one more working place for each named symbol, counted in its 14 and zero at the end also." And the call that gives the words alone. Document 02, No. 2: "Planning is to be split in two: one call gives the words, the other the expected bits for a set and
--- its words." It meets planning's numbers and is lent planning's lists; the other call is expectation/specs/Expecting. 16 is none of the
+-- needs one more working place for each named symbol, counted in its 14 and zero at the end also."
+-- And the call that gives the words alone. Document 02, No. 2: "Planning is to be split in two: one call gives the words, the other the
+-- expected bits for a set and its words." It meets planning's numbers and is lent planning's lists; the other call is expectation/specs/Expecting. 16 is none of the
 -- numbers: document 02, No. 4 (proofs/Sixteen).
 --
 --   expectedOf set          the expected bits of a set's own words

@@ -1,8 +1,8 @@
 -- What the set writer is handed. Document 01: "The set writer takes the tap word, spread words and the two lists of rows, and the
 -- width and slice count"; "A word later added to the set's register section is [..] taken by the set writer": document 02, No. 1, the
 -- inversion word; "A list later added to the set goes to the writer as bytes laid out as in the file, 8 if they aren't whole entries within
--- the count's limit": document 02, No. 7, the entries of ties. It meets 2, 3, 25, 4, 6, 7, 8, 9, 10, 29, 30, 31 and 24: document 01, "24 stands last in its call, also
--- beside numbers that later requests add".
+-- the count's limit": document 02, No. 7, the entries of ties. It meets 2, 3, 25, 4, 6, 7, 8, 9, 10, 29, 30, 31 and 24: document 01,
+-- "24 stands last in its call, also beside numbers that later requests add".
 --
 --   SetContent          what the writer is handed: m, the tap word, the inversion word, the spread words, the value rows, the mark
 --                       rows, s, and the entries of ties as bytes

@@ -15,6 +15,7 @@
 --   symbolsFor g        document 02: the number of symbols, free and named
 --   namedFor g          .. of named ones
 --   unknownsFor g       document 01: the number of unknown cells
+--   sideOf e o          what an unknown cell holds where its symbol is 0: the side of the entry o that names it, and else 0
 --   zeroed g            the filling that gives every symbol a 0: a cell tied as opposite is 1 there
 --   zeroSignatureFor g  document 02: the signature for all symbols 0
 --   SameMarks g h       h has the register, the chains, the number of slices and the marks of g
@@ -72,7 +73,6 @@ namedFor g = namedSymbols (g .ties)
 abbrev pub unknownsFor : Given → ℕ
 unknownsFor g = total (g .slices) (λ t. total (chains (g .wiring)) (g .marks t))
 
--- what an unknown cell holds where its symbol is 0
 abbrev pub sideOf : Ties → Option ℕ → ℕ
 sideOf e none = 0
 sideOf e (some i) = e .side i

@@ -4,6 +4,7 @@
 --   symbolColumn k s e j      the column of symbol number j: the XOR of the columns of the cells that entries of e name with it
 --   namedColumns k s e        the columns of the named symbols, in the order of their first cells
 --   sideColumns k s e         the XOR of the columns of the cells that take the opposite of their symbol
+--   sourceColumn k s e t c o  the column of the symbol of the entry o, where one names the cell, and else the cell's own
 --   columnAt k s e t c        the column that is listed at the cell of slice t and chain c: its symbol's, or its own where it is free
 --   listing f u n t           f's words of the cells that u marks in the first t slices of n chains, by slice and then by chain
 --   symbolColumns k s u e     the columns of all symbols, where u marks the unknown cells

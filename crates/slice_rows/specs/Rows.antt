@@ -1,5 +1,5 @@
--- One slice's rows, and the entries of ties. Document 01: "A caller may have the value row or mark row of one slice. That answer is the stretch of the
--- set file itself. Where the call declines, the stretch is empty (a row has at least one byte), and a companion call on the
+-- One slice's rows, and the entries of ties. Document 01: "A caller may have the value row or mark row of one slice. That answer is
+-- the stretch of the set file itself. Where the call declines, the stretch is empty (a row has at least one byte), and a companion call on the
 -- same input gives the number." And: "A list later added to the set [..] comes back as the file's own stretch", which may be empty in an
 -- answer too: there the companion tells.
 --

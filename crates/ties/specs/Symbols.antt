@@ -2,13 +2,17 @@
 -- symbol's column is [..] listed where its first cell was"; "planning needs one more working place for each named symbol".
 --
 --   names e i t c       entry i of e names the cell of slice t and chain c
---   naming e t c        the entry that does, if there is one
+--   namingBelow e k t c the last of the first k entries that does, if one does
+--   naming e t c        the last entry that does, if one does; of sound ties (SoundTies) it is the only one
 --   opens e i           entry i is the first with its symbol number. Entries ascend (30), so its cell is the symbol's first
 --   namedSymbols e      the number of named symbols
+--   freeMark d o        the mark d of a cell, and 0 where the entry o names it
 --   freeMarks u e t c   the marks of the unnamed cells among those that u marks
+--   firstMark e d o     the mark d of a cell, and the flag of the entry o where one names it
 --   firstMarks u e t c  .. with those of the first cell of each named symbol: where a symbol's column is listed
 --   flag e i            1 where entry i is the first with its symbol number, and else 0
---   unmarked u e ks t c the marks u without those of the cells that entries of e name whose flag in the list ks is 0; past its end it is
+--   unmarked u e ks t c the marks u without those of the cells that entries of e name whose flag in the list ks is 0; past the list's
+--                       end a flag counts as 0
 --   Within s n e        the entries of e are at most 256, and their cells lie in s slices and n chains
 --   SoundTies s n u e   what 29 to 31 leave: each entry names an unknown cell that is there, no two the same, and its side is 0 or 1
 use mathlib.Core.Path.{_≡_}
@@ -26,7 +30,6 @@ use Rattle.ties.specs.Ties.{Ties}
 unfoldable pub names : Ties → ℕ → ℕ → ℕ → Bool
 names e i t c = eqb (e .slice i) t && eqb (e .chain i) c
 
--- among the first k entries
 unfoldable pub namingBelow : Ties → ℕ → ℕ → ℕ → Option ℕ
 namingBelow e zero t c = none
 namingBelow e (suc k) t c = cond (names e k t c) (some k) (namingBelow e k t c)
