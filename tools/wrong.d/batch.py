@@ -1352,6 +1352,7 @@ class Batch:
             self.call("written_numbers::write_count", [at, w], d=data)
             self.call("written_numbers::write_word", [at, w], d=data)
             self.call("written_numbers::write_words", [at], v=self.junk_words(3), d=data)
+            self.call("written_numbers::write_bytes", [at], a=data[:3], d=data)
             self.call("text::put", [at], d=data, a=self.junk(5))
             self.call("text::put_decimal", [at, w], d=data)
         for _ in range(count):
@@ -1372,6 +1373,7 @@ class Batch:
             self.call("written_numbers::write_count", [at, w], d=data)
             self.call("written_numbers::write_word", [at, w], d=data)
             self.call("written_numbers::write_words", [at], v=self.junk_words(self.pick([0, 1, 2, 3])), d=data)
+            self.call("written_numbers::write_bytes", [at], a=data[: self.pick([0, 1, 2, 9])], d=data)
 
     def answers(self):
         """Answers and refusals as they cross to C, and the number of each."""
