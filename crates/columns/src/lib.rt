@@ -70,7 +70,7 @@ fn list_named(taken: Taken, set: &[u8], count: u16, columns: &mut [u64]) -> List
     let marks = set_layout::mark_rows(n);
     let heads = free_marks::unmark(set, marks, n, s, ties, count, &flags[..]);
     let rows = free_marks::list_rows(n);
-    let found = marked_words::count_marks(&heads[..], rows, s);
+    let found = marked_rows::count_marks(&heads[..], rows, s);
     if (columns.len() as u64) < found {
         return Listed::Declined { number: 14 };
     }
@@ -112,7 +112,7 @@ pub fn list_columns(set: &[u8], columns: &mut [u64]) -> Listed
         return list_named(taken, set, count, columns);
     }
     let marks = set_layout::mark_rows(n);
-    let symbols = marked_words::count_marks(set, marks, s);
+    let symbols = marked_rows::count_marks(set, marks, s);
     if (columns.len() as u64) < symbols {
         return Listed::Declined { number: 14 };
     }

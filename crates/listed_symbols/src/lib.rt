@@ -38,12 +38,12 @@ fn slices_before(list: &[u8], rows: Rows, at: u16, before: u64, t: u16) -> u64
     ensures { λ r. ⌜ (r ≡ total t (λ v. total 256 (cellsOf (now (list .entry)) rows v))) × (r ≤ 16777216) ⌝ }
 {
     if t < at {
-        return marked_words::count_marks(list, rows, t);
+        return marked_rows::count_marks(list, rows, t);
     }
     let stride = rows.stride as usize;
     let passed = at as usize;
     let rest = numbers::part(list, stride * passed, list.len());
-    before + marked_words::count_marks(rest, rows, t - at)
+    before + marked_rows::count_marks(rest, rows, t - at)
 }
 
 // Writes the column of the symbol of entry i at the place of its cell, where its flag isn't 0 and the list has the place: the marked cells

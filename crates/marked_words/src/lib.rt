@@ -1,5 +1,5 @@
-// The marked cells of rows: how many there are, and the words of their chains, written over the end of a list. It sees words,
-// numbers and rows; it knows no register and no file. Every function is total.
+// The words of the chains whose cell in a row is marked, written over the end of a list. It sees words, numbers and rows; it knows no
+// register and no file. Every function is total.
 ghost use mathlib.Core.Path.{_≡_};
 ghost use mathlib.Core.List.{[], _∷_};
 ghost use Prim.Native.Nat.{_-_, _≤_, min};
@@ -7,11 +7,9 @@ ghost use lib.Dec.{ltb};
 ghost use lib.Count.{ones};
 ghost use lib.ListN.{length};
 ghost use Rattle.rows.specs.Row.{cell};
-ghost use Rattle.rows.specs.Lists.{cellsOf};
-ghost use Rattle.rows.specs.Marks.{total, markedWords, bits};
+ghost use Rattle.rows.specs.Marks.{markedWords, bits};
 ghost use Rattle.marked_words.specs.Back.{back};
 ghost use Rattle.marked_words.specs.Fitting.{FittedIn};
-use rows::Rows;
 
 // How far a row was listed: so many places stand before the words in the list, and so many chains are left.
 pub struct Fitted {
@@ -137,39 +135,4 @@ pub fn list_fitting(columns: &mut [u64], words: &[u64], row: &[u8]) -> Fitted
         i -= 1;
     }
     Fitted { place, chains: 0 }
-}
-
-// How many bits are 1.
-fn ones_in(marks: u64) -> u64
-    ensures { λ r. ⌜ r ≡ ones marks ⌝ }
-    ensures { λ r. ⌜ r ≤ 64 ⌝ }
-{
-    u64::count_ones(marks) as u64
-}
-
-// The number of cells among the first 256 of a row that are 1, by words of 64 cells; of a row without any, known at once.
-fn count_row(row: &[u8]) -> u64
-    ensures { λ r. ⌜ r ≡ total 256 (cell (now (row .entry))) ⌝ }
-{
-    let a = numbers::read_word(row, 0);
-    let b = numbers::read_word(row, 8);
-    let c = numbers::read_word(row, 16);
-    let d = numbers::read_word(row, 24);
-    if (0 < a) | (0 < b) | (0 < c) | (0 < d) {
-        return ones_in(a) + ones_in(b) + ones_in(c) + ones_in(d);
-    }
-    0
-}
-
-// The number of marked cells among the first 256 of each of s rows. It meets no number: a row past the end has no mark.
-pub fn count_marks(list: &[u8], rows: Rows, s: u16) -> u64
-    ensures { λ r. ⌜ r ≡ total s (λ t. total 256 (cellsOf (now (list .entry)) rows t)) ⌝ }
-{
-    let mut found = 0u64;
-    let mut t: u16 = 0;
-    while t < s {
-        found += count_row(rows::row_of(list, rows, t));
-        t += 1;
-    }
-    found
 }

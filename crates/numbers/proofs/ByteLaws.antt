@@ -10,9 +10,9 @@ use native.Mathlib.Numerals.{add-one, towards-suc}
 use lib.Arith.{mod-mul}
 use borrow.Author.Tests.{le-leb, lt-leb}
 use lib.Dec.{leb, lit<}
-use lib.ListN.{length, getD, set, take, length-append, drop-of-length-le}
+use lib.ListN.{length, getD, set, take, drop, length-append, drop-of-length-le}
 use lib.Pow.{pow-mono, pow-add}
-use lib.Seq.{take-nil, take-at, getD-take, drop-append-seam, sets, set-out}
+use lib.Seq.{drop-drop, take-nil, take-at, getD-take, drop-append-seam, sets, set-out}
 use Rattle.numbers.specs.Bytes.{number, numberAt, countAt, wordAt, wholeWordAt, wordsAt, bytesOf, wordBytes}
 
 pub number-at-zero : (s : List ℕ) (i : ℕ) → numberAt zero s i ≡ 0
@@ -37,6 +37,11 @@ number-at-take (suc k) s n i h =
     number-at-suc k (take n s) i
     ∙ ap₂ (λ (x y : ℕ). x + 256 * y) (getD-take n s i 0 (omega arith)) (number-at-take k s n (suc i) (omega arith))
     ∙ sym (number-at-suc k s i)
+
+-- .. and one that lies within a part of n bytes at place `at` is read from that part
+pub number-in-part : (k : ℕ) (s : List ℕ) (at n i : ℕ) → i + k ≤ n → numberAt k (take n (drop at s)) i ≡ numberAt k s (at + i)
+unfolding numberAt
+number-in-part k s at n i h = number-at-take k (drop at s) n i h ∙ ap (λ (l : List ℕ). number (take k l)) (drop-drop i at s)
 
 -- the k bytes of s from place i; a byte past the end is 0
 abbrev bytesFrom : ℕ → List ℕ → ℕ → List ℕ

@@ -27,7 +27,7 @@ pub fn print_plan(set: &[u8], working: &mut [u64], words: &mut [u64], out: &mut 
     let Planned::Plan { m, q, expected } = planned else {
         return plan_lines::put_refused_line(out, 0, planner::number_of(planned));
     };
-    let unknowns = marked_words::count_marks(set, set_layout::mark_rows(n), s);
+    let unknowns = marked_rows::count_marks(set, set_layout::mark_rows(n), s);
     let count = q as usize;
     let words_at = plan_lines::put_set_line(out, 0, m, n as u64, s as u64, unknowns);
     let end_at = plan_lines::put_word_lines(out, words_at, &words[..count], expected);

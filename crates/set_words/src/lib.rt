@@ -205,7 +205,7 @@ fn reduce_marked(
     let chains = register::chain_limit(taken.n);
     let spread = taken.spread;
     let mut words = chains::all_words(spread);
-    let unknowns = marked_words::count_marks(list, marks, s);
+    let unknowns = marked_rows::count_marks(list, marks, s);
     let source = Source { register, marks, s };
     let count = unknowns as usize;
     if (FEW_COLUMNS < unknowns) | sparse_columns::has_bad_word(taken) {

@@ -4,7 +4,7 @@ use Prim.Native.Nat.{_≤_}
 use native.Mathlib.Omega.{arith}
 use borrow.Author.Tests.{le-ltb}
 use lib.Count.{ones, ones-le}
-use Rattle.marked_words.proofs.CountLaws.{ones-none}
+use Rattle.marked_rows.proofs.CountLaws.{ones-none}
 use borrow.Author.Needs.{needs}
 use Rattle.marked_words.proofs.is_too_many.Statement.{statement}
 use Rattle.marked_words.proofs.is_too_many.Tie as tie

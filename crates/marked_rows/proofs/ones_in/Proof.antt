@@ -2,8 +2,8 @@
 use native.Mathlib.Omega.{arith}
 use lib.Count.{ones-le}
 use borrow.Author.Needs.{needs}
-use Rattle.marked_words.proofs.ones_in.Statement.{statement}
-use Rattle.marked_words.proofs.ones_in.Tie as tie
+use Rattle.marked_rows.proofs.ones_in.Statement.{statement}
+use Rattle.marked_rows.proofs.ones_in.Tie as tie
 
 cast-result : tie.Need-cast-result
 cast-result c = omega (arith, ones-le 64 _ (c .fits .marks .fits))

@@ -3,22 +3,21 @@ use mathlib.Core.Path.{_≡_, refl, sym, ap, ap₂, _∙_}
 use mathlib.Core.Bool.{false, _||_}
 use mathlib.Core.List.{List}
 use Prim.Native.Nat.{ℕ, zero, suc, _+_, _*_, _/_, _%_, _^_, _≤_, _<_}
-use native.Mathlib.Nat.{div-one, pow-suc}
+use native.Mathlib.Nat.{add-zero, div-one, pow-suc}
 use native.Mathlib.Numerals.{one-add, add-one}
 use native.Mathlib.Omega.{arith}
 use lib.Count.{ones, onesIn, ones-step, ones-le}
 use lib.Dec.{ltb}
-use lib.ListN.{getD}
+use lib.ListN.{getD, take, drop}
 use borrow.Author.Tests.{ltb-false}
 use Rattle.word.proofs.BoolLaws.{or-false-left, or-false-right}
 use lib.Pow.{shr-shr}
 use Rattle.word.specs.Word.{digit}
 use Rattle.numbers.specs.Bytes.{wordAt}
-use Rattle.numbers.proofs.ByteLaws.{number-at-lt}
+use Rattle.numbers.proofs.ByteLaws.{number-at-lt, number-in-part}
+use Rattle.numbers.proofs.FileLaws.{part-small}
 use Rattle.rows.specs.Row.{cell}
-use Rattle.rows.specs.Lists.{rowOf, cellsOf}
 use Rattle.rows.specs.Marks.{total}
-use Rattle.rows.specs.declared.Rows.{Rows}
 use Rattle.rows.proofs.CellLaws.{cell-lt}
 use Rattle.rows.proofs.DigitLaws.{word-cell}
 use Rattle.rows.proofs.MarkLaws.{total-none, total-suc, total-ext, total-le, total-add, total-front}
@@ -40,6 +39,18 @@ ones-none = refl
 
 pub ones-word-le : (w : ℕ) (l : List ℕ) (i : ℕ) → ((j : ℕ) → getD l j 0 < 256) → w ≡ wordAt l (8 * i) → ones w ≤ 64
 ones-word-le w l i bytes e = ones-le 64 w (rw e (number-at-lt 8 l (8 * i) bytes))
+
+-- ---- four words
+
+pub words-none : (a b c d : ℕ) → (((ltb 0 a || ltb 0 b) || ltb 0 c) || ltb 0 d) ≡ false → 0 ≡ ones a + ones b + ones c + ones d
+words-none a b c d h =
+    let three = or-false-left ((ltb 0 a || ltb 0 b) || ltb 0 c) (ltb 0 d) h in
+    let two = or-false-left (ltb 0 a || ltb 0 b) (ltb 0 c) three in
+    let za : a ≡ 0 = omega (arith, ltb-false 0 a (or-false-left (ltb 0 a) (ltb 0 b) two)) in
+    let zb : b ≡ 0 = omega (arith, ltb-false 0 b (or-false-right (ltb 0 a) (ltb 0 b) two)) in
+    let zc : c ≡ 0 = omega (arith, ltb-false 0 c (or-false-right (ltb 0 a || ltb 0 b) (ltb 0 c) three)) in
+    let zd : d ≡ 0 = omega (arith, ltb-false 0 d (or-false-right ((ltb 0 a || ltb 0 b) || ltb 0 c) (ltb 0 d) h)) in
+    omega (arith, ap ones za, ap ones zb, ap ones zc, ap ones zd, ones-none)
 
 -- ---- a row
 
@@ -64,44 +75,18 @@ module _ (row : List ℕ) where
     pub count-words : ones a + ones b + ones c + ones d ≡ total 256 (cell row)
     count-words = omega (arith, count-turns bytes 3 _ d (count-turns bytes 2 _ c (count-turns bytes 1 _ b (count-turns bytes 0 0 a count-start ea) eb) ec) ed)
 
-    pub count-blank : (((ltb 0 a || ltb 0 b) || ltb 0 c) || ltb 0 d) ≡ false → 0 ≡ total 256 (cell row)
-    count-blank h =
-        let three = or-false-left ((ltb 0 a || ltb 0 b) || ltb 0 c) (ltb 0 d) h in
-        let two = or-false-left (ltb 0 a || ltb 0 b) (ltb 0 c) three in
-        let za : a ≡ 0 = omega (arith, ltb-false 0 a (or-false-left (ltb 0 a) (ltb 0 b) two)) in
-        let zb : b ≡ 0 = omega (arith, ltb-false 0 b (or-false-right (ltb 0 a) (ltb 0 b) two)) in
-        let zc : c ≡ 0 = omega (arith, ltb-false 0 c (or-false-right (ltb 0 a || ltb 0 b) (ltb 0 c) three)) in
-        let zd : d ≡ 0 = omega (arith, ltb-false 0 d (or-false-right ((ltb 0 a || ltb 0 b) || ltb 0 c) (ltb 0 d) h)) in
-        omega (arith, count-words, ap ones za, ap ones zb, ap ones zc, ap ones zd, ones-none)
-
   pub count-le : (i : ℕ) → total (64 * i) (cell row) ≤ 64 * i
   count-le i = omega (arith, total-le (64 * i) 1 (cell row) (λ c. omega (arith, cell-lt row c)))
 
 pub row-total-le : (r : ℕ) (row : List ℕ) → r ≡ total 256 (cell row) → r ≤ 256
 row-total-le r row e = omega (arith, total-le 256 1 (cell row) (λ c. omega (arith, cell-lt row c)))
 
--- ---- the slices
+-- ---- a row that stands in a list
 
-module _ (l : List ℕ) (r : Rows) where
-  -- the marks of the slices below t
-  pub Counted : ℕ → ℕ → Type 0
-  Counted found t = found ≡ total t (λ v. total 256 (cellsOf l r v))
-
-  pub counted-none : Counted 0 0
-  unfolding Counted total
-  counted-none = refl
-
-  pub counted-turn : (t found n : ℕ) (row : List ℕ) → Counted found t → n ≡ total 256 (cell row) → row ≡ rowOf l r t → Counted (found + n) (t + 1)
-  unfolding Counted
-  counted-turn t found n row ef en ew =
-      ap₂ _+_ ef (en ∙ ap (λ (x : List ℕ). total 256 (cell x)) ew)
-      ∙ sym (total-suc t (λ v. total 256 (cellsOf l r v))) ∙ ap (λ (k : ℕ). total k (λ v. total 256 (cellsOf l r v))) (sym (add-one t))
-
-  pub counted-le : (t found : ℕ) → Counted found t → found ≤ t * 256
-  unfolding Counted
-  counted-le t found e =
-      omega (arith, e, total-le t 256 (λ v. total 256 (cellsOf l r v)) (λ v. row-total-le (total 256 (cellsOf l r v)) (rowOf l r v) refl))
-
-  pub counted-ends : (t found s : ℕ) → Counted found t → t ≡ s → found ≡ total s (λ v. total 256 (cellsOf l r v))
-  unfolding Counted
-  counted-ends t found s e z = e ∙ ap (λ (k : ℕ). total k (λ v. total 256 (cellsOf l r v))) z
+module _ (l : List ℕ) (bytes : (j : ℕ) → getD l j 0 < 256) (at : ℕ) where
+  pub count-part : (a b c d : ℕ) → a ≡ wordAt l at → b ≡ wordAt l (at + 8) → c ≡ wordAt l (at + 16) → d ≡ wordAt l (at + 24)
+      → ones a + ones b + ones c + ones d ≡ total 256 (cell (take 32 (drop at l)))
+  count-part a b c d ea eb ec ed =
+      count-words (take 32 (drop at l)) (part-small l bytes at 32) a b c d (ea ∙ ap (wordAt l) (sym (add-zero at)) ∙ sym (number-in-part 8 l at 32 0 (omega arith)))
+      (eb ∙ sym (number-in-part 8 l at 32 8 (omega arith))) (ec ∙ sym (number-in-part 8 l at 32 16 (omega arith)))
+      (ed ∙ sym (number-in-part 8 l at 32 24 (omega arith)))

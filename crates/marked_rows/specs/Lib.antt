@@ -1,0 +1,2 @@
+-- The definitions of the marked rows.
+pub mod Last
