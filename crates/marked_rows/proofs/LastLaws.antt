@@ -117,6 +117,15 @@ module _ (l : List ℕ) (r : Rows) where
       (λ t e p v h k. dite (ℕ-discrete v t) (λ (z : v ≡ t). ap marksIn z ∙ e) (λ (z : v ≡ t → ⊥). p v (omega (arith, last-blank t e)) (omega arith)))
       (λ t e v h k. let z : ⊥ = omega (arith, last-here t e) in absurd z)
 
+  total-zero : (n : ℕ) (f : ℕ → ℕ) → total n f ≡ 0 → (c : ℕ) → c < n → f c ≡ 0
+  total-zero zero f e c h = let z : ⊥ = omega arith in absurd z
+  total-zero (suc n) f e c h =
+      dite (ℕ-discrete c n) (λ (z : c ≡ n). ap f z ∙ omega (arith, total-suc n f)) (λ (z : c ≡ n → ⊥). total-zero n f (omega (arith, total-suc n f)) c (omega arith))
+
+  -- .. in no cell
+  pub blank-cells : (t v c : ℕ) → lastMarked l r t ≤ v → v < t → c < 256 → cellsOf l r v c ≡ 0
+  blank-cells t v c h k few = total-zero 256 (cellsOf l r v) (blank-after t v h k) c few
+
   -- the marks of all rows are those of the last marked one and of the rows before it
   pub total-last : (t : ℕ) → total t marksIn ≡ total (lastMarked l r t - 1) marksIn + lastCount l r t
   total-last =

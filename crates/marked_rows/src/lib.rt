@@ -107,6 +107,14 @@ pub fn last_marked(list: &[u8], rows: Rows, t: u16) -> Marked
     last_of_32(list, rows, t)
 }
 
+// How many of the first t rows there are up to the last marked one; 0 where none is marked.
+pub fn marked_end(list: &[u8], rows: Rows, t: u16) -> u16
+    ensures { λ r. ⌜ r ≡ lastMarked (now (list .entry)) rows t ⌝ }
+{
+    let last = last_marked(list, rows, t);
+    last.t
+}
+
 // t less 1; 0 for 0.
 fn earlier(t: u16) -> u16
     ensures { λ r. ⌜ r ≡ t - 1 ⌝ }

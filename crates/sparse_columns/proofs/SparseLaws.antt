@@ -9,7 +9,11 @@ use lib.ListN.{length, take, drop, getD, length-map, length-drop, length-take}
 use lib.Seq.{drop-drop, take-at, drop-at, take-append-le, drop-append-le, length-take-le}
 use Rattle.numbers.specs.Joined.{joined}
 use Rattle.rows.specs.Row.{cell}
-use Rattle.register.specs.Circuit.{Circuit, circuit}
+use Rattle.rows.specs.Lists.{cellsOf}
+use Rattle.rows.specs.declared.Rows.{Rows}
+use Rattle.register.specs.Circuit.{Circuit, circuit, chains}
+use Rattle.marked_rows.specs.Last.{lastMarked}
+use Rattle.marked_rows.proofs.LastLaws.{last-le, blank-cells}
 use Rattle.chains.specs.Driven.{badSpread}
 use Rattle.chains.proofs.Laws.{good-spread}
 use Rattle.signatures.specs.Signature.{Response}
@@ -22,7 +26,7 @@ use Rattle.powers.specs.Powers.{fromPowers}
 use Rattle.numbers.proofs.PartLaws.{take-limit}
 use Rattle.marked_words.proofs.BackLaws.{back-length}
 use Rattle.powers.proofs.PowerLaws.{from-powers, powers-part, later-same}
-use Rattle.swept_columns.proofs.FillLaws.{laterWords, later-words-none, later-words-get, later-words-length, later-words-suc, Filled, filled-inside, filled-room, filled-starts, filled-down, filled-ends}
+use Rattle.swept_columns.proofs.FillLaws.{laterWords, later-words-none, later-words-get, later-words-length, later-words-suc, Filled, filled-inside, filled-room, filled-starts, filled-skips, filled-down, filled-ends}
 
 -- ---- words changed where they stand
 
@@ -143,6 +147,14 @@ module _ (k : Circuit) (s : ℕ) (u : Response) where
       where
         same : map (fromPowers ps) us ≡ markedWords (laterWords k (s - t) (k .spread)) (cell row) (length (laterWords k (s - t) (k .spread)))
         same = words ∙ ap (λ (i : ℕ). markedWords (laterWords k i (k .spread)) (cell row) (length (laterWords k i (k .spread)))) ej
+
+  -- rows without a marked cell are passed over
+  pub sparse-skips : (l₀ l list : List ℕ) (rows : Rows) (place t r : ℕ) → Sparse l₀ l place t → chains k ≤ 256 → u ≡ cellsOf list rows → r ≡ lastMarked list rows t
+      → Sparse l₀ l place r
+  unfolding Sparse
+  sparse-skips l₀ l list rows place t r f narrow eu er =
+      filled-skips k s u l₀ l (laterWords k (s - t) (k .spread)) place t r f (omega (arith, last-le list rows t)) narrow
+      (λ v c a b few. ap (λ (x : Response). x v c) eu ∙ blank-cells list rows t v c (omega arith) b few)
 
   pub sparse-ends : (l₀ l : List ℕ) (place t : ℕ) → Sparse l₀ l place t → t ≡ 0 → l ≡ back (columnsBelow k s u s) l₀
   unfolding Sparse

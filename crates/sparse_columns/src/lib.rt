@@ -12,8 +12,8 @@ ghost use Rattle.signatures.specs.Columns.{columnsBelow};
 use rows::Rows;
 use set_file::Taken;
 
-// Writes the columns over the end of the list. It goes from the last slice to the first, and makes the columns of a slice from the
-// spread words of its unknown cells by the powers of the register.
+// Writes the columns over the end of the list. It goes from the last slice with a marked cell to the one before it, and makes the columns of a
+// slice from the spread words of its marked cells by the powers of the register.
 fn fill_sparse(taken: Taken, list: &[u8], marks: Rows, columns: &mut [u64])
     requires { ⌜ badSpread (min (taken .register .m) 64) (take (taken .n) (taken .spread)) ≡ false ⌝ }
     ensures { λ _. ⌜ now (columns .exit) ≡ back (columnsBelow (takenCircuit taken) (min (taken .s) 512) (cellsOf (now (list .entry)) marks) (min (taken .s) 512)) (now (columns .entry)) ⌝ }
@@ -26,7 +26,7 @@ fn fill_sparse(taken: Taken, list: &[u8], marks: Rows, columns: &mut [u64])
     let slices = register::slice_limit(taken.s);
     let table = powers::powers(register);
     let mut place = columns.len();
-    let mut t = slices;
+    let mut t = marked_rows::marked_end(list, marks, slices);
     while 0 < t {
         t -= 1;
         let row = rows::row_of(list, marks, t);
@@ -35,6 +35,7 @@ fn fill_sparse(taken: Taken, list: &[u8], marks: Rows, columns: &mut [u64])
         let to = from + width;
         powers::power_words(&table[from..to], &mut columns[start..place]);
         place = start;
+        t = marked_rows::marked_end(list, marks, t);
     }
 }
 

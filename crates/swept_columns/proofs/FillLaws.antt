@@ -1,7 +1,7 @@
 -- The columns of all slices, written from the end: the start, the turn and the end of the loop over the slices. Assumes nothing.
 use mathlib.Core.Path.{_≡_, refl, sym, ap, ap₂, _∙_}
 use mathlib.Core.List.{List, [], _∷_, _++_, map, map-map}
-use Prim.Native.Nat.{ℕ, zero, suc, _-_, _≤_, _<_, min}
+use Prim.Native.Nat.{ℕ, zero, suc, _+_, _-_, _≤_, _<_, min}
 use native.Mathlib.Omega.{arith}
 use lib.ListN.{length, take, drop, getD, length-map, length-append, length-drop, List·getD-map}
 use lib.Seq.{take-at, length-take-le}
@@ -92,6 +92,21 @@ module _ (k : Circuit) (s : ℕ) (u : Response) where
   unfolding slicesFrom
   slices-from-down t h = let more : s - t ≡ suc (s - suc t) = omega arith in ap (rest slice t) more ∙ rest-suc slice t (s - suc t)
 
+  -- slices without a marked cell have no columns
+
+  slice-blank : (v n : ℕ) → ((c : ℕ) → c < n → u v c ≡ 0) → sliceColumns k s u v n ≡ []
+  unfolding sliceColumns
+  slice-blank v zero h = refl
+  slice-blank v (suc n) h =
+      ap₂ (λ (a b : List ℕ). a ++ b) (slice-blank v n (λ c l. h c (omega arith))) (ap (λ (d : ℕ). listed d (column k s v n)) (h n (omega arith)))
+
+  slices-from-blank : (j r t : ℕ) → r + j ≡ t → t ≤ s → ((v : ℕ) → r ≤ v → v < t → slice v ≡ []) → slicesFrom r ≡ slicesFrom t
+  slices-from-blank zero r t e h blank = let same : r ≡ t = omega arith in ap slicesFrom same
+  slices-from-blank (suc j) r t e h blank =
+      let end : suc (t - 1) ≡ t = omega arith in
+      slices-from-blank j r (t - 1) (omega arith) (omega arith) (λ v a b. blank v a (omega arith))
+      ∙ slices-from-down (t - 1) (omega arith) ∙ ap₂ (λ (x : List ℕ) (i : ℕ). x ++ slicesFrom i) (blank (t - 1) (omega arith) (omega arith)) end
+
   -- what the loop knows: the columns of the slices from t on stand at the list's end, `place` places stand before them, and
   -- the words are the spread words after as many clocks as there are slices from t on
   pub Filled : List ℕ → List ℕ → ℕ → ℕ → List ℕ → Type 0
@@ -119,6 +134,21 @@ module _ (k : Circuit) (s : ℕ) (u : Response) where
         rw end (sym (back-none l)),
         ew ∙ sym (ap (λ (j : ℕ). laterWords k j (k .spread)) none ∙ later-words-none k (k .spread)),
       )
+
+  -- slices without a marked cell are passed over
+  pub filled-skips : (l₀ l ws : List ℕ) (place t r : ℕ) → Filled l₀ l place t ws → r ≤ t → chains k ≤ 256
+      → ((v c : ℕ) → r ≤ v → v < t → c < 256 → u v c ≡ 0) → Filled l₀ l place r (laterWords k (s - r) (k .spread))
+  unfolding Filled
+  filled-skips l₀ l ws place t r f few narrow blank = (
+    omega (arith, f .0),
+    f .1 ∙ ap (λ (x : List ℕ). length l₀ - length x) (sym same),
+    f .2 ∙ ap (λ (x : List ℕ). back x l₀) (sym same),
+    refl,
+  )
+    where
+      same : slicesFrom r ≡ slicesFrom t
+      same =
+          slices-from-blank (t - r) r t (omega arith) (f .0) (λ v a b. slice-blank v (chains k) (λ c l. blank v c a b (omega arith)))
 
   pub filled-turns : (l₀ l l′ ws ws′ row : List ℕ) (place place′ t : ℕ) → Filled l₀ l place (suc t) ws → cell row ≡ u t
       → place′ ≡ length (take place l) - length (markedWords ws (cell row) (length ws))
