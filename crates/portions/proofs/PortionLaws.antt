@@ -17,13 +17,17 @@ use Rattle.register.specs.Circuit.{Circuit, chains, advanced}
 use Rattle.chains.specs.Driven.{badSpread}
 use Rattle.chains.proofs.Laws.{good-spread}
 use Rattle.signatures.specs.Signature.{Response}
+use Rattle.rows.specs.Lists.{cellsOf}
+use Rattle.rows.specs.declared.Rows.{Rows}
 use Rattle.signatures.specs.Later.{later}
 use Rattle.signatures.specs.Columns.{sliceColumns, columnsBelow}
 use Rattle.powers.specs.Powers.{fromPowers}
 use Rattle.powers.proofs.PowerLaws.{from-powers, powers-part}
 use Rattle.marked_words.specs.Fitting.{FittedIn}
 use Rattle.marked_words.specs.declared.Fitted.{Fitted}
-use Rattle.swept_columns.proofs.FillLaws.{laterWords, later-words, later-words-none, later-words-suc, later-words-get, later-words-length, first-words}
+use Rattle.marked_rows.specs.Last.{lastMarked}
+use Rattle.marked_rows.proofs.LastLaws.{last-le, blank-cells}
+use Rattle.swept_columns.proofs.FillLaws.{columns-skipped, laterWords, later-words, later-words-none, later-words-suc, later-words-get, later-words-length, first-words}
 use Rattle.sparse_columns.proofs.SparseLaws.{map-chosen}
 use Rattle.portions.specs.Portions.{columnsLeft, Way, swept, sparse, Ready, RowFits, PortionOf}
 use Rattle.portions.specs.declared.Portion.{Portion}
@@ -258,6 +262,38 @@ module _ (k : Circuit) (s : ℕ) (u : Response) (ps l₀ : List ℕ) (t₀ c₀ 
       subst (λ (x : ℕ). Filling k s u ps l₀ t₀ c₀ ws′ l place (t - 1) x) (sym e)
       (filling-down ws ws′ l place (t - 1) (subst (λ (x : ℕ). Filling k s u ps l₀ t₀ c₀ ws l place x 0) back-up (subst (λ (x : ℕ). Filling k s u ps l₀ t₀ c₀ ws l place t x) z f)) step stay)
 
+  -- slices without a marked cell are passed over, where there are powers
+  pub filling-skips : (list : List ℕ) (rows : Rows) (ws l : List ℕ) (place t n r : ℕ) → u ≡ cellsOf list rows → n ≡ chains k
+      → Filling k s u ps l₀ t₀ c₀ ws l place t n → (length ps ≡ 0 → r ≡ t) → (0 < length ps → r ≡ lastMarked list rows t)
+      → Filling k s u ps l₀ t₀ c₀ ws l place r n
+  filling-skips list rows ws l place t n r eu en f stay skip = go (f .ready .way)
+    where
+      go : Way k (s - t) ps ws → Filling k s u ps l₀ t₀ c₀ ws l place r n
+      go (swept none e) = subst (λ (x : ℕ). Filling k s u ps l₀ t₀ c₀ ws l place x n) (sym (stay none)) f
+      go (sparse many right good e) =
+          let last : r ≡ lastMarked list rows t = skip (omega arith) in
+          let down : r ≤ t = omega (arith, last-le list rows t) in
+          let all : (i : ℕ) → columnsLeft k s u i n ≡ columnsBelow k s u i = λ i. ap (columnsLeft k s u i) en ∙ left-all k s u i in record {
+            ready = record {
+              inside = omega (arith, f .ready .inside);
+              slices = f .ready .slices;
+              few = f .ready .few;
+              narrow = f .ready .narrow;
+              way = sparse many right good e;
+            };
+            few = f .few;
+            place = f .place;
+            long = f .long;
+            listed =
+                f .listed
+                ∙ ap (λ (x : List ℕ). x ++ drop place l)
+                (all t
+                ∙ columns-skipped k s u r t down (f .ready .few)
+                (λ v c a b h. ap (λ (x : Response). x v c) eu ∙ blank-cells list rows t v c (omega arith) b h)
+                ∙ sym (all r));
+            kept = f .kept;
+          }
+
   -- ---- the end
 
   pub filling-gives : (from : Portion) (ws l : List ℕ) (place t c : ℕ) → from .t ≡ t₀ → from .chains ≡ c₀ → Filling k s u ps l₀ t₀ c₀ ws l place t c
@@ -289,6 +325,11 @@ chains-same k s t ps ws n c r h e = omega (arith, way-length k (s - t) ps ws (r 
 
 -- ---- something is done in every portion
 
+-- the slice that comes next stands before the one that is done
+pub went-down : (list : List ℕ) (rows : Rows) (n t r : ℕ) → (n ≡ 0 → r ≡ t) → (0 < n → r ≡ lastMarked list rows t) → r ≤ t
+went-down list rows n t r stay skip =
+    dite (ℕ-discrete n 0) (λ (z : n ≡ 0). omega (arith, stay z)) (λ (z : n ≡ 0 → ⊥). omega (arith, skip (omega arith), last-le list rows t))
+
 -- after a row: with at most 256 words no more cells are left than there were, and with 64 places fewer, but where the row is done
 pub Moved : ℕ → ℕ → ℕ → ℕ → ℕ → ℕ → Type 0
 Moved n room t₀ c₀ t c =
@@ -310,10 +351,10 @@ module _ (n t₀ c₀ : ℕ) where
     unfolding Moved
     moved-down h few = omega (arith, m few .0)
 
-    pub moved-next : (l part : List ℕ) (r : Fitted) (i : ℕ) → i ≡ n → 0 < t → RowFits i l part r → Moved n room t₀ c₀ (t - 1) (r .chains)
+    pub moved-next : (l part : List ℕ) (r : Fitted) (i j : ℕ) → i ≡ n → 0 < t → j ≤ t - 1 → RowFits i l part r → Moved n room t₀ c₀ j (r .chains)
     unfolding Moved
-    moved-next l part r i e h fit few =
-        let less : 257 * (t - 1) + r .chains < 257 * t₀ + c₀ = omega (arith, moved-down h few, fit .chains) in
+    moved-next l part r i j e h early fit few =
+        let less : 257 * j + r .chains < 257 * t₀ + c₀ = omega (arith, moved-down h few, fit .chains) in
         (omega arith, (λ wide. inr less))
 
     pub moved-less : n ≤ 256 → 64 ≤ room → (c ≡ 0 → ⊥) → 257 * t + c < 257 * t₀ + c₀

@@ -5,6 +5,7 @@ ghost use mathlib.Core.List.{List, _++_, map};
 ghost use Prim.Native.Nat.{ℕ, _+_, _-_, _≤_, _<_, min};
 ghost use lib.ListN.{length, take, drop};
 ghost use Rattle.rows.specs.Lists.{cellsOf};
+ghost use Rattle.marked_rows.specs.Last.{lastMarked};
 ghost use Rattle.register.specs.Circuit.{advanced};
 ghost use Rattle.powers.specs.Powers.{fromPowers};
 ghost use Rattle.signatures.specs.Columns.{sliceColumns};
@@ -38,15 +39,20 @@ fn later_slices(slices: u16, t: u16) -> usize
     (slices - t) as usize
 }
 
-// Where there are no powers, advances each word by one clock with all cells 0 and no inversion.
-fn advance_swept(register: Register, powers: &[u64], words: &mut [u64])
-    ensures { λ _. ⌜ (length (now (powers .entry)) ≡ 0 → now (words .exit) ≡ map (advanced (min (register .m) 64) (register .taps)) (now (words .entry))) ⌝ }
-    ensures { λ _. ⌜ (0 < length (now (powers .entry)) → now (words .exit) ≡ now (words .entry)) ⌝ }
+// The last of the first t slices is done. Where there are no powers, advances each word by one clock with all cells 0 and no inversion, for the
+// slice before it; where there are, passes over slices without a marked cell. Answers with how many slices are left.
+fn go_down(source: Source, list: &[u8], powers: &[u64], words: &mut [u64], t: u16) -> u16
+    requires { ⌜ 0 < t ⌝ }
+    ensures swept { λ r. ⌜ (length (now (powers .entry)) ≡ 0 → (r ≡ t - 1) × (now (words .exit) ≡ map (advanced (min (source .register .m) 64) (source .register .taps)) (now (words .entry)))) ⌝ }
+    ensures sparse { λ r. ⌜ (0 < length (now (powers .entry)) → (r ≡ lastMarked (now (list .entry)) (source .marks) (t - 1)) × (now (words .exit) ≡ now (words .entry))) ⌝ }
 {
     if 0 < powers.len() {
-        return;
+        let marks = source.marks;
+        return marked_rows::marked_end(list, marks, t - 1);
     }
+    let register = source.register;
     powers::advance_words(register, words);
+    t - 1
 }
 
 // Where there are powers, puts for each word what it is so many clocks later.
@@ -108,7 +114,6 @@ pub fn fill_portion(
 ) -> Portion
     ensures { λ r. ⌜ PortionFrom source (now (list .entry)) (now (powers .entry)) from (now (words .entry)) (now (words .exit)) (now (columns .entry)) (now (columns .exit)) r ⌝ }
 {
-    let register = source.register;
     let all = words.len();
     let limit = numbers::moved(from.chains, 0, all);
     if from.t == 0 {
@@ -123,8 +128,7 @@ pub fn fill_portion(
     let mut place = first.place;
     let mut chains = first.chains;
     while chains == 0 {
-        advance_swept(register, powers, words);
-        t -= 1;
+        t = go_down(source, list, powers, words, t);
         chains = all;
         if t == 0 {
             return Portion { t, chains, place };

@@ -1,6 +1,6 @@
 -- The columns of all slices, written from the end: the start, the turn and the end of the loop over the slices. Assumes nothing.
 use mathlib.Core.Path.{_≡_, refl, sym, ap, ap₂, _∙_}
-use mathlib.Core.List.{List, [], _∷_, _++_, map, map-map}
+use mathlib.Core.List.{List, [], _∷_, _++_, map, map-map, append-nil}
 use Prim.Native.Nat.{ℕ, zero, suc, _+_, _-_, _≤_, _<_, min}
 use native.Mathlib.Omega.{arith}
 use lib.ListN.{length, take, drop, getD, length-map, length-append, length-drop, List·getD-map}
@@ -99,6 +99,22 @@ module _ (k : Circuit) (s : ℕ) (u : Response) where
   slice-blank v zero h = refl
   slice-blank v (suc n) h =
       ap₂ (λ (a b : List ℕ). a ++ b) (slice-blank v n (λ c l. h c (omega arith))) (ap (λ (d : ℕ). listed d (column k s v n)) (h n (omega arith)))
+
+  columns-more : (i : ℕ) → columnsBelow k s u (suc i) ≡ columnsBelow k s u i ++ slice i
+  unfolding columnsBelow
+  columns-more i = refl
+
+  columns-blank : (j r t : ℕ) → r + j ≡ t → ((v : ℕ) → r ≤ v → v < t → slice v ≡ []) → columnsBelow k s u t ≡ columnsBelow k s u r
+  columns-blank zero r t e blank = let same : t ≡ r = omega arith in ap (columnsBelow k s u) same
+  columns-blank (suc j) r t e blank =
+      let end : t ≡ suc (t - 1) = omega arith in
+      ap (columnsBelow k s u) end ∙ columns-more (t - 1) ∙ ap (λ (x : List ℕ). columnsBelow k s u (t - 1) ++ x) (blank (t - 1) (omega arith) (omega arith))
+      ∙ append-nil (columnsBelow k s u (t - 1)) ∙ columns-blank j r (t - 1) (omega arith) (λ v a b. blank v a (omega arith))
+
+  -- the columns of the slices below t are those of the slices below r, where no slice between has a marked cell
+  pub columns-skipped : (r t : ℕ) → r ≤ t → chains k ≤ 256 → ((v c : ℕ) → r ≤ v → v < t → c < 256 → u v c ≡ 0) → columnsBelow k s u t ≡ columnsBelow k s u r
+  columns-skipped r t h few blank =
+      columns-blank (t - r) r t (omega arith) (λ v a b. slice-blank v (chains k) (λ c l. blank v c a b (omega arith)))
 
   slices-from-blank : (j r t : ℕ) → r + j ≡ t → t ≤ s → ((v : ℕ) → r ≤ v → v < t → slice v ≡ []) → slicesFrom r ≡ slicesFrom t
   slices-from-blank zero r t e h blank = let same : r ≡ t = omega arith in ap slicesFrom same
