@@ -27,7 +27,8 @@ fn transposed(register: Register, w: u64) -> u64
 }
 
 // What is left of w when each word whose highest bit is set in it was XORed in. Only words of the list were, so whatever is even with all
-// of them has the same parity with what is left. Of a reduced list, 0 is left exactly of the XORs of its words.
+// of them has the same parity with what is left. That nothing is left of an XOR of the words of a reduced list is why it is done, and isn't
+// proved: nothing rests on it.
 fn residue(words: &[u64], w: u64) -> u64
     ensures { λ r. ⌜ ((x : ℕ) → xFree (now (words .entry)) x ≡ true → parity r x ≡ parity w x) ⌝ }
 {

@@ -22,7 +22,7 @@ const WORKING_PLACES: usize = 64;
 const FEW_COLUMNS: u64 = 512;
 
 // From so many columns on it takes less time to ask whether they change anything than to make them.
-const ASKED_COLUMNS: usize = 128;
+const ASKED_COLUMNS: usize = 64;
 
 // How far the work has come: the columns that are left, as after a portion; how many words are left, and about how many columns; whether
 // the last portion took at most one word away.
