@@ -1,28 +1,32 @@
 -- The work on portions: where it starts, what a portion does, and its ends. Assumes nothing.
-use mathlib.Core.Path.{_≡_, sym, ap, _∙_, subst}
-use mathlib.Core.Bool.{false}
+use mathlib.Core.Path.{_≡_, refl, sym, ap, _∙_, subst}
+use mathlib.Core.Bool.{true, false}
 use mathlib.Core.List.{List, [], _++_, append-assoc, append-nil}
-use Prim.Native.Nat.{ℕ, _+_, _-_, _^_, _≤_, _<_, min}
+use Prim.Native.Nat.{ℕ, zero, suc, _+_, _-_, _^_, _≤_, _<_, min}
 use native.Mathlib.Omega.{arith}
 use lib.ListN.{length, take, drop, getD, length-drop, length-take, drop-of-length-le}
 use lib.Seq.{take-at, take-all, length-take-le}
 use Rattle.word.specs.Zeros.{zeros, filled}
+use Rattle.combinations.specs.Combination.{xFree}
 use Rattle.combinations.specs.Reduced.{reducedList}
 use Rattle.combinations.specs.Step.{steps, units}
 use Rattle.combinations.proofs.Portions.{without-columns, portion-before, steps-most}
 use Rattle.parity_table.specs.Table.{ParityTable, tableRun}
 use Rattle.parity_table.proofs.SkipLaws.{table-run-from, next-skipped}
-use Rattle.combinations.proofs.StepLaws.{steps-none}
+use Rattle.combinations.proofs.StepLaws.{steps-none, steps-append, step-same}
 use Rattle.numbers.proofs.PartLaws.{take-limit}
 use Rattle.chains.specs.Driven.{badSpread}
 use Rattle.register.specs.Circuit.{Circuit, chains}
-use Rattle.signatures.specs.Signature.{Response}
+use Rattle.rows.specs.Marks.{listed}
+use Rattle.signatures.specs.Signature.{Response, column}
 use Rattle.signatures.specs.Later.{later}
-use Rattle.signatures.specs.Columns.{columnsBelow}
-use Rattle.swept_columns.proofs.FillLaws.{laterWords, later-words, later-words-none}
+use Rattle.signatures.specs.Columns.{sliceColumns, columnsBelow}
+use Rattle.signatures.proofs.ColumnLaws.{column-closed}
+use Rattle.powers.proofs.PowerLaws.{later-add}
+use Rattle.swept_columns.proofs.FillLaws.{laterWords, later-words, later-words-none, later-words-get}
 use Rattle.portions.specs.Portions.{columnsLeft, Way, swept, sparse, Ready, PortionOf}
 use Rattle.portions.specs.declared.Portion.{Portion}
-use Rattle.portions.proofs.PortionLaws.{left-all}
+use Rattle.portions.proofs.PortionLaws.{left-all, way-length}
 use Rattle.set_words.specs.Reducing.{Reduced, Done}
 
 -- the columns from place i of the list l on went through the elimination: the words that are left stand at the front of the list that
@@ -86,6 +90,64 @@ module _ (k : Circuit) (s : ℕ) (u : Response) (m : ℕ) (ps : List ℕ) where
       let all : take left l ≡ reducedList m (columnsBelow k s u s) =
       sym (whole t c ws (take left l) so-far ∙ ap (λ (i : ℕ). steps (columnsLeft k s u i c) (take left l)) z)
       in (sym (length-take-le left l h) ∙ ap length all, all)
+
+-- ---- columns that change nothing
+
+-- the words h are even with the chains' words ws of the cells that are left, any number of clocks later
+module _ (k : Circuit) (s : ℕ) (u : Response) (m : ℕ) (ps : List ℕ) (t : ℕ) (ws h : List ℕ) (inside : t ≤ s) (way : Way k (s - t) ps ws)
+    (even : (i j c : ℕ) → j < t → c < length ws → 0 < u j c → xFree h (later k i (getD ws c 0)) ≡ true) where
+  -- a chain's word of the columns that are left is one of those
+  word-later : Way k (s - t) ps ws → (j c : ℕ) → j < t → 0 < u j c → c < chains k → xFree h (later k (s - 1 - j) (getD (k .spread) c 0)) ≡ true
+  word-later (swept none e) j c hj marked hc =
+      let split : s - 1 - j ≡ (s - t) + (t - 1 - j) = omega arith in
+      let now : getD ws c 0 ≡ later k (s - t) (getD (k .spread) c 0) =
+      ap (λ (l : List ℕ). getD l c 0) (e ∙ sym (later-words k (s - t) (k .spread))) ∙ later-words-get k (s - t) (k .spread) c
+      in
+      ap (xFree h)
+      (ap (λ (i : ℕ). later k i (getD (k .spread) c 0)) split ∙ later-add k (s - t) (t - 1 - j) (getD (k .spread) c 0)
+      ∙ ap (later k (t - 1 - j)) (sym now))
+      ∙ even (t - 1 - j) j c hj (omega (arith, way-length k (s - t) ps ws (swept none e))) marked
+  word-later (sparse many right good e) j c hj marked hc =
+      ap (λ (l : List ℕ). xFree h (later k (s - 1 - j) (getD l c 0))) (sym e)
+      ∙ even (s - 1 - j) j c hj (omega (arith, ap length e)) marked
+
+  one-stays : (d w : ℕ) → (0 < d → xFree h w ≡ true) → steps (listed d w) h ≡ h
+  unfolding steps
+  one-stays zero w e = refl
+  one-stays (suc d) w e = step-same w h (e (omega arith))
+
+  slice-stays : (j n : ℕ) → j < t → n ≤ chains k → steps (sliceColumns k s u j n) h ≡ h
+  unfolding sliceColumns steps
+  slice-stays j zero hj hn = refl
+  slice-stays j (suc n) hj hn =
+      steps-append (sliceColumns k s u j n) (listed (u j n) (column k s j n)) h
+      ∙ ap (steps (listed (u j n) (column k s j n))) (slice-stays j n hj (omega arith))
+      ∙ one-stays (u j n) (column k s j n)
+      (λ marked. ap (xFree h) (column-closed k s j n (omega arith) (omega arith)) ∙ word-later way j n hj marked (omega arith))
+
+  below-stays : (j : ℕ) → j ≤ t → steps (columnsBelow k s u j) h ≡ h
+  unfolding columnsBelow steps
+  below-stays zero hj = refl
+  below-stays (suc j) hj =
+      steps-append (columnsBelow k s u j) (sliceColumns k s u j (chains k)) h
+      ∙ ap (steps (sliceColumns k s u j (chains k))) (below-stays j (omega arith)) ∙ slice-stays j (chains k) (omega arith) (omega arith)
+
+  left-stays : (i c : ℕ) → i ≤ t → c ≤ chains k → steps (columnsLeft k s u i c) h ≡ h
+  unfolding steps
+  left-stays zero c hi hc = refl
+  left-stays (suc i) c hi hc =
+      steps-append (columnsBelow k s u i) (sliceColumns k s u i c) h
+      ∙ ap (steps (sliceColumns k s u i c)) (below-stays i (omega arith)) ∙ slice-stays i c (omega arith) hc
+
+pub done-settled : (k : Circuit) (s : ℕ) (u : Response) (m : ℕ) (ps : List ℕ) (t c : ℕ) (ws l : List ℕ) (left : ℕ)
+    → ((i j c : ℕ) → j < t → c < length ws → 0 < u j c → xFree (take left l) (later k i (getD ws c 0)) ≡ true) → left ≤ length l
+    → Reduced k s u m ps t c ws (take left l) → Done k s u m left l
+done-settled k s u m ps t c ws l left even h so-far =
+    let ready = so-far .ready in
+    let all : take left l ≡ reducedList m (columnsBelow k s u s) =
+    sym (whole k s u m ps t c ws (take left l) so-far
+    ∙ left-stays k s u m ps t ws (take left l) (ready .inside) (ready .way) even t c (omega arith) (so-far .few))
+    in (sym (length-take-le left l h) ∙ ap length all, all)
 
 -- ---- the start
 

@@ -2,10 +2,11 @@
 ghost use mathlib.Core.Path.{_≡_};
 ghost use mathlib.Core.Bool.{true};
 ghost use mathlib.Core.List.{List};
-ghost use Prim.Native.Nat.{ℕ, _+_, _-_, _*_, _≤_, _<_};
+ghost use Prim.Native.Nat.{ℕ, _+_, _-_, _*_, _≤_, _<_, min};
 ghost use lib.ListN.{length, take};
 ghost use Rattle.combinations.specs.Step.{units};
 ghost use Rattle.rows.specs.Lists.{cellsOf};
+ghost use Rattle.closed_words.specs.Closed.{Unchanging};
 ghost use Rattle.portions.specs.Portions.{wiring, slicesIn};
 ghost use Rattle.set_words.specs.Working.{takenWidth, takenWords};
 ghost use Rattle.set_words.specs.Reducing.{Reduced, Done};
@@ -19,6 +20,9 @@ const WORKING_PLACES: usize = 64;
 
 // Up to so many columns are made one by one; from there on it is faster to advance all the chains' words together.
 const FEW_COLUMNS: u64 = 512;
+
+// From so many columns on it takes less time to ask whether they change anything than to make them.
+const ASKED_COLUMNS: usize = 64;
 
 // How far the work has come: the columns that are left, as after a portion; how many words are left, and about how many columns; whether
 // the last portion took at most one word away.
@@ -146,8 +150,29 @@ fn add_next(
     }
 }
 
+// Whether it is known that no column that is left changes the words held. It is asked where the last portion changed them, so once for each
+// list of words at most, and where so many columns are left that asking is worth it.
+fn is_done(
+    source: Source,
+    list: &[u8],
+    words: &[u64],
+    held: &[u64],
+    before: usize,
+    t: u16,
+    more: usize,
+) -> bool
+    ensures { λ r. ⌜ (r ≡ true → length (now (words .entry)) ≤ 256 → Unchanging (min (source .register .m) 64) (source .register .taps) (cellsOf (now (list .entry)) (source .marks)) t (now (words .entry)) (now (held .entry))) ⌝ }
+{
+    let register = source.register;
+    let marks = source.marks;
+    if (held.len() == before) | (more < ASKED_COLUMNS) {
+        return false;
+    }
+    closed_words::is_settled(register, list, marks, t, words, held)
+}
+
 // All portions, from the words of single bits on. Answers with how many words are left, which stand at the front of `held`. It stops
-// where none is left.
+// where none is left, and where it is known that no column changes them any more.
 fn reduce_all(
     source: Source,
     list: &[u8],
@@ -166,10 +191,15 @@ fn reduce_all(
     let mut chains = words.len();
     let mut more = unknowns;
     let mut calm = false;
+    let mut before = left;
     while 0 < t {
         if left == 0 {
             return 0;
         }
+        if is_done(source, list, words, &held[..left], before, t, more) {
+            return left;
+        }
+        before = left;
         let at = Progress {
             t,
             chains,

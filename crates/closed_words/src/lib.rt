@@ -1,0 +1,141 @@
+// Words that no column which is left can change: the space of their XORs is closed under the clock, and they are even with every chain that
+// is still marked. It sees a register, rows of marks and columns as words; it knows no portions.
+ghost use mathlib.Core.Path.{_≡_};
+ghost use mathlib.Core.Bool.{true};
+ghost use Prim.Native.Nat.{ℕ, _+_, _*_, _≤_, _<_, min};
+ghost use lib.Bits.{bitOr};
+ghost use lib.ListN.{length, getD, drop};
+ghost use Rattle.word.specs.Word.{parity};
+ghost use Rattle.combinations.specs.Combination.{xFree};
+ghost use Rattle.parity_table.specs.Table.{evenRun};
+ghost use Rattle.rows.specs.Row.{cell};
+ghost use Rattle.rows.specs.Lists.{cellsOf};
+ghost use Rattle.register.specs.Circuit.{advanced};
+ghost use Rattle.closed_words.specs.Closed.{ClosedUnder, EvenFor, Unchanging};
+use register::Register;
+use rows::Rows;
+
+// The word whose parity with every x is that of w with x one clock later, with all cells 0 and no inversion. A width above 64 counts as
+// 64, and at width 0 bit 0 counts as the old top bit.
+fn transposed(register: Register, w: u64) -> u64
+    ensures { λ r. ⌜ ((x : ℕ) → parity w (advanced (min (register .m) 64) (register .taps) x) ≡ parity r x) ⌝ }
+{
+    let mask = word::low_mask(register.m);
+    let top = mask / 2 + 1;
+    let feedback = chains::chosen_word(word::shared_parity(w, register.taps), top);
+    ((w & mask) / 2) ^ feedback
+}
+
+// What is left of w when each word whose highest bit is set in it was XORed in. Only words of the list were, so whatever is even with all
+// of them has the same parity with what is left. That nothing is left of an XOR of the words of a reduced list is why it is done, and isn't
+// proved: nothing rests on it.
+fn residue(words: &[u64], w: u64) -> u64
+    ensures { λ r. ⌜ ((x : ℕ) → xFree (now (words .entry)) x ≡ true → parity r x ≡ parity w x) ⌝ }
+{
+    let mut rest = w;
+    let mut i: usize = 0;
+    while i < words.len() {
+        let word = words[i];
+        let digit = (rest >> word::highest_bit(word)) % 2;
+        rest = rest ^ chains::chosen_word(digit, word);
+        i += 1;
+    }
+    rest
+}
+
+// Whether it is known that what is even with all words is so one clock later too.
+fn is_closed(register: Register, words: &[u64]) -> bool
+    ensures { λ r. ⌜ (r ≡ true → ClosedUnder (min (register .m) 64) (register .taps) (now (words .entry))) ⌝ }
+{
+    let mut i: usize = 0;
+    while i < words.len() {
+        if residue(words, transposed(register, words[i])) != 0 {
+            return false;
+        }
+        i += 1;
+    }
+    true
+}
+
+fn no_marks() -> [u8; 32]
+    ensures { λ r. ⌜ length r ≡ 32 ⌝ }
+{
+    [0u8; 32]
+}
+
+fn no_words() -> [u64; 256]
+    ensures { λ r. ⌜ length r ≡ 256 ⌝ }
+{
+    [0u64; 256]
+}
+
+// Puts the marks of a row to those that are there, as far as there is room.
+fn add_marks(all: &mut [u8], row: &[u8])
+    ensures { λ _. ⌜ ((i : ℕ) → i < length (now (all .entry)) → getD (now (all .exit)) i 0 ≡ bitOr (getD (now (all .entry)) i 0) (getD (now (row .entry)) i 0)) ⌝ }
+{
+    let common = numbers::shorter(all.len(), row.len());
+    let mut i: usize = 0;
+    while i < common {
+        all[i] = all[i] | row[i];
+        i += 1;
+    }
+}
+
+// The marks of the first t rows together, of 256 chains: a cell that isn't marked here is marked in none of them.
+fn all_marks(list: &[u8], marks: Rows, t: u16) -> [u8; 32]
+    ensures { λ r. ⌜ ((j c : ℕ) → j < t → c < 256 → cellsOf (now (list .entry)) marks j c ≤ cell r c) ⌝ }
+{
+    let mut all = no_marks();
+    let mut j: u16 = 0;
+    while j < t {
+        add_marks(&mut all, rows::row_of(list, marks, j));
+        j += 1;
+    }
+    all
+}
+
+// The place of the first column, from place `from` on, that is odd with one of the words; the end where none is. By a table where so many
+// columns and words make up for the time that it takes.
+fn first_odd(words: &[u64], columns: &[u64], from: usize) -> usize
+    ensures { λ r. ⌜ r ≡ from + evenRun (now (words .entry)) (drop from (now (columns .entry))) ⌝ }
+{
+    let count = words.len();
+    if 64 < count {
+        return parity_table::skip_plainly(words, columns, from);
+    }
+    if columns.len() <= from {
+        return parity_table::skip_plainly(words, columns, from);
+    }
+    if (columns.len() - from) / 64 * count < 80 {
+        return parity_table::skip_plainly(words, columns, from);
+    }
+    parity_table::skip_even(words, columns, from)
+}
+
+// Whether it is known that the words of the marked chains of a row, of at most 256, are even with all of the words held.
+fn are_even(held: &[u64], words: &[u64], row: &[u8]) -> bool
+    ensures { λ r. ⌜ (r ≡ true → length (now (words .entry)) ≤ 256 → EvenFor (now (held .entry)) (now (words .entry)) (cell (now (row .entry)))) ⌝ }
+{
+    let mut columns = no_words();
+    let place = marked_words::list_row(&mut columns, words, row);
+    columns.len() <= first_odd(held, &columns, place)
+}
+
+// Whether it is known that the words held stay as they are, whatever columns the marked cells of the first t rows have: each of these is a
+// word of one of at most 256 chains, some clocks later with all cells 0 and no inversion. It costs some thousands of parities.
+pub fn is_settled(
+    register: Register,
+    list: &[u8],
+    marks: Rows,
+    t: u16,
+    words: &[u64],
+    held: &[u64],
+) -> bool
+    ensures { λ r. ⌜ (r ≡ true → length (now (words .entry)) ≤ 256 → Unchanging (min (register .m) 64) (register .taps) (cellsOf (now (list .entry)) marks) t (now (words .entry)) (now (held .entry))) ⌝ }
+{
+    if !is_closed(register, held) {
+        return false;
+    }
+    let all = all_marks(list, marks, t);
+    are_even(held, words, &all)
+}
