@@ -126,39 +126,16 @@ module _ (l : List ℕ) (r : Rows) where
   pub blank-cells : (t v c : ℕ) → lastMarked l r t ≤ v → v < t → c < 256 → cellsOf l r v c ≡ 0
   blank-cells t v c h k few = total-zero 256 (cellsOf l r v) (blank-after t v h k) c few
 
-  -- the marks of all rows are those of the last marked one and of the rows before it
-  pub total-last : (t : ℕ) → total t marksIn ≡ total (lastMarked l r t - 1) marksIn + lastCount l r t
-  total-last =
-      by-last (λ t. total t marksIn ≡ total (lastMarked l r t - 1) marksIn + lastCount l r t)
-      (omega (arith, count-none, total-none marksIn, ap (λ (k : ℕ). total (k - 1) marksIn) last-none))
-      (λ t e p. omega (arith, total-suc t marksIn, count-blank t e, ap (λ (k : ℕ). total (k - 1) marksIn) (last-blank t e)))
-      (λ t e. let here : lastMarked l r (suc t) - 1 ≡ t = omega (arith, last-here t e) in
-      omega (arith, total-suc t marksIn, count-here t e, ap (λ (k : ℕ). total k marksIn) here))
+-- ---- the marks of all rows
 
-  -- ---- the marks of all s rows, where those of the first t aren't counted yet
+module _ (l : List ℕ) (r : Rows) where
+  pub marks-le : (t : ℕ) → total t (marksIn l r) ≤ t * 256
+  marks-le t = total-le t 256 (marksIn l r) (λ v. row-total-le (marksIn l r v) (rowOf l r v) refl)
 
-  pub Counted : ℕ → ℕ → ℕ → Type 0
-  Counted s found t = found + total t marksIn ≡ total s marksIn
-
-  pub counted-start : (s : ℕ) → Counted s 0 s
-  unfolding Counted
-  counted-start s = omega arith
-
-  pub counted-turn : (s found t place count next : ℕ) → Counted s found t → (place ≡ lastMarked l r t) × (count ≡ lastCount l r t) → next ≡ place - 1
-      → Counted s (found + count) next
-  unfolding Counted
-  counted-turn s found t place count next h (ep, ec) en =
-      omega (arith, total-last t, ap (λ (k : ℕ). total (k - 1) marksIn) ep, ap (λ (k : ℕ). total k marksIn) en)
-
-  -- the count of a set's marks fits a word
-  pub counted-le : (s found t place count : ℕ) → Counted s found t → (place ≡ lastMarked l r t) × (count ≡ lastCount l r t) → found + count ≤ s * 256
-  unfolding Counted
-  counted-le s found t place count h (ep, ec) =
-      omega (arith, total-last t, total-le s 256 marksIn (λ v. row-total-le (marksIn v) (rowOf l r v) refl))
-
-  pub counted-end : (s found t : ℕ) → Counted s found t → t ≡ 0 → found ≡ total s marksIn
-  unfolding Counted
-  counted-end s found t h z = omega (arith, total-none marksIn, ap (λ (k : ℕ). total k marksIn) z)
+  pub counted-turn : (t found n : ℕ) (row : List ℕ) → found ≡ total t (marksIn l r) → n ≡ total 256 (cell row) → row ≡ rowOf l r t
+      → found + n ≡ total (t + 1) (marksIn l r)
+  counted-turn t found n row ef en er =
+      omega (arith, marks-of l r t n row en er, total-suc t (marksIn l r), ap (λ (k : ℕ). total k (marksIn l r)) (add-one t))
 
 -- ---- the search through rows of 32 bytes that are all there, by the place of row t, which is at₀
 
@@ -199,3 +176,52 @@ module _ (l : List ℕ) (t stride at₀ : ℕ) where
 
   pub none-32 : (r : Rows) → Stands r stride at₀ t → (at left : ℕ) → Seeking32 at left → left ≡ 0 → (0 ≡ lastMarked l r t) × (0 ≡ lastCount l r t)
   none-32 r k at left h z = seeking-none l r t left (h .rows r k .1) z
+
+-- ---- the marks of such rows, from the last to the first
+
+module _ (l : List ℕ) (s stride at₀ : ℕ) where
+  pub record Counting32 (found at left : ℕ) : Type 0 where
+    pub room : at + 32 ≤ length l + stride
+    pub rows : (r : Rows) → Stands r stride at₀ s → (at ≡ r .at + r .stride * left) × (found + total left (marksIn l r) ≡ total s (marksIn l r))
+
+  pub counting-start : at₀ + 32 ≤ length l + stride → Counting32 0 at₀ s
+  counting-start h = record { room = h; rows = λ r k. (k .1 .1, omega arith) }
+
+  module _ (r : Rows) (k : Stands r stride at₀ s) (found at left : ℕ) (h : Counting32 found at left) where
+    pub counting-reach : 0 < left → stride ≤ at
+    counting-reach some =
+        let one : left ≡ suc (left - 1) = omega arith in
+        omega (arith, h .rows r k .0, k .1 .0, ap (λ (i : ℕ). r .stride * i) one, mul-suc (r .stride) (left - 1))
+
+    pub counting-le : (next n : ℕ) → 0 < left → next ≡ at - stride → n ≡ total 256 (cell (take 32 (drop next l))) → found + n ≤ s * 256
+    counting-le next n some en ec =
+        let one : left ≡ suc (left - 1) = omega arith in
+        omega (
+          arith,
+          h .rows r k .1,
+          marks-le l r s,
+          ap (λ (i : ℕ). total i (marksIn l r)) one,
+          total-suc (left - 1) (marksIn l r),
+          marks-at l r (left - 1) next n (k .0) (place-before l r left at next some (h .rows r k .0) (en ∙ ap (λ (x : ℕ). at - x) (sym (k .1 .0)))) ec,
+        )
+
+    pub counting-end : left ≡ 0 → found ≡ total s (marksIn l r)
+    counting-end z = omega (arith, h .rows r k .1, ap (λ (i : ℕ). total i (marksIn l r)) z, total-none (marksIn l r))
+
+  pub counting-turn : (found at left next n : ℕ) → Counting32 found at left → 0 < left → stride ≤ at → next ≡ at - stride
+      → n ≡ total 256 (cell (take 32 (drop next l))) → Counting32 (found + n) next (left - 1)
+  counting-turn found at left next n h some far en ec = record {
+    room = omega (arith, h .room);
+    rows = λ r k.
+        let one : left ≡ suc (left - 1) = omega arith in
+        let place = place-before l r left at next some (h .rows r k .0) (en ∙ ap (λ (x : ℕ). at - x) (sym (k .1 .0))) in (
+          place,
+          omega (
+            arith,
+            h .rows r k .1,
+            ap (λ (i : ℕ). total i (marksIn l r)) one,
+            total-suc (left - 1) (marksIn l r),
+            marks-at l r (left - 1) next n (k .0) place ec,
+          ),
+        );
+  }

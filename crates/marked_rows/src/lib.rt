@@ -1,6 +1,7 @@
 // The marked cells of rows: how many there are, and the last row that has any. It sees words, numbers and rows; it knows no register and no
 // file. Every function is total.
 ghost use mathlib.Core.Path.{_≡_};
+ghost use mathlib.Core.Bool.{true};
 ghost use Prim.Native.Nat.{_+_, _-_, _*_, _≤_};
 ghost use lib.Count.{ones};
 ghost use lib.ListN.{length, take, drop};
@@ -92,19 +93,23 @@ fn last_of_32(list: &[u8], rows: Rows, t: u16) -> Marked
     Marked { t: 0, count: 0 }
 }
 
+// Whether the first t rows are of 32 bytes and all there.
+fn are_whole_32(list: &[u8], rows: Rows, t: u16) -> bool
+    ensures { λ r. ⌜ (r ≡ true → (rows .bytes ≡ 32) × (rows .at + rows .stride * t + 32 ≤ length (now (list .entry)) + rows .stride)) ⌝ }
+{
+    let stride = rows.stride as usize;
+    let end = rows.at as usize + stride * (t as usize);
+    (rows.bytes == 32) & (end + 32 <= list.len() + stride)
+}
+
 // The last marked row among the first t: 256 cells of each count. A row past the end has no mark.
 pub fn last_marked(list: &[u8], rows: Rows, t: u16) -> Marked
     ensures { λ r. ⌜ (r .t ≡ lastMarked (now (list .entry)) rows t) × (r .count ≡ lastCount (now (list .entry)) rows t) ⌝ }
 {
-    let stride = rows.stride as usize;
-    let end = rows.at as usize + stride * (t as usize);
-    if rows.bytes != 32 {
-        return last_of_any(list, rows, t);
+    if are_whole_32(list, rows, t) {
+        return last_of_32(list, rows, t);
     }
-    if list.len() + stride < end + 32 {
-        return last_of_any(list, rows, t);
-    }
-    last_of_32(list, rows, t)
+    last_of_any(list, rows, t)
 }
 
 // How many of the first t rows there are up to the last marked one; 0 where none is marked.
@@ -115,24 +120,42 @@ pub fn marked_end(list: &[u8], rows: Rows, t: u16) -> u16
     last.t
 }
 
-// t less 1; 0 for 0.
-fn earlier(t: u16) -> u16
-    ensures { λ r. ⌜ r ≡ t - 1 ⌝ }
-{
-    if t == 0 { 0 } else { t - 1 }
-}
-
-// The number of marked cells among the first 256 of each of s rows, from one marked row to the one before it. It meets no number: a row past
-// the end has no mark.
-pub fn count_marks(list: &[u8], rows: Rows, s: u16) -> u64
+// The number of marked cells among the first 256 of each of s rows, by each row's part of the list.
+fn count_of_any(list: &[u8], rows: Rows, s: u16) -> u64
     ensures { λ r. ⌜ r ≡ total s (λ t. total 256 (cellsOf (now (list .entry)) rows t)) ⌝ }
 {
     let mut found = 0u64;
-    let mut t = s;
-    while 0 < t {
-        let last = last_marked(list, rows, t);
-        found += last.count;
-        t = earlier(last.t);
+    let mut t: u16 = 0;
+    while t < s {
+        found += count_row(rows::row_of(list, rows, t));
+        t += 1;
     }
     found
+}
+
+// The same for rows of 32 bytes that are all there, from the last row to the first.
+fn count_of_32(list: &[u8], rows: Rows, s: u16) -> u64
+    requires { ⌜ (rows .bytes ≡ 32) × (rows .at + rows .stride * s + 32 ≤ length (now list) + rows .stride) ⌝ }
+    ensures { λ r. ⌜ r ≡ total s (λ t. total 256 (cellsOf (now (list .entry)) rows t)) ⌝ }
+{
+    let stride = rows.stride as usize;
+    let mut at = rows.at as usize + stride * (s as usize);
+    let mut found = 0u64;
+    let mut left = s;
+    while 0 < left {
+        at -= stride;
+        found += count_32(list, at);
+        left -= 1;
+    }
+    found
+}
+
+// The number of marked cells among the first 256 of each of s rows. It meets no number: a row past the end has no mark.
+pub fn count_marks(list: &[u8], rows: Rows, s: u16) -> u64
+    ensures { λ r. ⌜ r ≡ total s (λ t. total 256 (cellsOf (now (list .entry)) rows t)) ⌝ }
+{
+    if are_whole_32(list, rows, s) {
+        return count_of_32(list, rows, s);
+    }
+    count_of_any(list, rows, s)
 }

@@ -1,54 +1,24 @@
--- `count_marks` meets its contract. The loop's invariant: the marks of the rows below `t` aren't counted yet.
-use Prim.Native.Nat.{_≤_}
-use native.Mathlib.Omega.{arith}
+-- `count_marks` meets its contract: rows of 32 bytes that are all there are counted as such.
 use borrow.Author.Needs.{needs}
-use Rattle.marked_rows.proofs.LastLaws.{Counted, counted-start, counted-turn, counted-le, counted-end, last-le}
 use Rattle.marked_rows.proofs.count_marks.Statement.{statement}
 use Rattle.marked_rows.proofs.count_marks.Tie as tie
 
-abbrev Inv-loop : tie.InvT-loop
-Inv-loop list rows s found₀ t₀ found t = (t ≤ s) × Counted list rows s found t
+are-whole-32-requires : tie.Need-are-whole-32-requires
+are-whole-32-requires c κs = search needs
 
-abbrev μ-loop : tie.MeasureT-loop
-μ-loop list rows s found₀ t₀ found t = t
+count-of-32-requires : tie.Need-count-of-32-requires
+count-of-32-requires c κs = c .before .are-whole-32 .ensures (c .if1 .taken)
 
-loop-holds : tie.Need-loop-holds Inv-loop μ-loop
-loop-holds c = (search needs, counted-start _ _ _)
+returns : tie.Need-returns
+returns c = search needs
 
-last-marked-requires : tie.Need-last-marked-requires Inv-loop μ-loop
-last-marked-requires c κs = search needs
+count-of-any-requires : tie.Need-count-of-any-requires
+count-of-any-requires c κs = search needs
 
-add-found : tie.Need-add-found Inv-loop μ-loop
-add-found c = record { fits = omega (arith, counted-le _ _ _ _ _ _ _ (c .before .before .before .loop .inv .1) (c .before .last-marked .ensures)) }
-
-earlier-requires : tie.Need-earlier-requires Inv-loop μ-loop
-earlier-requires c κs = search needs
-
-loop-less : tie.Need-loop-less Inv-loop μ-loop
-loop-less c =
-    let loop = c .before .before .before .before in
-    omega (arith, c .earlier .ensures, c .before .before .last-marked .ensures .0, last-le (loop .before .before .args .list .now) (loop .before .before .args .rows) (loop .loop .t))
-
-loop-again : tie.Need-loop-again Inv-loop μ-loop
-loop-again c =
-    let loop = c .before .before .before .before in (
-      omega (arith, c .earlier .ensures, c .before .before .last-marked .ensures .0, last-le (loop .before .before .args .list .now) (loop .before .before .args .rows) (loop .loop .t)),
-      counted-turn _ _ _ _ _ _ _ _ (loop .loop .inv .1) (c .before .before .last-marked .ensures) (c .earlier .ensures),
-    )
-
-returns : tie.Need-returns Inv-loop μ-loop
-returns c = counted-end _ _ _ _ _ (c .before .loop .inv .1) (omega arith)
+returns-2 : tie.Need-returns-2
+returns-2 c = search needs
 
 pub count-marks-spec : {M : Type 1} → statement M
 count-marks-spec =
     tie.close
-    (tie.spec
-    Inv-loop
-    μ-loop
-    loop-holds
-    last-marked-requires
-    add-found
-    earlier-requires
-    loop-less
-    loop-again
-    returns)
+    (tie.spec are-whole-32-requires count-of-32-requires returns count-of-any-requires returns-2)
