@@ -162,10 +162,10 @@ module _ (ws : List ℕ) where
   )
 
   -- as many entries more as the group has
-  pub made-doubles : (table made : List ℕ) (e k h w : ℕ) → k < 4 → h ≡ 2 ^ k → h ≤ 8 → e % 16 ≡ 0 → Made table (e + h)
-      → Doubled table made e h h w → w ≡ getD ws (e / 4 + k) 0 → Made made (e + h + h)
+  made-doubles : (table made : List ℕ) (e k h c : ℕ) → k < 4 → h ≡ 2 ^ k → h ≤ 8 → e % 16 ≡ 0 → c ≡ e / 4 + k → Made table (e + h)
+      → Doubled table made e h h (getD ws c 0) → Made made (e + h + h)
   unfolding Made
-  made-doubles table made e k h w hk hh h8 h0 m d ew = (
+  made-doubles table made e k h c hk hh h8 h0 hc m d = (
     d .long ∙ m .0,
     (λ i l. dite (decLt i (e + h)) (λ (z : i < e + h). d .below i z ∙ m .1 i z) (λ (z : i < e + h → ⊥). new i (omega arith) l)),
     (λ i l. d .above i l ∙ m .2 i (omega arith)),
@@ -175,18 +175,18 @@ module _ (ws : List ℕ) where
       new i a b =
           let from : i - h ≡ e + (i - (e + h)) = omega arith in
           let here : e + h + (i - (e + h)) ≡ i = omega arith in
-          d .new i a b ∙ ap₂ bitXor (m .1 (i - h) (omega arith) ∙ ap (halfByte ws) from) ew
+          d .new i a b ∙ ap₂ bitXor (m .1 (i - h) (omega arith) ∙ ap (halfByte ws) from) (ap (λ (x : ℕ). getD ws x 0) hc)
           ∙ sym (half-byte-next e k h (i - (e + h)) hk hh h8 (omega arith) h0) ∙ ap (halfByte ws) here
 
   -- the sixteen entries of a group
-  pub made-group : (t t1 t2 t3 t4 : List ℕ) (e w0 w1 w2 w3 : ℕ) → e % 16 ≡ 0 → Made t e → Doubled t t1 e 1 1 w0 → Doubled t1 t2 e 2 2 w1
-      → Doubled t2 t3 e 4 4 w2 → Doubled t3 t4 e 8 8 w3 → w0 ≡ getD ws (e / 4) 0 → w1 ≡ getD ws (e / 4 + 1) 0 → w2 ≡ getD ws (e / 4 + 2) 0
-      → w3 ≡ getD ws (e / 4 + 3) 0 → Made t4 (e + 16)
-  made-group t t1 t2 t3 t4 e w0 w1 w2 w3 h m d1 d2 d3 d4 e0 e1 e2 e3 =
-      let m1 = made-doubles t t1 e 0 1 w0 (omega arith) refl (omega arith) h (made-first t e h m) d1 (e0 ∙ ap (λ (c : ℕ). getD ws c 0) (sym (add-zero (e / 4)))) in
-      let m2 = made-doubles t1 t2 e 1 2 w1 (omega arith) refl (omega arith) h (to t1 _ _ (omega arith) m1) d2 e1 in
-      let m3 = made-doubles t2 t3 e 2 4 w2 (omega arith) refl (omega arith) h (to t2 _ _ (omega arith) m2) d3 e2 in
-      let m4 = made-doubles t3 t4 e 3 8 w3 (omega arith) refl (omega arith) h (to t3 _ _ (omega arith) m3) d4 e3 in
+  pub made-group : (t t1 t2 t3 t4 : List ℕ) (e : ℕ) → e % 16 ≡ 0 → Made t e → Doubled t t1 e 1 1 (getD ws (e / 4) 0)
+      → Doubled t1 t2 e 2 2 (getD ws (e / 4 + 1) 0) → Doubled t2 t3 e 4 4 (getD ws (e / 4 + 2) 0)
+      → Doubled t3 t4 e 8 8 (getD ws (e / 4 + 3) 0) → Made t4 (e + 16)
+  made-group t t1 t2 t3 t4 e h m d1 d2 d3 d4 =
+      let m1 = made-doubles t t1 e 0 1 (e / 4) (omega arith) refl (omega arith) h (omega arith) (made-first t e h m) d1 in
+      let m2 = made-doubles t1 t2 e 1 2 (e / 4 + 1) (omega arith) refl (omega arith) h refl (to t1 _ _ (omega arith) m1) d2 in
+      let m3 = made-doubles t2 t3 e 2 4 (e / 4 + 2) (omega arith) refl (omega arith) h refl (to t2 _ _ (omega arith) m2) d3 in
+      let m4 = made-doubles t3 t4 e 3 8 (e / 4 + 3) (omega arith) refl (omega arith) h refl (to t3 _ _ (omega arith) m3) d4 in
       to t4 _ _ (omega arith) m4
     where
       to : (l : List ℕ) (a b : ℕ) → a ≡ b → Made l a → Made l b
@@ -226,8 +226,8 @@ module _ (l₀ : List ℕ) (e h w : ℕ) where
           ∙ getD-set-same l (e + h + j) _ 0 (omega (arith, d .long))
           ∙ ap (λ (x : ℕ). bitXor x w) (d .below (e + j) (omega arith) ∙ ap (λ (x : ℕ). getD l₀ x 0) from)
 
-  pub doubled-ends : (l : List ℕ) (j : ℕ) → j ≡ h → Doubled l₀ l e h j w → Doubled l₀ l e h h w
-  doubled-ends l j ej d = subst (λ (x : ℕ). Doubled l₀ l e h x w) ej d
+  pub doubled-ends : (l : List ℕ) (j v : ℕ) → j ≡ h → w ≡ v → Doubled l₀ l e h j w → Doubled l₀ l e h h v
+  doubled-ends l j v ej ev d = subst (λ (x : ℕ). Doubled l₀ l e h h x) ev (subst (λ (x : ℕ). Doubled l₀ l e h x w) ej d)
 
 -- ---- the entries of a row's half bytes
 
@@ -236,20 +236,20 @@ unfolding lookedUp
 looked-none table row = refl
 
 -- one byte more
-looked-next : (table row : List ℕ) (i : ℕ) → bitXor (lookedUp table row i) (lookedByte table i (getD row i 0)) ≡ lookedUp table row (i + 1)
+looked-next : (table row : List ℕ) (i : ℕ) → bitXor (lookedUp table row i) (lookedByte table row i) ≡ lookedUp table row (i + 1)
 unfolding lookedUp
 looked-next table row i = sym (xor-assoc (lookedUp table row i) _ _) ∙ ap (lookedUp table row) (sym (add-one i))
 
 -- .. behind what was looked up from some byte on, here a drive d that makes the XOR of the first bytes w that of the first i
-pub looked-turn : (table row : List ℕ) (i w d b : ℕ) → bitXor w d ≡ lookedUp table row i → b ≡ lookedByte table i (getD row i 0)
+pub looked-turn : (table row : List ℕ) (i w d b : ℕ) → bitXor w d ≡ lookedUp table row i → b ≡ lookedByte table row i
     → bitXor w (bitXor d b) ≡ lookedUp table row (i + 1)
 looked-turn table row i w d b ed eb = sym (xor-assoc w d b) ∙ ap₂ bitXor ed eb ∙ looked-next table row i
 
-pub looked-eight : (table row : List ℕ) (i b0 b1 b2 b3 b4 b5 b6 b7 : ℕ) → b0 ≡ lookedByte table i (getD row i 0)
-    → b1 ≡ lookedByte table (i + 1) (getD row (i + 1) 0) → b2 ≡ lookedByte table (i + 2) (getD row (i + 2) 0)
-    → b3 ≡ lookedByte table (i + 3) (getD row (i + 3) 0) → b4 ≡ lookedByte table (i + 4) (getD row (i + 4) 0)
-    → b5 ≡ lookedByte table (i + 5) (getD row (i + 5) 0) → b6 ≡ lookedByte table (i + 6) (getD row (i + 6) 0)
-    → b7 ≡ lookedByte table (i + 7) (getD row (i + 7) 0)
+pub looked-eight : (table row : List ℕ) (i b0 b1 b2 b3 b4 b5 b6 b7 : ℕ) → b0 ≡ lookedByte table row i
+    → b1 ≡ lookedByte table row (i + 1) → b2 ≡ lookedByte table row (i + 2)
+    → b3 ≡ lookedByte table row (i + 3) → b4 ≡ lookedByte table row (i + 4)
+    → b5 ≡ lookedByte table row (i + 5) → b6 ≡ lookedByte table row (i + 6)
+    → b7 ≡ lookedByte table row (i + 7)
     → bitXor (lookedUp table row i) (bitXor (bitXor (bitXor (bitXor (bitXor (bitXor (bitXor b0 b1) b2) b3) b4) b5) b6) b7) ≡ lookedUp table row (i + 8)
 looked-eight table row i b0 b1 b2 b3 b4 b5 b6 b7 e0 e1 e2 e3 e4 e5 e6 e7 =
     let t1 = ap (bitXor (lookedUp table row i)) e0 ∙ looked-next table row i in
@@ -261,7 +261,7 @@ looked-eight table row i b0 b1 b2 b3 b4 b5 b6 b7 e0 e1 e2 e3 e4 e5 e6 e7 =
     let t7 = on (i + 6) (i + 7) _ _ t6 e6 (omega arith) in
     on (i + 7) (i + 8) _ _ t7 e7 (omega arith)
   where
-    on : (k n d b : ℕ) → bitXor (lookedUp table row i) d ≡ lookedUp table row k → b ≡ lookedByte table k (getD row k 0) → k + 1 ≡ n
+    on : (k n d b : ℕ) → bitXor (lookedUp table row i) d ≡ lookedUp table row k → b ≡ lookedByte table row k → k + 1 ≡ n
         → bitXor (lookedUp table row i) (bitXor d b) ≡ lookedUp table row n
     on k n d b ed eb en = looked-turn table row k (lookedUp table row i) d b ed eb ∙ ap (lookedUp table row) en
 

@@ -7,7 +7,7 @@
 --   Doubled l₀ l e h j w  the list l is l₀ but for its j entries from e + h on: each of them is the entry h places before it in l₀,
 --                         with the word w XORed in
 --   tableEnd n            the number of entries that can differ from 0, for n chains
---   lookedByte table i b  the XOR of the entries of the table for the two half bytes of b, as byte i of a row
+--   lookedByte table row i   the XOR of the entries of the table for the two half bytes of byte i of the row
 --   lookedUp table row i  the XOR of the entries of the table for the two half bytes of each of the row's first i bytes
 use mathlib.Core.Path.{_≡_}
 use mathlib.Core.List.{List}
@@ -32,8 +32,8 @@ pub record Doubled (l₀ l : List ℕ) (e h j w : ℕ) : Type 0 where
 abbrev pub tableEnd : ℕ → ℕ
 tableEnd n = min (16 * ((n + 3) / 4)) 1024
 
-abbrev pub lookedByte : List ℕ → ℕ → ℕ → ℕ
-lookedByte table i b = bitXor (getD table (32 * i + b % 16) 0) (getD table (32 * i + 16 + b / 16) 0)
+abbrev pub lookedByte : List ℕ → List ℕ → ℕ → ℕ
+lookedByte table row i = bitXor (getD table (32 * i + getD row i 0 % 16) 0) (getD table (32 * i + 16 + getD row i 0 / 16) 0)
 
 unfoldable pub lookedUp : List ℕ → List ℕ → ℕ → ℕ
 lookedUp table row zero = 0

@@ -5,7 +5,7 @@ ghost use mathlib.Core.Bool.{_||_};
 ghost use Prim.Native.Nat.{min, _+_, _≤_, _<_};
 ghost use lib.Bits.{bitXor};
 ghost use lib.Dec.{eqb};
-ghost use lib.ListN.{length, replicate};
+ghost use lib.ListN.{length, getD, replicate};
 ghost use Rattle.word.specs.Word.{beyond};
 ghost use Rattle.rows.specs.Row.{cell};
 ghost use Rattle.chains.specs.Driven.{chosen, driven, badSpread};
@@ -65,11 +65,12 @@ fn no_entries() -> [u64; 1024]
     [0u64; 1024]
 }
 
-// Entries e + h to e + 2 h - 1 of a table from the h entries from e on: each of these with the word w XORed in.
-fn double_entries(table: &mut [u64], e: usize, h: usize, w: u64)
+// Entries e + h to e + 2 h - 1 of a table from the h entries from e on: each of these with the spread word of chain c XORed in.
+fn double_entries(table: &mut [u64], e: usize, h: usize, spread: &[u64], c: usize)
     requires { ⌜ e + h + h ≤ length (now table) ⌝ }
-    ensures { λ _. ⌜ Doubled (now (table .entry)) (now (table .exit)) e h h w ⌝ }
+    ensures { λ _. ⌜ Doubled (now (table .entry)) (now (table .exit)) e h h (getD (now (spread .entry)) c 0) ⌝ }
 {
+    let w = word::word_at(spread, c);
     let mut j = 0;
     while j < h {
         table[e + h + j] = table[e + j] ^ w;
@@ -94,21 +95,21 @@ pub fn half_bytes(spread: &[u64]) -> [u64; 1024]
     let mut e = 0;
     while e < end {
         let c = e / 4;
-        double_entries(&mut table[..], e, 1, word::word_at(spread, c));
-        double_entries(&mut table[..], e, 2, word::word_at(spread, c + 1));
-        double_entries(&mut table[..], e, 4, word::word_at(spread, c + 2));
-        double_entries(&mut table[..], e, 8, word::word_at(spread, c + 3));
+        double_entries(&mut table[..], e, 1, spread, c);
+        double_entries(&mut table[..], e, 2, spread, c + 1);
+        double_entries(&mut table[..], e, 4, spread, c + 2);
+        double_entries(&mut table[..], e, 8, spread, c + 3);
         e += 16;
     }
     table
 }
 
 // The XOR of the table's entries for the two half bytes of byte i of a row.
-fn looked_byte(table: &[u64; 1024], i: usize, b: u8) -> u64
-    requires { ⌜ i < 32 ⌝ }
-    ensures { λ r. ⌜ r ≡ lookedByte (now (table .entry)) i b ⌝ }
+fn looked_byte(table: &[u64; 1024], row: &[u8], i: usize) -> u64
+    requires { ⌜ (i < length (now row)) × (i < 32) ⌝ }
+    ensures { λ r. ⌜ r ≡ lookedByte (now (table .entry)) (now (row .entry)) i ⌝ }
 {
-    let v = numbers::wide(b) as usize;
+    let v = numbers::wide(row[i]) as usize;
     table[32 * i + v % 16] ^ table[32 * i + 16 + v / 16]
 }
 
@@ -117,14 +118,14 @@ fn looked_eight(table: &[u64; 1024], row: &[u8], i: usize) -> u64
     requires { ⌜ (i + 8 ≤ length (now row)) × (i + 8 ≤ 32) ⌝ }
     ensures { λ r. ⌜ bitXor (lookedUp (now (table .entry)) (now (row .entry)) i) r ≡ lookedUp (now (table .entry)) (now (row .entry)) (i + 8) ⌝ }
 {
-    looked_byte(table, i, row[i])
-        ^ looked_byte(table, i + 1, row[i + 1])
-        ^ looked_byte(table, i + 2, row[i + 2])
-        ^ looked_byte(table, i + 3, row[i + 3])
-        ^ looked_byte(table, i + 4, row[i + 4])
-        ^ looked_byte(table, i + 5, row[i + 5])
-        ^ looked_byte(table, i + 6, row[i + 6])
-        ^ looked_byte(table, i + 7, row[i + 7])
+    looked_byte(table, row, i)
+        ^ looked_byte(table, row, i + 1)
+        ^ looked_byte(table, row, i + 2)
+        ^ looked_byte(table, row, i + 3)
+        ^ looked_byte(table, row, i + 4)
+        ^ looked_byte(table, row, i + 5)
+        ^ looked_byte(table, row, i + 6)
+        ^ looked_byte(table, row, i + 7)
 }
 
 // The XOR of the table's entries for the half bytes of the bytes of a row from byte `from` on and before byte `count`.
@@ -135,7 +136,7 @@ fn looked_rest(table: &[u64; 1024], row: &[u8], from: usize, count: usize) -> u6
     let mut drive = 0u64;
     let mut i = from;
     while i < count {
-        drive = drive ^ looked_byte(table, i, row[i]);
+        drive = drive ^ looked_byte(table, row, i);
         i += 1;
     }
     drive

@@ -28,20 +28,14 @@ loop-holds c =
 slice-aggregate-double-entries : tie.Need-slice-aggregate-double-entries Inv-loop μ-loop
 slice-aggregate-double-entries c = search needs
 
-word-at-requires : tie.Need-word-at-requires Inv-loop μ-loop
-word-at-requires c κs = search needs
-
 double-entries-requires : tie.Need-double-entries-requires Inv-loop μ-loop
 double-entries-requires c κs = search needs
 
 slice-aggregate-double-entries-2 : tie.Need-slice-aggregate-double-entries-2 Inv-loop μ-loop
 slice-aggregate-double-entries-2 c = search needs
 
-add-word-at : tie.Need-add-word-at Inv-loop μ-loop
-add-word-at c = search needs
-
-word-at-requires-2 : tie.Need-word-at-requires-2 Inv-loop μ-loop
-word-at-requires-2 c κs = search needs
+add-double-entries : tie.Need-add-double-entries Inv-loop μ-loop
+add-double-entries c = search needs
 
 double-entries-requires-2 : tie.Need-double-entries-requires-2 Inv-loop μ-loop
 double-entries-requires-2 c κs = search needs
@@ -49,11 +43,8 @@ double-entries-requires-2 c κs = search needs
 slice-aggregate-double-entries-3 : tie.Need-slice-aggregate-double-entries-3 Inv-loop μ-loop
 slice-aggregate-double-entries-3 c = search needs
 
-add-word-at-2 : tie.Need-add-word-at-2 Inv-loop μ-loop
-add-word-at-2 c = search needs
-
-word-at-requires-3 : tie.Need-word-at-requires-3 Inv-loop μ-loop
-word-at-requires-3 c κs = search needs
+add-double-entries-2 : tie.Need-add-double-entries-2 Inv-loop μ-loop
+add-double-entries-2 c = search needs
 
 double-entries-requires-3 : tie.Need-double-entries-requires-3 Inv-loop μ-loop
 double-entries-requires-3 c κs = search needs
@@ -61,11 +52,8 @@ double-entries-requires-3 c κs = search needs
 slice-aggregate-double-entries-4 : tie.Need-slice-aggregate-double-entries-4 Inv-loop μ-loop
 slice-aggregate-double-entries-4 c = search needs
 
-add-word-at-3 : tie.Need-add-word-at-3 Inv-loop μ-loop
-add-word-at-3 c = search needs
-
-word-at-requires-4 : tie.Need-word-at-requires-4 Inv-loop μ-loop
-word-at-requires-4 c κs = search needs
+add-double-entries-3 : tie.Need-add-double-entries-3 Inv-loop μ-loop
+add-double-entries-3 c = search needs
 
 double-entries-requires-4 : tie.Need-double-entries-requires-4 Inv-loop μ-loop
 double-entries-requires-4 c κs = search needs
@@ -79,9 +67,8 @@ loop-less c = search needs
 loop-again : tie.Need-loop-again Inv-loop μ-loop
 loop-again c =
     let k =
-    made-group _ _ _ _ _ _ _ _ _ _ _ (c .before .before .before .before .before .before .before .before .before .before .before .before .before .before .before .before .before .loop .inv .1) (c .before .before .before .before .before .before .before .before .before .before .before .before .before .before .before .before .before .loop .inv .3)
-    (c .before .before .before .before .before .before .before .before .before .before .before .before .before .double-entries .ensures) (c .before .before .before .before .before .before .before .before .before .double-entries2 .ensures) (c .before .before .before .before .before .double-entries3 .ensures) (c .before .double-entries4 .ensures)
-    (c .before .before .before .before .before .before .before .before .before .before .before .before .before .before .word-at .ensures) (c .before .before .before .before .before .before .before .before .before .before .word-at2 .ensures) (c .before .before .before .before .before .before .word-at3 .ensures) (c .before .before .word-at4 .ensures) in
+    made-group _ _ _ _ _ _ _ (c .before .before .before .before .before .before .before .before .before .before .before .before .before .loop .inv .1) (c .before .before .before .before .before .before .before .before .before .before .before .before .before .loop .inv .3)
+    (c .before .before .before .before .before .before .before .before .before .before .double-entries .ensures) (c .before .before .before .before .before .before .before .double-entries2 .ensures) (c .before .before .before .before .double-entries3 .ensures) (c .before .double-entries4 .ensures) in
     (search needs, omega arith, made-length _ _ _ k, k)
 
 returns : tie.Need-returns Inv-loop μ-loop
@@ -97,19 +84,15 @@ half-bytes-spec =
     table-end-requires
     loop-holds
     slice-aggregate-double-entries
-    word-at-requires
     double-entries-requires
     slice-aggregate-double-entries-2
-    add-word-at
-    word-at-requires-2
+    add-double-entries
     double-entries-requires-2
     slice-aggregate-double-entries-3
-    add-word-at-2
-    word-at-requires-3
+    add-double-entries-2
     double-entries-requires-3
     slice-aggregate-double-entries-4
-    add-word-at-3
-    word-at-requires-4
+    add-double-entries-3
     double-entries-requires-4
     add-e
     loop-less

@@ -1,9 +1,14 @@
 -- `looked_byte` meets its contract, which is its code.
 use mathlib.Core.Path.{ap}
-use Rattle.chains.specs.Table.{lookedByte}
+use Prim.Native.Nat.{ℕ, _+_, _*_, _/_, _%_}
+use lib.Bits.{bitXor}
+use lib.ListN.{getD}
 use borrow.Author.Needs.{needs}
 use Rattle.chains.proofs.looked_byte.Statement.{statement}
 use Rattle.chains.proofs.looked_byte.Tie as tie
+
+shared-slice-read-wide : tie.Need-shared-slice-read-wide
+shared-slice-read-wide c = search needs
 
 wide-requires : tie.Need-wide-requires
 wide-requires c κs = search needs
@@ -36,12 +41,16 @@ element-copy-out-result-2 : tie.Need-element-copy-out-result-2
 element-copy-out-result-2 c = search needs
 
 returns : tie.Need-returns
-returns c = ap (lookedByte (c .before .before .before .args .table .now) (c .before .before .before .args .i)) (c .before .before .wide .ensures .0)
+returns c =
+    let args = c .before .before .before .before .before .args in
+    ap (λ (b : ℕ). bitXor (getD (args .table .now) (32 * args .i + b % 16) 0) (getD (args .table .now) (32 * args .i + 16 + b / 16) 0))
+    (c .before .before .wide .ensures .0)
 
 pub looked-byte-spec : {M : Type 1} → statement M
 looked-byte-spec =
     tie.close
     (tie.spec
+    shared-slice-read-wide
     wide-requires
     mul-result
     add-result

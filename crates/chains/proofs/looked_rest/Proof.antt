@@ -18,9 +18,6 @@ abbrev μ-loop : tie.MeasureT-loop
 loop-holds : tie.Need-loop-holds Inv-loop μ-loop
 loop-holds c = (search needs, xor-zero-r _)
 
-shared-slice-read-looked-byte : tie.Need-shared-slice-read-looked-byte Inv-loop μ-loop
-shared-slice-read-looked-byte c = search needs
-
 looked-byte-requires : tie.Need-looked-byte-requires Inv-loop μ-loop
 looked-byte-requires c κs = search needs
 
@@ -33,7 +30,7 @@ loop-less c = search needs
 loop-again : tie.Need-loop-again Inv-loop μ-loop
 loop-again c = (
   search needs,
-  looked-turn _ _ _ (lookedUp (c .before .before .before .before .before .args .table .now) (c .before .before .before .before .before .args .row .now) (c .before .before .before .before .before .args .from)) _ _ (c .before .before .before .loop .inv .1) (c .looked-byte .ensures),
+  looked-turn _ _ _ (lookedUp (c .before .before .before .before .args .table .now) (c .before .before .before .before .args .row .now) (c .before .before .before .before .args .from)) _ _ (c .before .before .loop .inv .1) (c .looked-byte .ensures),
 )
 
 returns : tie.Need-returns Inv-loop μ-loop
@@ -49,7 +46,6 @@ looked-rest-spec =
     Inv-loop
     μ-loop
     loop-holds
-    shared-slice-read-looked-byte
     looked-byte-requires
     add-i
     loop-less
