@@ -21,35 +21,9 @@ use Rattle.word.proofs.Laws.{mod2-lt, xor-assoc}
 use Rattle.word.proofs.SomeLaws.{any-below-false}
 use Rattle.rows.specs.Row.{Cells, cell}
 use Rattle.chains.specs.Driven.{chosen, driven}
-use Rattle.chains.proofs.Laws.{driven-ext, driven-none, driven-xor, driven-unit}
+use Rattle.chains.proofs.Laws.{driven-ext, driven-none, driven-xor, driven-unit, chosen-zero, driven-add, driven-stops, driven-words-ext}
 use Rattle.chains.specs.Table.{halfByte, HalfBytes, Doubled, tableEnd, lookedByte, lookedUp}
 use Rattle.rows.proofs.CellLaws.{byte-cell, cell-past}
-
--- ---- what the chains drive, in parts
-
-chosen-zero : (d w : ℕ) → w ≡ 0 → chosen d w ≡ 0
-chosen-zero zero w e = refl
-chosen-zero (suc d) w e = e
-
-driven-add : (ws : List ℕ) (x : Cells) (c j : ℕ) → driven ws x (c + j) ≡ bitXor (driven ws x c) (driven (drop c ws) (λ i. x (c + i)) j)
-unfolding driven
-driven-add ws x c zero = ap (driven ws x) (add-zero c) ∙ sym (xor-zero-r (driven ws x c))
-driven-add ws x c (suc j) =
-    ap (driven ws x) (add-suc c j)
-    ∙ ap₂ bitXor (driven-add ws x c j) (ap (chosen (x (c + j))) (sym (getD-drop c ws j 0)))
-    ∙ xor-assoc (driven ws x c) (driven (drop c ws) (λ i. x (c + i)) j) (chosen (x (c + j)) (getD (drop c ws) j 0))
-
-driven-stops : (ws : List ℕ) (x : Cells) (a j : ℕ) → ((c : ℕ) → a ≤ c → chosen (x c) (getD ws c 0) ≡ 0) → driven ws x (a + j) ≡ driven ws x a
-unfolding driven
-driven-stops ws x a zero h = ap (driven ws x) (add-zero a)
-driven-stops ws x a (suc j) h =
-    ap (driven ws x) (add-suc a j) ∙ ap₂ bitXor (driven-stops ws x a j h) (h (a + j) (omega arith)) ∙ xor-zero-r (driven ws x a)
-
-driven-words-ext : (ws vs : List ℕ) (x : Cells) (n : ℕ) → ((c : ℕ) → c < n → getD ws c 0 ≡ getD vs c 0) → driven ws x n ≡ driven vs x n
-unfolding driven
-driven-words-ext ws vs x zero h = refl
-driven-words-ext ws vs x (suc n) h =
-    ap₂ bitXor (driven-words-ext ws vs x n (λ c l. h c (omega arith))) (ap (chosen (x n)) (h n (omega arith)))
 
 -- ---- facts of half bytes, each computed for all of them
 
