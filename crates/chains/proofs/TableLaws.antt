@@ -1,85 +1,49 @@
 -- A table of words for half bytes: how its entries follow from each other, and that the entries of a row's half bytes add up to
 -- what the chains drive. Assumes nothing.
-use mathlib.Core.Path.{_≡_, refl, sym, ap, ap₂, _∙_}
-use mathlib.Core.Bool.{Bool, true, false, cond, not}
+use mathlib.Core.Path.{_≡_, refl, sym, ap, ap₂, subst, _∙_}
+use mathlib.Core.Bool.{Bool, true, false, cond, not, _&&_}
 use mathlib.Core.Logic.{dite}
 use mathlib.Core.List.{List, []}
 use Prim.Native.Nat.{ℕ, zero, suc, _+_, _-_, _*_, _/_, _%_, _^_, _≤_, _<_, min}
-use native.Mathlib.Nat.{add-zero, add-suc, add-assoc, one-mul}
+use native.Mathlib.Nat.{add-zero, add-suc, add-assoc}
 use native.Mathlib.Numerals.{add-one}
 use native.Mathlib.Decide.{decLe, decLt, ℕ-discrete}
 use native.Mathlib.Omega.{arith}
-use borrow.Author.Tests.{eqb-true, eq-eqb, ne-eqb, not-false, ltb-true, ltb-false}
+use borrow.Author.Tests.{eqb-true, not-false, lt-ltb}
 use lib.Bits.{bitXor, xor-zero-r}
 use lib.Dec.{eqb, ltb}
 use lib.ListN.{length, length-take, take, drop, getD, set, replicate, getD-replicate, length-set, length-replicate, drop-of-length-le, List·getD-eq-default}
 use lib.Seq.{getD-drop, getD-take, getD-set-same, getD-set-other}
-use lib.Pow.{shr-shr, pow-pos, shl-exact}
+use lib.Pow.{shr-shr}
 use Rattle.word.specs.Word.{digit}
 use Rattle.word.specs.Some.{anyBelow}
 use Rattle.word.proofs.Laws.{mod2-lt, xor-assoc}
 use Rattle.word.proofs.SomeLaws.{any-below-false}
 use Rattle.rows.specs.Row.{Cells, cell}
 use Rattle.chains.specs.Driven.{chosen, driven}
-use Rattle.chains.proofs.Laws.{driven-ext, driven-none, driven-xor, driven-unit}
-use Rattle.chains.specs.Table.{halfByte, HalfBytes, topPlace, halfByteFrom, tableEnd, lookedUp}
+use Rattle.chains.proofs.Laws.{driven-ext, driven-none, driven-xor, driven-unit, chosen-zero, driven-add, driven-stops, driven-words-ext}
+use Rattle.chains.specs.Table.{halfByte, HalfBytes, Doubled, tableEnd, lookedByte, lookedUp}
 use Rattle.rows.proofs.CellLaws.{byte-cell, cell-past}
-
--- ---- what the chains drive, in parts
-
-chosen-zero : (d w : ℕ) → w ≡ 0 → chosen d w ≡ 0
-chosen-zero zero w e = refl
-chosen-zero (suc d) w e = e
-
-driven-add : (ws : List ℕ) (x : Cells) (c j : ℕ) → driven ws x (c + j) ≡ bitXor (driven ws x c) (driven (drop c ws) (λ i. x (c + i)) j)
-unfolding driven
-driven-add ws x c zero = ap (driven ws x) (add-zero c) ∙ sym (xor-zero-r (driven ws x c))
-driven-add ws x c (suc j) =
-    ap (driven ws x) (add-suc c j)
-    ∙ ap₂ bitXor (driven-add ws x c j) (ap (chosen (x (c + j))) (sym (getD-drop c ws j 0)))
-    ∙ xor-assoc (driven ws x c) (driven (drop c ws) (λ i. x (c + i)) j) (chosen (x (c + j)) (getD (drop c ws) j 0))
-
-driven-stops : (ws : List ℕ) (x : Cells) (a j : ℕ) → ((c : ℕ) → a ≤ c → chosen (x c) (getD ws c 0) ≡ 0) → driven ws x (a + j) ≡ driven ws x a
-unfolding driven
-driven-stops ws x a zero h = ap (driven ws x) (add-zero a)
-driven-stops ws x a (suc j) h =
-    ap (driven ws x) (add-suc a j) ∙ ap₂ bitXor (driven-stops ws x a j h) (h (a + j) (omega arith)) ∙ xor-zero-r (driven ws x a)
-
-driven-words-ext : (ws vs : List ℕ) (x : Cells) (n : ℕ) → ((c : ℕ) → c < n → getD ws c 0 ≡ getD vs c 0) → driven ws x n ≡ driven vs x n
-unfolding driven
-driven-words-ext ws vs x zero h = refl
-driven-words-ext ws vs x (suc n) h =
-    ap₂ bitXor (driven-words-ext ws vs x n (λ c l. h c (omega arith))) (ap (chosen (x n)) (h n (omega arith)))
 
 -- ---- facts of half bytes, each computed for all of them
 
--- a half byte is the one without its highest bit, and that bit
-lacks : ℕ → ℕ → Bool
-lacks j c = not (eqb (digit c (suc j)) ((digit c (suc j - 2 ^ topPlace (suc j)) + cond (eqb c (topPlace (suc j))) 1 0) % 2))
+-- a half byte with highest bit k is what lies below that bit, and the bit
+lacks : ℕ → ℕ → ℕ → Bool
+lacks k j c = ltb j (2 ^ k) && not (eqb (digit c (2 ^ k + j)) ((digit c j + cond (eqb c k) 1 0) % 2))
 
-none-lacks : anyBelow 15 (λ j. anyBelow 4 (lacks j)) ≡ false
-unfolding anyBelow lacks topPlace
+none-lacks : anyBelow 4 (λ k. anyBelow 8 (λ j. anyBelow 4 (lacks k j))) ≡ false
+unfolding anyBelow lacks
 none-lacks = refl
 
-top-digit : (j c : ℕ) → j < 15 → c < 4
-    → digit c (suc j) ≡ (digit c (suc j - 2 ^ topPlace (suc j)) + cond (eqb c (topPlace (suc j))) 1 0) % 2
+top-digit : (k j c : ℕ) → k < 4 → j < 2 ^ k → j < 8 → c < 4 → digit c (2 ^ k + j) ≡ (digit c j + cond (eqb c k) 1 0) % 2
 unfolding lacks
-top-digit j c hj hc =
-    eqb-true _ _ (not-false _ (any-below-false 4 (lacks j) (any-below-false 15 (λ j. anyBelow 4 (lacks j)) none-lacks j hj) c hc))
-
-wide-top : ℕ → Bool
-wide-top j = not (ltb (topPlace (suc j)) 4)
-
-none-wide-top : anyBelow 15 wide-top ≡ false
-unfolding anyBelow wide-top topPlace
-none-wide-top = refl
-
-steep : ℕ → Bool
-steep j = ltb (suc j) (2 ^ topPlace (suc j))
-
-none-steep : anyBelow 15 steep ≡ false
-unfolding anyBelow steep topPlace
-none-steep = refl
+top-digit k j c hk hj h8 hc =
+    eqb-true _ _
+    (not-false _
+    (rw (lt-ltb j (2 ^ k) hj) at
+    (any-below-false 4 (lacks k j)
+    (any-below-false 8 (λ j. anyBelow 4 (lacks k j))
+    (any-below-false 4 (λ k. anyBelow 8 (λ j. anyBelow 4 (lacks k j))) none-lacks k hk) j h8) c hc)))
 
 -- the low half of a byte has the byte's low digits
 high-left : ℕ → ℕ → Bool
@@ -99,25 +63,13 @@ high-digit b c = ap (λ (x : ℕ). x % 2) (shr-shr b 4 c)
 
 -- ---- the entries of the table
 
-pub top-place-lt : (j : ℕ) → 0 < j → j < 16 → (topPlace j < 4) × (2 ^ topPlace j ≤ j)
-unfolding wide-top steep
-top-place-lt zero h l = let z : ⊥ = omega arith in absurd z
-top-place-lt (suc j) h l = (
-  ltb-true (topPlace (suc j)) 4 (not-false _ (any-below-false 15 wide-top none-wide-top j (omega arith))),
-  ltb-false (suc j) (2 ^ topPlace (suc j)) (any-below-false 15 steep none-steep j (omega arith)),
-)
-
 -- four chains drive what they drive without the highest bit, and that bit's word
-half-driven : (ws : List ℕ) (j : ℕ) → 0 < j → j < 16
-    → driven ws (λ i. digit i j) 4 ≡ bitXor (driven ws (λ i. digit i (j - 2 ^ topPlace j)) 4) (getD ws (topPlace j) 0)
-half-driven ws zero h l = let z : ⊥ = omega arith in absurd z
-half-driven ws (suc j) h l =
-    driven-ext ws (λ i. digit i (suc j)) (λ i. (digit i (suc j - 2 ^ topPlace (suc j)) + cond (eqb i (topPlace (suc j))) 1 0) % 2) 4
-    (λ i m. top-digit j i (omega arith) m)
-    ∙ driven-xor ws (λ i. digit i (suc j - 2 ^ topPlace (suc j))) (λ i. cond (eqb i (topPlace (suc j))) 1 0) 4
-    (λ i. mod2-lt ((suc j - 2 ^ topPlace (suc j)) / 2 ^ i)) (λ i. unit-lt (eqb i (topPlace (suc j))))
-    ∙ ap (bitXor (driven ws (λ i. digit i (suc j - 2 ^ topPlace (suc j))) 4))
-    (driven-unit ws (topPlace (suc j)) 4 (top-place-lt (suc j) h l .0))
+half-driven : (ws : List ℕ) (k j : ℕ) → k < 4 → j < 2 ^ k → j < 8
+    → driven ws (λ i. digit i (2 ^ k + j)) 4 ≡ bitXor (driven ws (λ i. digit i j) 4) (getD ws k 0)
+half-driven ws k j hk hj h8 =
+    driven-ext ws (λ i. digit i (2 ^ k + j)) (λ i. (digit i j + cond (eqb i k) 1 0) % 2) 4 (λ i m. top-digit k j i hk hj h8 m)
+    ∙ driven-xor ws (λ i. digit i j) (λ i. cond (eqb i k) 1 0) 4 (λ i. mod2-lt (j / 2 ^ i)) (λ i. unit-lt (eqb i k))
+    ∙ ap (bitXor (driven ws (λ i. digit i j) 4)) (driven-unit ws k 4 hk)
   where
     unit-lt : (b : Bool) → cond {A = ℕ} b 1 0 < 2
     unit-lt true = omega arith
@@ -128,18 +80,18 @@ module _ (ws : List ℕ) where
   unfolding halfByte driven
   half-byte-none e h = rw h
 
-  half-byte-next : (e : ℕ) → (e % 16 ≡ 0 → ⊥)
-      → halfByte ws e ≡ bitXor (halfByte ws (e - 2 ^ topPlace (e % 16))) (getD ws (4 * (e / 16) + topPlace (e % 16)) 0)
+  -- entry e + h + j of the group of entries from e on, for j below h = 2 ^ k: entry e + j and the word of the group's chain k
+  half-byte-next : (e k h j : ℕ) → k < 4 → h ≡ 2 ^ k → h ≤ 8 → j < h → e % 16 ≡ 0
+      → halfByte ws (e + h + j) ≡ bitXor (halfByte ws (e + j)) (getD ws (e / 4 + k) 0)
   unfolding halfByte
-  half-byte-next e h =
-      let positive : 0 < e % 16 = omega arith in
-      let below : e % 16 < 16 = omega arith in
-      let step : 2 ^ topPlace (e % 16) ≤ e % 16 = top-place-lt (e % 16) positive below .1 in
-      let group : (e - 2 ^ topPlace (e % 16)) / 16 ≡ e / 16 = omega arith in
-      let half : (e - 2 ^ topPlace (e % 16)) % 16 ≡ e % 16 - 2 ^ topPlace (e % 16) = omega arith in
-      half-driven (drop (4 * (e / 16)) ws) (e % 16) positive below
-      ∙ ap₂ bitXor (ap₂ (λ (g j : ℕ). driven (drop (4 * g) ws) (λ i. digit i j) 4) (sym group) (sym half))
-      (getD-drop (4 * (e / 16)) ws (topPlace (e % 16)) 0)
+  half-byte-next e k h j hk hh h8 hj h0 =
+      let group : 4 * ((e + h + j) / 16) ≡ e / 4 = omega arith in
+      let half : (e + h + j) % 16 ≡ 2 ^ k + j = omega arith in
+      let group′ : e / 4 ≡ 4 * ((e + j) / 16) = omega arith in
+      let half′ : j ≡ (e + j) % 16 = omega arith in
+      ap₂ (λ (g x : ℕ). driven (drop g ws) (λ i. digit i x) 4) group half
+      ∙ half-driven (drop (e / 4) ws) k j hk (omega arith) (omega arith)
+      ∙ ap₂ bitXor (ap₂ (λ (g x : ℕ). driven (drop g ws) (λ i. digit i x) 4) group′ half′) (getD-drop (e / 4) ws k 0)
 
   -- the chains of a group that isn't there drive nothing
   half-byte-past : (e : ℕ) → length ws ≤ 4 * (e / 16) → halfByte ws e ≡ 0
@@ -172,55 +124,84 @@ module _ (ws : List ℕ) where
           dite (decLt i 1024) (λ (l : i < 1024). getD-replicate 1024 i 0 0 l)
           (λ (l : i < 1024 → ⊥). List·getD-eq-default (replicate 1024 0) 0 {n = i} (omega (arith, length-replicate {A = ℕ} 1024 0)))
 
-  entry-right : (table : List ℕ) (e : ℕ) → ((i : ℕ) → i < e → getD table i 0 ≡ halfByte ws i) → halfByteFrom table ws e ≡ halfByte ws e
-  unfolding halfByteFrom
-  entry-right table e h = dite (ℕ-discrete (e % 16) 0) first next
-    where
-      first : e % 16 ≡ 0 → _≡_ {A = ℕ} (cond (eqb (e % 16) 0) 0 (bitXor (getD table (e - 2 ^ topPlace (e % 16)) 0) (getD ws (4 * (e / 16) + topPlace (e % 16)) 0))) (halfByte ws e)
-      first z = rw (eq-eqb (e % 16) 0 z) (sym (half-byte-none e z))
-
-      next : (e % 16 ≡ 0 → ⊥) → _≡_ {A = ℕ} (cond (eqb (e % 16) 0) 0 (bitXor (getD table (e - 2 ^ topPlace (e % 16)) 0) (getD ws (4 * (e / 16) + topPlace (e % 16)) 0))) (halfByte ws e)
-      next z =
-          let before : e - 2 ^ topPlace (e % 16) < e = omega (arith, pow-pos (topPlace (e % 16))) in
-          rw (ne-eqb (e % 16) 0 z)
-          (ap (λ (x : ℕ). bitXor x (getD ws (4 * (e / 16) + topPlace (e % 16)) 0)) (h (e - 2 ^ topPlace (e % 16)) before)
-          ∙ sym (half-byte-next e z))
-
-  pub made-turns : (table : List ℕ) (e w : ℕ) → Made table e → e < 1024 → w ≡ halfByteFrom table ws e → Made (set table e w) (e + 1)
+  -- the first entry of a group is 0
+  pub made-first : (table : List ℕ) (e : ℕ) → e % 16 ≡ 0 → Made table e → Made table (e + 1)
   unfolding Made
-  made-turns table e w k h ew = (
-    length-set table e w ∙ k .0,
-    (λ i l. dite (ℕ-discrete i e) (λ (z : i ≡ e). ap (λ (x : ℕ). getD (set table e w) x 0) z ∙ getD-set-same table e w 0 (omega (arith, k .0)) ∙ ew ∙ entry-right table e (k .1) ∙ ap (halfByte ws) (sym z)) (λ (z : i ≡ e → ⊥). getD-set-other table e i w 0 z ∙ k .1 i (omega arith))),
-    (λ i l. getD-set-other table e i w 0 (λ (z : i ≡ e). omega arith) ∙ k .2 i (omega arith)),
+  made-first table e h k = (
+    k .0,
+    (λ i l.
+        dite (decLt i e) (k .1 i)
+        (λ (z : i < e → ⊥). let here : i ≡ e = omega arith in k .2 i (omega arith) ∙ sym (ap (halfByte ws) here ∙ half-byte-none e h))),
+    (λ i l. k .2 i (omega arith)),
   )
+
+  -- as many entries more as the group has
+  made-doubles : (table made : List ℕ) (e k h c : ℕ) → k < 4 → h ≡ 2 ^ k → h ≤ 8 → e % 16 ≡ 0 → c ≡ e / 4 + k → Made table (e + h)
+      → Doubled table made e h h (getD ws c 0) → Made made (e + h + h)
+  unfolding Made
+  made-doubles table made e k h c hk hh h8 h0 hc m d = (
+    d .long ∙ m .0,
+    (λ i l. dite (decLt i (e + h)) (λ (z : i < e + h). d .below i z ∙ m .1 i z) (λ (z : i < e + h → ⊥). new i (omega arith) l)),
+    (λ i l. d .above i l ∙ m .2 i (omega arith)),
+  )
+    where
+      new : (i : ℕ) → e + h ≤ i → i < e + h + h → getD made i 0 ≡ halfByte ws i
+      new i a b =
+          let from : i - h ≡ e + (i - (e + h)) = omega arith in
+          let here : e + h + (i - (e + h)) ≡ i = omega arith in
+          d .new i a b ∙ ap₂ bitXor (m .1 (i - h) (omega arith) ∙ ap (halfByte ws) from) (ap (λ (x : ℕ). getD ws x 0) hc)
+          ∙ sym (half-byte-next e k h (i - (e + h)) hk hh h8 (omega arith) h0) ∙ ap (halfByte ws) here
+
+  -- the sixteen entries of a group
+  pub made-group : (t t1 t2 t3 t4 : List ℕ) (e : ℕ) → e % 16 ≡ 0 → Made t e → Doubled t t1 e 1 1 (getD ws (e / 4) 0)
+      → Doubled t1 t2 e 2 2 (getD ws (e / 4 + 1) 0) → Doubled t2 t3 e 4 4 (getD ws (e / 4 + 2) 0)
+      → Doubled t3 t4 e 8 8 (getD ws (e / 4 + 3) 0) → Made t4 (e + 16)
+  made-group t t1 t2 t3 t4 e h m d1 d2 d3 d4 =
+      let m1 = made-doubles t t1 e 0 1 (e / 4) (omega arith) refl (omega arith) h (omega arith) (made-first t e h m) d1 in
+      let m2 = made-doubles t1 t2 e 1 2 (e / 4 + 1) (omega arith) refl (omega arith) h refl (to t1 _ _ (omega arith) m1) d2 in
+      let m3 = made-doubles t2 t3 e 2 4 (e / 4 + 2) (omega arith) refl (omega arith) h refl (to t2 _ _ (omega arith) m2) d3 in
+      let m4 = made-doubles t3 t4 e 3 8 (e / 4 + 3) (omega arith) refl (omega arith) h refl (to t3 _ _ (omega arith) m3) d4 in
+      to t4 _ _ (omega arith) m4
+    where
+      to : (l : List ℕ) (a b : ℕ) → a ≡ b → Made l a → Made l b
+      to l a b e k = subst (Made l) e k
 
   pub made-ends : (table : List ℕ) (e : ℕ) → Made table e → e ≡ tableEnd (length ws) → (i : ℕ) → i < 1024 → getD table i 0 ≡ halfByte ws i
   unfolding Made
   made-ends table e k h i l =
       dite (decLt i e) (k .1 i) (λ (z : i < e → ⊥). k .2 i (omega arith) ∙ sym (half-byte-past i (omega arith)))
 
--- ---- the code that makes an entry
+-- ---- the loop that doubles the entries of a group
 
-module _ (e : ℕ) (h : e % 16 ≡ 0 → ⊥) (top : ℕ) (et : top ≡ topPlace (e % 16)) where
-  pub entry-top : (top < 4) × (2 ^ top ≤ e)
-  entry-top =
-      let bounds : (topPlace (e % 16) < 4) × (2 ^ topPlace (e % 16) ≤ e % 16) = top-place-lt (e % 16) (omega arith) (omega arith) in
-      (omega arith, omega (arith, ap (λ (x : ℕ). 2 ^ x) et))
+module _ (l₀ : List ℕ) (e h w : ℕ) where
+  pub doubled-starts : Doubled l₀ l₀ e h 0 w
+  doubled-starts =
+      record {
+        long = refl;
+        below = λ i l. refl;
+        new = λ i a b. let z : ⊥ = omega arith in absurd z;
+        above = λ i l. refl;
+      }
 
-  pub entry-shift : (1 * 2 ^ top) % 2 ^ 64 ≡ 2 ^ top
-  entry-shift = shl-exact {a = 1} 1 top 64 (omega arith) (omega (arith, entry-top .0)) ∙ one-mul (2 ^ top)
+  pub doubled-turns : (l : List ℕ) (j : ℕ) → j < h → e + h + h ≤ length l₀ → Doubled l₀ l e h j w
+      → Doubled l₀ (set l (e + h + j) (bitXor (getD l (e + j) 0) w)) e h (j + 1) w
+  doubled-turns l j hj room d =
+      record {
+        long = length-set l (e + h + j) _ ∙ d .long;
+        below = λ i m. getD-set-other l (e + h + j) i _ 0 (λ (z : i ≡ e + h + j). omega arith) ∙ d .below i m;
+        new = λ i a b. dite (ℕ-discrete i (e + h + j)) (here i) (λ (z : i ≡ e + h + j → ⊥). getD-set-other l (e + h + j) i _ 0 z ∙ d .new i a (omega arith));
+        above = λ i m. getD-set-other l (e + h + j) i _ 0 (λ (z : i ≡ e + h + j). omega arith) ∙ d .above i (omega arith);
+      }
+    where
+      here : (i : ℕ) → i ≡ e + h + j → getD (set l (e + h + j) (bitXor (getD l (e + j) 0) w)) i 0 ≡ bitXor (getD l₀ (i - h) 0) w
+      here i z =
+          let from : e + j ≡ i - h = omega arith in
+          ap (λ (x : ℕ). getD (set l (e + h + j) (bitXor (getD l (e + j) 0) w)) x 0) z
+          ∙ getD-set-same l (e + h + j) _ 0 (omega (arith, d .long))
+          ∙ ap (λ (x : ℕ). bitXor x w) (d .below (e + j) (omega arith) ∙ ap (λ (x : ℕ). getD l₀ x 0) from)
 
-  pub entry-next : (table ws : List ℕ) (step a b : ℕ) → step ≡ (1 * 2 ^ top) % 2 ^ 64 → a ≡ getD table (e - step) 0
-      → b ≡ getD ws (4 * (e / 16) + top) 0 → bitXor a b ≡ halfByteFrom table ws e
-  unfolding halfByteFrom
-  entry-next table ws step a b es ea eb =
-      rw (ne-eqb (e % 16) 0 h)
-      (ap₂ bitXor (ea ∙ ap (λ (x : ℕ). getD table (e - x) 0) (es ∙ entry-shift ∙ ap (λ (x : ℕ). 2 ^ x) et))
-      (eb ∙ ap (λ (x : ℕ). getD ws (4 * (e / 16) + x) 0) et))
-
-pub entry-first : (table ws : List ℕ) (e : ℕ) → e % 16 ≡ 0 → 0 ≡ halfByteFrom table ws e
-unfolding halfByteFrom
-entry-first table ws e h = rw (eq-eqb (e % 16) 0 h)
+  pub doubled-ends : (l : List ℕ) (j v : ℕ) → j ≡ h → w ≡ v → Doubled l₀ l e h j w → Doubled l₀ l e h h v
+  doubled-ends l j v ej ev d = subst (λ (x : ℕ). Doubled l₀ l e h h x) ev (subst (λ (x : ℕ). Doubled l₀ l e h x w) ej d)
 
 -- ---- the entries of a row's half bytes
 
@@ -228,12 +209,35 @@ pub looked-none : (table row : List ℕ) → lookedUp table row 0 ≡ 0
 unfolding lookedUp
 looked-none table row = refl
 
-pub looked-turn : (table row : List ℕ) (i b w : ℕ) → w ≡ lookedUp table row i → b ≡ getD row i 0
-    → bitXor (bitXor w (getD table (32 * i + b % 16) 0)) (getD table (32 * i + 16 + b / 16) 0) ≡ lookedUp table row (i + 1)
+-- one byte more
+looked-next : (table row : List ℕ) (i : ℕ) → bitXor (lookedUp table row i) (lookedByte table row i) ≡ lookedUp table row (i + 1)
 unfolding lookedUp
-looked-turn table row i b w ew eb =
-    ap₂ (λ (x y : ℕ). bitXor (bitXor x (getD table (32 * i + y % 16) 0)) (getD table (32 * i + 16 + y / 16) 0)) ew eb
-    ∙ ap (lookedUp table row) (sym (add-one i))
+looked-next table row i = sym (xor-assoc (lookedUp table row i) _ _) ∙ ap (lookedUp table row) (sym (add-one i))
+
+-- .. behind what was looked up from some byte on, here a drive d that makes the XOR of the first bytes w that of the first i
+pub looked-turn : (table row : List ℕ) (i w d b : ℕ) → bitXor w d ≡ lookedUp table row i → b ≡ lookedByte table row i
+    → bitXor w (bitXor d b) ≡ lookedUp table row (i + 1)
+looked-turn table row i w d b ed eb = sym (xor-assoc w d b) ∙ ap₂ bitXor ed eb ∙ looked-next table row i
+
+pub looked-eight : (table row : List ℕ) (i b0 b1 b2 b3 b4 b5 b6 b7 : ℕ) → b0 ≡ lookedByte table row i
+    → b1 ≡ lookedByte table row (i + 1) → b2 ≡ lookedByte table row (i + 2)
+    → b3 ≡ lookedByte table row (i + 3) → b4 ≡ lookedByte table row (i + 4)
+    → b5 ≡ lookedByte table row (i + 5) → b6 ≡ lookedByte table row (i + 6)
+    → b7 ≡ lookedByte table row (i + 7)
+    → bitXor (lookedUp table row i) (bitXor (bitXor (bitXor (bitXor (bitXor (bitXor (bitXor b0 b1) b2) b3) b4) b5) b6) b7) ≡ lookedUp table row (i + 8)
+looked-eight table row i b0 b1 b2 b3 b4 b5 b6 b7 e0 e1 e2 e3 e4 e5 e6 e7 =
+    let t1 = ap (bitXor (lookedUp table row i)) e0 ∙ looked-next table row i in
+    let t2 = on (i + 1) (i + 2) _ _ t1 e1 (omega arith) in
+    let t3 = on (i + 2) (i + 3) _ _ t2 e2 (omega arith) in
+    let t4 = on (i + 3) (i + 4) _ _ t3 e3 (omega arith) in
+    let t5 = on (i + 4) (i + 5) _ _ t4 e4 (omega arith) in
+    let t6 = on (i + 5) (i + 6) _ _ t5 e5 (omega arith) in
+    let t7 = on (i + 6) (i + 7) _ _ t6 e6 (omega arith) in
+    on (i + 7) (i + 8) _ _ t7 e7 (omega arith)
+  where
+    on : (k n d b : ℕ) → bitXor (lookedUp table row i) d ≡ lookedUp table row k → b ≡ lookedByte table row k → k + 1 ≡ n
+        → bitXor (lookedUp table row i) (bitXor d b) ≡ lookedUp table row n
+    on k n d b ed eb en = looked-turn table row k (lookedUp table row i) d b ed eb ∙ ap (lookedUp table row) en
 
 module _ (ws table row : List ℕ) (right : HalfBytes ws table) (byte : (i : ℕ) → getD row i 0 < 256) where
   low-half : (i : ℕ) → i < 32 → getD table (32 * i + getD row i 0 % 16) 0 ≡ driven (drop (8 * i) ws) (λ k. cell row (8 * i + k)) 4

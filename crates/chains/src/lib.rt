@@ -2,13 +2,14 @@
 // words, numbers and rows; it knows no register. Every function is total.
 ghost use mathlib.Core.Path.{_≡_};
 ghost use mathlib.Core.Bool.{_||_};
-ghost use Prim.Native.Nat.{min};
+ghost use Prim.Native.Nat.{min, _+_, _≤_, _<_};
+ghost use lib.Bits.{bitXor};
 ghost use lib.Dec.{eqb};
-ghost use lib.ListN.{length, replicate};
+ghost use lib.ListN.{length, getD, replicate};
 ghost use Rattle.word.specs.Word.{beyond};
 ghost use Rattle.rows.specs.Row.{cell};
 ghost use Rattle.chains.specs.Driven.{chosen, driven, badSpread};
-ghost use Rattle.chains.specs.Table.{HalfBytes, topPlace, halfByteFrom, tableEnd, lookedUp};
+ghost use Rattle.chains.specs.Table.{HalfBytes, Doubled, tableEnd, lookedByte, lookedUp};
 
 // Whether a spread word is zero or has a bit at or above m.
 pub fn is_bad_spread_word(m: u64, w: u64) -> bool
@@ -17,18 +18,21 @@ pub fn is_bad_spread_word(m: u64, w: u64) -> bool
     (w == 0) | word::is_beyond(m, w)
 }
 
-// Number 6: whether one of the spread words is zero or has a bit at or above m.
+// Number 6: whether one of the spread words is zero or has a bit at or above m. The words are looked at together: one has a bit there
+// exactly when the OR of all has.
 pub fn is_bad_spread(m: u64, spread: &[u64]) -> bool
     ensures { λ r. ⌜ r ≡ badSpread m (now (spread .entry)) ⌝ }
 {
+    let mut seen = 0u64;
+    let mut none = false;
     let mut c = 0;
     while c < spread.len() {
-        if is_bad_spread_word(m, spread[c]) {
-            return true;
-        }
+        let w = spread[c];
+        seen = seen | w;
+        none = none | (w == 0);
         c += 1;
     }
-    false
+    none | word::is_beyond(m, seen)
 }
 
 // The word w where the digit is 1, and 0 where it is 0.
@@ -38,15 +42,17 @@ pub fn chosen_word(digit: u64, w: u64) -> u64
     if digit == 0 { 0 } else { w }
 }
 
-// The XOR of the spread words of the chains whose cell in the row is 1. It meets no number: a cell past the row's end is 0.
+// The XOR of the spread words of the chains whose cell in the row is 1, by words of 64 cells. It meets no number: a cell past the
+// row's end is 0.
 pub fn driven_word(spread: &[u64], row: &[u8]) -> u64
     ensures { λ r. ⌜ r ≡ driven (now (spread .entry)) (cell (now (row .entry))) (length (now (spread .entry))) ⌝ }
 {
     let mut drive = 0u64;
-    let mut c = 0;
-    while c < spread.len() {
-        drive = drive ^ rows::cell_at(row, c) * spread[c];
-        c += 1;
+    let mut i = 0;
+    while 64 * i < spread.len() {
+        let marks = numbers::read_word(row, 8 * i);
+        drive = drive ^ word::xor_marked(&spread[64 * i..], marks);
+        i += 1;
     }
     drive
 }
@@ -64,29 +70,17 @@ fn no_entries() -> [u64; 1024]
     [0u64; 1024]
 }
 
-// The place of the highest bit of a half byte; 0 for 0.
-fn top_place(half: usize) -> usize
-    ensures { λ r. ⌜ r ≡ topPlace half ⌝ }
+// Entries e + h to e + 2 h - 1 of a table from the h entries from e on: each of these with the spread word of chain c XORed in.
+fn double_entries(table: &mut [u64], e: usize, h: usize, spread: &[u64], c: usize)
+    requires { ⌜ e + h + h ≤ length (now table) ⌝ }
+    ensures { λ _. ⌜ Doubled (now (table .entry)) (now (table .exit)) e h h (getD (now (spread .entry)) c 0) ⌝ }
 {
-    if half < 2 {
-        return 0;
+    let w = word::word_at(spread, c);
+    let mut j = 0;
+    while j < h {
+        table[e + h + j] = table[e + j] ^ w;
+        j += 1;
     }
-    if half < 4 {
-        return 1;
-    }
-    if half < 8 { 2 } else { 3 }
-}
-
-// Entry e of the table of half bytes, where the entries before it stand.
-fn table_entry(table: &[u64], spread: &[u64], e: usize) -> u64
-    ensures { λ r. ⌜ r ≡ halfByteFrom (now (table .entry)) (now (spread .entry)) e ⌝ }
-{
-    let half = e % 16;
-    if half == 0 {
-        return 0;
-    }
-    let top = top_place(half);
-    word::word_at(table, e - (1usize << top)) ^ word::word_at(spread, 4 * (e / 16) + top)
 }
 
 // How many entries of the table of half bytes can differ from 0, for n chains.
@@ -105,11 +99,52 @@ pub fn half_bytes(spread: &[u64]) -> [u64; 1024]
     let end = table_end(spread.len());
     let mut e = 0;
     while e < end {
-        let word = table_entry(&table[..], spread, e);
-        table[e] = word;
-        e += 1;
+        let c = e / 4;
+        double_entries(&mut table[..], e, 1, spread, c);
+        double_entries(&mut table[..], e, 2, spread, c + 1);
+        double_entries(&mut table[..], e, 4, spread, c + 2);
+        double_entries(&mut table[..], e, 8, spread, c + 3);
+        e += 16;
     }
     table
+}
+
+// The XOR of the table's entries for the two half bytes of byte i of a row.
+fn looked_byte(table: &[u64; 1024], row: &[u8], i: usize) -> u64
+    requires { ⌜ (i < length (now row)) × (i < 32) ⌝ }
+    ensures { λ r. ⌜ r ≡ lookedByte (now (table .entry)) (now (row .entry)) i ⌝ }
+{
+    let v = numbers::wide(row[i]) as usize;
+    table[32 * i + v % 16] ^ table[32 * i + 16 + v / 16]
+}
+
+// The XOR of the table's entries for the half bytes of the eight bytes of a row from byte i on.
+fn looked_eight(table: &[u64; 1024], row: &[u8], i: usize) -> u64
+    requires { ⌜ (i + 8 ≤ length (now row)) × (i + 8 ≤ 32) ⌝ }
+    ensures { λ r. ⌜ bitXor (lookedUp (now (table .entry)) (now (row .entry)) i) r ≡ lookedUp (now (table .entry)) (now (row .entry)) (i + 8) ⌝ }
+{
+    looked_byte(table, row, i)
+        ^ looked_byte(table, row, i + 1)
+        ^ looked_byte(table, row, i + 2)
+        ^ looked_byte(table, row, i + 3)
+        ^ looked_byte(table, row, i + 4)
+        ^ looked_byte(table, row, i + 5)
+        ^ looked_byte(table, row, i + 6)
+        ^ looked_byte(table, row, i + 7)
+}
+
+// The XOR of the table's entries for the half bytes of the bytes of a row from byte `from` on and before byte `count`.
+fn looked_rest(table: &[u64; 1024], row: &[u8], from: usize, count: usize) -> u64
+    requires { ⌜ (from ≤ count) × (count ≤ length (now row)) × (count ≤ 32) ⌝ }
+    ensures { λ r. ⌜ bitXor (lookedUp (now (table .entry)) (now (row .entry)) from) r ≡ lookedUp (now (table .entry)) (now (row .entry)) count ⌝ }
+{
+    let mut drive = 0u64;
+    let mut i = from;
+    while i < count {
+        drive = drive ^ looked_byte(table, row, i);
+        i += 1;
+    }
+    drive
 }
 
 // The XOR of the table's entries for the half bytes of a row of 32 bytes at most.
@@ -119,10 +154,9 @@ pub fn looked_up(table: &[u64; 1024], row: &[u8]) -> u64
     let count = numbers::moved(0, row.len(), 32);
     let mut drive = 0u64;
     let mut i = 0;
-    while i < count {
-        let b = numbers::wide(row[i]) as usize;
-        drive = drive ^ table[32 * i + b % 16] ^ table[32 * i + 16 + b / 16];
-        i += 1;
+    while i + 8 <= count {
+        drive = drive ^ looked_eight(table, row, i);
+        i += 8;
     }
-    drive
+    drive ^ looked_rest(table, row, i, count)
 }

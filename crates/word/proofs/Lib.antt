@@ -6,6 +6,8 @@ pub mod ParityLaws
 pub mod WordLaws
 pub mod SpanLaws
 pub mod XorLaws
+pub mod LowestLaws
+pub mod MarkedLaws
 pub mod FrontLaws
 pub mod ReplyLaws
 pub mod TestLaws

@@ -5,3 +5,4 @@ pub mod Worked
 pub mod Span
 pub mod Parities
 pub mod Zeros
+pub mod Marked

@@ -5,6 +5,7 @@ ghost use lib.ListN.{length, take, getD};
 ghost use Rattle.word.specs.Word.{lowMask, beyond, parity, highestBit, badWidth};
 ghost use Rattle.word.specs.Parities.{parities};
 ghost use Rattle.word.specs.Zeros.{zeros};
+ghost use Rattle.word.specs.Marked.{xorMarked};
 
 // The word with bits 0 to m - 1 set; all 64 bits from m = 64 on.
 pub fn low_mask(m: u64) -> u64
@@ -84,4 +85,18 @@ pub fn clear_words(words: &mut [u64])
         words[i] = 0;
         i += 1;
     }
+}
+
+// The XOR of the words whose bit in `marks` is 1, bit i for word i. It goes from one such bit to the next.
+pub fn xor_marked(words: &[u64], marks: u64) -> u64
+    ensures { λ r. ⌜ r ≡ xorMarked (now (words .entry)) marks ⌝ }
+{
+    let mut left = marks & low_mask(words.len() as u64);
+    let mut sum: u64 = 0;
+    while left != 0 {
+        let low = u64::trailing_zeros(left) as usize;
+        sum = sum ^ words[low];
+        left = left & (left - 1);
+    }
+    sum
 }

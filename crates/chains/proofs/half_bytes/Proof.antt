@@ -1,15 +1,15 @@
--- `half_bytes` meets its contract. The loop's invariant: the entries below `e` are right, and the others are 0.
+-- `half_bytes` meets its contract. The loop's invariant: the entries of the groups before `e` are right, and the others are 0.
 use mathlib.Core.Path.{_≡_}
-use Prim.Native.Nat.{_-_, _≤_}
+use Prim.Native.Nat.{_-_, _%_, _≤_}
 use native.Mathlib.Omega.{arith}
 use lib.ListN.{length}
-use Rattle.chains.proofs.TableLaws.{Made, made-length, made-starts, made-turns, made-ends}
 use borrow.Author.Needs.{needs}
+use Rattle.chains.proofs.TableLaws.{Made, made-length, made-starts, made-group, made-ends}
 use Rattle.chains.proofs.half_bytes.Statement.{statement}
 use Rattle.chains.proofs.half_bytes.Tie as tie
 
 abbrev Inv-loop : tie.InvT-loop
-Inv-loop spread table₀ end e₀ table e = (e ≤ end) × (length table ≡ 1024) × Made spread table e
+Inv-loop spread table₀ end e₀ table e = (e ≤ end) × (e % 16 ≡ 0) × (length table ≡ 1024) × Made spread table e
 
 abbrev μ-loop : tie.MeasureT-loop
 μ-loop spread table₀ end e₀ table e = end - e
@@ -22,19 +22,41 @@ table-end-requires c κs = search needs
 
 loop-holds : tie.Need-loop-holds Inv-loop μ-loop
 loop-holds c =
-    let k = made-starts (c .before .before .before .args .spread .now) _ (c .before .no-entries .ensures) in (search needs, made-length _ _ _ k, k)
+    let k = made-starts (c .before .before .before .args .spread .now) _ (c .before .no-entries .ensures) in
+    (search needs, omega arith, made-length _ _ _ k, k)
 
-slice-aggregate-table-entry : tie.Need-slice-aggregate-table-entry Inv-loop μ-loop
-slice-aggregate-table-entry c = search needs
+slice-aggregate-double-entries : tie.Need-slice-aggregate-double-entries Inv-loop μ-loop
+slice-aggregate-double-entries c = search needs
 
-table-entry-requires : tie.Need-table-entry-requires Inv-loop μ-loop
-table-entry-requires c κs = search needs
+double-entries-requires : tie.Need-double-entries-requires Inv-loop μ-loop
+double-entries-requires c κs = search needs
 
-mul-table : tie.Need-mul-table Inv-loop μ-loop
-mul-table c = search needs
+slice-aggregate-double-entries-2 : tie.Need-slice-aggregate-double-entries-2 Inv-loop μ-loop
+slice-aggregate-double-entries-2 c = search needs
 
-array-write-table : tie.Need-array-write-table Inv-loop μ-loop
-array-write-table c = search needs
+add-double-entries : tie.Need-add-double-entries Inv-loop μ-loop
+add-double-entries c = search needs
+
+double-entries-requires-2 : tie.Need-double-entries-requires-2 Inv-loop μ-loop
+double-entries-requires-2 c κs = search needs
+
+slice-aggregate-double-entries-3 : tie.Need-slice-aggregate-double-entries-3 Inv-loop μ-loop
+slice-aggregate-double-entries-3 c = search needs
+
+add-double-entries-2 : tie.Need-add-double-entries-2 Inv-loop μ-loop
+add-double-entries-2 c = search needs
+
+double-entries-requires-3 : tie.Need-double-entries-requires-3 Inv-loop μ-loop
+double-entries-requires-3 c κs = search needs
+
+slice-aggregate-double-entries-4 : tie.Need-slice-aggregate-double-entries-4 Inv-loop μ-loop
+slice-aggregate-double-entries-4 c = search needs
+
+add-double-entries-3 : tie.Need-add-double-entries-3 Inv-loop μ-loop
+add-double-entries-3 c = search needs
+
+double-entries-requires-4 : tie.Need-double-entries-requires-4 Inv-loop μ-loop
+double-entries-requires-4 c κs = search needs
 
 add-e : tie.Need-add-e Inv-loop μ-loop
 add-e c = search needs
@@ -44,10 +66,13 @@ loop-less c = search needs
 
 loop-again : tie.Need-loop-again Inv-loop μ-loop
 loop-again c =
-    let k = made-turns _ _ _ _ (c .before .before .before .loop .inv .2) (search needs) (c .table-entry .ensures) in (search needs, made-length _ _ _ k, k)
+    let k =
+    made-group _ _ _ _ _ _ _ (c .before .before .before .before .before .before .before .before .before .before .before .before .before .loop .inv .1) (c .before .before .before .before .before .before .before .before .before .before .before .before .before .loop .inv .3)
+    (c .before .before .before .before .before .before .before .before .before .before .double-entries .ensures) (c .before .before .before .before .before .before .before .double-entries2 .ensures) (c .before .before .before .before .double-entries3 .ensures) (c .before .double-entries4 .ensures) in
+    (search needs, omega arith, made-length _ _ _ k, k)
 
 returns : tie.Need-returns Inv-loop μ-loop
-returns c = made-ends _ _ _ (c .before .loop .inv .2) (omega arith)
+returns c = made-ends _ _ _ (c .before .loop .inv .3) (omega arith)
 
 pub half-bytes-spec : {M : Type 1} → statement M
 half-bytes-spec =
@@ -58,10 +83,17 @@ half-bytes-spec =
     no-entries-requires
     table-end-requires
     loop-holds
-    slice-aggregate-table-entry
-    table-entry-requires
-    mul-table
-    array-write-table
+    slice-aggregate-double-entries
+    double-entries-requires
+    slice-aggregate-double-entries-2
+    add-double-entries
+    double-entries-requires-2
+    slice-aggregate-double-entries-3
+    add-double-entries-2
+    double-entries-requires-3
+    slice-aggregate-double-entries-4
+    add-double-entries-3
+    double-entries-requires-4
     add-e
     loop-less
     loop-again

@@ -1,39 +1,31 @@
--- `is_bad_spread` meets its contract. The loop's invariant: the answer rests on the words from `c` on.
-use mathlib.Core.Path.{_≡_, refl}
-use mathlib.Core.Bool.{true, false}
+-- `is_bad_spread` meets its contract. The loop's invariant: what `none` and `seen` say of the words before `c`, and the words from `c` on
+-- decide it.
+use mathlib.Core.Path.{_≡_, ap, _∙_}
+use mathlib.Core.Bool.{Bool, _||_}
 use Prim.Native.Nat.{_≤_, _-_}
-use native.Mathlib.Numerals.{add-one}
-use borrow.Author.Needs.{needs}
+use native.Mathlib.Omega.{arith}
 use lib.ListN.{length, drop}
+use borrow.Author.Needs.{needs}
+use Rattle.word.specs.Word.{beyond}
 use Rattle.chains.specs.Driven.{badSpread}
-use Rattle.chains.proofs.Laws.{bad-spread-turn, bad-spread-ended}
+use Rattle.chains.proofs.Laws.{folded-starts, folded-turns, folded-ends}
 use Rattle.chains.proofs.is_bad_spread.Statement.{statement}
 use Rattle.chains.proofs.is_bad_spread.Tie as tie
 
 abbrev Inv-loop : tie.InvT-loop
-Inv-loop m spread c₀ c = (c ≤ length spread) × (badSpread m (drop c spread) ≡ badSpread m spread)
+Inv-loop m spread seen₀ none₀ c₀ seen none c = (c ≤ length spread) × (((none || beyond m seen) || badSpread m (drop c spread)) ≡ badSpread m spread)
 
 abbrev μ-loop : tie.MeasureT-loop
-μ-loop m spread c₀ c = length spread - c
+μ-loop m spread seen₀ none₀ c₀ seen none c = length spread - c
 
 loop-holds : tie.Need-loop-holds Inv-loop μ-loop
-loop-holds c = (search needs, refl)
+loop-holds c = (search needs, folded-starts _ _)
 
-mul-is-bad-spread-word : tie.Need-mul-is-bad-spread-word Inv-loop μ-loop
-mul-is-bad-spread-word c = search needs
+mul-w : tie.Need-mul-w Inv-loop μ-loop
+mul-w c = search needs
 
-shared-slice-read-is-bad-spread-word :
-    tie.Need-shared-slice-read-is-bad-spread-word Inv-loop μ-loop
-shared-slice-read-is-bad-spread-word c = search needs
-
-is-bad-spread-word-requires : tie.Need-is-bad-spread-word-requires Inv-loop μ-loop
-is-bad-spread-word-requires c κs = search needs
-
-returns : tie.Need-returns Inv-loop μ-loop
-returns c =
-    bad-spread-turn (c .before .before .before .before .before .before .args .m)
-    (c .before .before .before .before .before .before .args .spread .now)
-    (c .before .before .before .before .loop .c) true (search needs) (c .before .before .before .before .loop .inv .1) (cc)
+shared-slice-read-w : tie.Need-shared-slice-read-w Inv-loop μ-loop
+shared-slice-read-w c = search needs
 
 add-c : tie.Need-add-c Inv-loop μ-loop
 add-c c = search needs
@@ -42,18 +34,20 @@ loop-less : tie.Need-loop-less Inv-loop μ-loop
 loop-less c = search needs
 
 loop-again : tie.Need-loop-again Inv-loop μ-loop
-loop-again c = (
-  search needs,
-  rw add-one
-      (bad-spread-turn (c .before .before .before .before .before .before .args .m)
-      (c .before .before .before .before .before .before .args .spread .now)
-      (c .before .before .before .before .loop .c) false (search needs) (c .before .before .before .before .loop .inv .1) (cc)),
-)
+loop-again c =
+    let args = c .before .before .before .before .args in
+    let at = c .before .before .loop in
+    (search needs, folded-turns (args .m) (args .spread .now) (at .none) (at .seen) (at .c) (search needs) (at .inv .1))
 
-returns-2 : tie.Need-returns-2 Inv-loop μ-loop
-returns-2 c =
-    bad-spread-ended (c .before .before .before .args .m) (c .before .before .before .args .spread .now) (c .before .loop .c) (search needs)
-    (c .before .loop .inv .1)
+is-beyond-requires : tie.Need-is-beyond-requires Inv-loop μ-loop
+is-beyond-requires c κs = search needs
+
+returns : tie.Need-returns Inv-loop μ-loop
+returns c =
+    let args = c .before .before .before .before .args in
+    let at = c .before .before .loop in
+    ap (λ (b : Bool). at .none || b) (c .is-beyond .ensures)
+    ∙ folded-ends (args .m) (args .spread .now) (at .none) (at .seen) (at .c) (search needs) (at .inv .1)
 
 pub is-bad-spread-spec : {M : Type 1} → statement M
 is-bad-spread-spec =
@@ -62,11 +56,10 @@ is-bad-spread-spec =
     Inv-loop
     μ-loop
     loop-holds
-    mul-is-bad-spread-word
-    shared-slice-read-is-bad-spread-word
-    is-bad-spread-word-requires
-    returns
+    mul-w
+    shared-slice-read-w
     add-c
     loop-less
     loop-again
-    returns-2)
+    is-beyond-requires
+    returns)
