@@ -112,12 +112,12 @@ module _ (k : Circuit) where
       here : (i : ℕ) → i ≡ e → getD (set ps e w) i 0 ≡ later k i 1
       here i q = ap (λ (x : ℕ). getD (set ps e w) x 0) q ∙ getD-set-same ps e w 0 (omega (arith, p .0)) ∙ ew ∙ ap (λ (x : ℕ). later k x 1) (sym q)
 
-  pub powered-ends : (ps : List ℕ) (e : ℕ) → Powered ps e → e ≡ 576 → (i : ℕ) → i < 576 → getD ps i 0 ≡ later k i 1
+  pub powered-ends : (ps : List ℕ) (e : ℕ) → Powered ps e → (i : ℕ) → i < e → getD ps i 0 ≡ later k i 1
   unfolding Powered
-  powered-ends ps e p q i h = p .1 i (omega arith)
+  powered-ends ps e p i h = p .1 i h
 
   -- as many of them as the width, from the power j on
-  pub powers-part : (ps : List ℕ) (j : ℕ) → length ps ≡ 576 → ((i : ℕ) → i < 576 → getD ps i 0 ≡ later k i 1) → j + k .width ≤ 576
+  pub powers-part : (ps : List ℕ) (j : ℕ) → length ps ≡ 576 → ((i : ℕ) → i < j + k .width → getD ps i 0 ≡ later k i 1) → j + k .width ≤ 576
       → (length (take (k .width) (drop j ps)) ≡ k .width) × ((i : ℕ) → i < k .width → getD (take (k .width) (drop j ps)) i 0 ≡ later k (i + j) 1)
   powers-part ps j e right h = (
     length-take-le (k .width) (drop j ps) (omega (arith, length-drop j ps)),
@@ -131,25 +131,3 @@ pub later-same : (m t v : ℕ) (ws : List ℕ) (j w : ℕ) → later (circuit m 
 unfolding later
 later-same m t v ws zero w = refl
 later-same m t v ws (suc j) w = ap (advanced m t) (later-same m t v ws j w)
-
--- ---- the loop over the bits of a word
-
-module _ (ps : List ℕ) (w : ℕ) where
-  pub Summed : ℕ → ℕ → ℕ → Type 0
-  Summed i left sum = (left ≡ w / 2 ^ i) × (sum ≡ driven ps (bits w) i)
-
-  pub summed-starts : Summed 0 w 0
-  unfolding Summed
-  summed-starts = (sym (div-one w), sym (driven-none ps (bits w)))
-
-  pub summed-turns : (i left sum : ℕ) → Summed i left sum → Summed (i + 1) (left / 2) (bitXor sum (left % 2 * getD ps i 0))
-  unfolding Summed
-  summed-turns i left sum s = (
-    ap (λ (x : ℕ). x / 2) (s .0) ∙ shr-shr w i 1,
-    ap₂ bitXor (s .1) (times-chosen (left % 2) (getD ps i 0) (mod2-lt left) ∙ ap (λ (x : ℕ). chosen (x % 2) (getD ps i 0)) (s .0))
-        ∙ sym (driven-suc ps (bits w) i) ∙ ap (driven ps (bits w)) (sym (add-one i)),
-  )
-
-  pub summed-ends : (i left sum : ℕ) → Summed i left sum → i ≡ length ps → sum ≡ fromPowers ps w
-  unfolding Summed fromPowers
-  summed-ends i left sum s e = s .1 ∙ ap (driven ps (bits w)) e

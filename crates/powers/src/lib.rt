@@ -37,14 +37,16 @@ pub fn no_powers() -> [u64; 576]
     [0u64; 576]
 }
 
-// The powers of the register: the word 1 after 0 to 575 clocks, which is enough for 512 slices and a width of 64.
-pub fn powers(register: Register) -> [u64; 576]
-    ensures { λ r. ⌜ ((i : ℕ) → i < 576 → getD r i 0 ≡ later (circuit (min (register .m) 64) (register .taps) 0 []) i 1) ⌝ }
+// The powers of the register: the word 1 after 0 clocks, 1 and so on, `count` of them, and no more than 576, which is enough for 512 slices and a
+// width of 64.
+pub fn powers(register: Register, count: usize) -> [u64; 576]
+    ensures { λ r. ⌜ ((i : ℕ) → i < 576 → i < count → getD r i 0 ≡ later (circuit (min (register .m) 64) (register .taps) 0 []) i 1) ⌝ }
 {
+    let end = numbers::shorter(count, 576);
     let mut table = no_powers();
     let mut power = 1u64;
     let mut i = 0;
-    while i < 576 {
+    while i < end {
         table[i] = power;
         power = next_state(register, power);
         i += 1;
@@ -56,15 +58,7 @@ pub fn powers(register: Register) -> [u64; 576]
 pub fn from_powers(powers: &[u64], w: u64) -> u64
     ensures { λ r. ⌜ r ≡ fromPowers (now (powers .entry)) w ⌝ }
 {
-    let mut left = w;
-    let mut sum = 0u64;
-    let mut i = 0;
-    while i < powers.len() {
-        sum = sum ^ left % 2 * powers[i];
-        left = left / 2;
-        i += 1;
-    }
-    sum
+    word::xor_marked(powers, w)
 }
 
 // Puts for each word the XOR of the powers whose bit in it is 1.

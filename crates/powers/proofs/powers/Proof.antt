@@ -12,10 +12,13 @@ use Rattle.powers.proofs.powers.Statement.{statement}
 use Rattle.powers.proofs.powers.Tie as tie
 
 abbrev Inv-loop : tie.InvT-loop
-Inv-loop register table₀ power₀ i₀ table power i = (i ≤ 576) × (length table ≡ 576) × Powered (circuit (min (register .m) 64) (register .taps) 0 []) table i × (power ≡ later (circuit (min (register .m) 64) (register .taps) 0 []) i 1)
+Inv-loop register count end table₀ power₀ i₀ table power i = (end ≤ 576) × (i ≤ end) × (length table ≡ 576) × Powered (circuit (min (register .m) 64) (register .taps) 0 []) table i × (power ≡ later (circuit (min (register .m) 64) (register .taps) 0 []) i 1)
 
 abbrev μ-loop : tie.MeasureT-loop
-μ-loop register table₀ power₀ i₀ table power i = 576 - i
+μ-loop register count end table₀ power₀ i₀ table power i = end - i
+
+shorter-requires : tie.Need-shorter-requires Inv-loop μ-loop
+shorter-requires c κs = search needs
 
 no-powers-requires : tie.Need-no-powers-requires Inv-loop μ-loop
 no-powers-requires c κs = search needs
@@ -23,7 +26,7 @@ no-powers-requires c κs = search needs
 loop-holds : tie.Need-loop-holds Inv-loop μ-loop
 loop-holds c =
     let long : length (c .no-powers .result) ≡ 576 = ap length (c .no-powers .ensures) ∙ length-replicate {A = ℕ} 576 0 in
-    (search needs, long, powered-starts _ _ long, later-none _ 1)
+    (omega (arith, c .before .shorter .ensures), search needs, long, powered-starts _ _ long, later-none _ 1)
 
 mul-table : tie.Need-mul-table Inv-loop μ-loop
 mul-table c = search needs
@@ -43,10 +46,10 @@ loop-less c = search needs
 loop-again : tie.Need-loop-again Inv-loop μ-loop
 loop-again c =
     let at = c .before .before .loop in
-    (search needs, length-set (at .table) (at .i) (at .power) ∙ at .inv .1, powered-turns _ _ _ _ (at .inv .2) (search needs) (at .inv .3), c .next-state .ensures ∙ ap (advanced _ _) (at .inv .3) ∙ later-suc _ (at .i) 1)
+    (at .inv .0, search needs, length-set (at .table) (at .i) (at .power) ∙ at .inv .2, powered-turns _ _ _ _ (at .inv .3) (search needs) (at .inv .4), c .next-state .ensures ∙ ap (advanced _ _) (at .inv .4) ∙ later-suc _ (at .i) 1)
 
 returns : tie.Need-returns Inv-loop μ-loop
-returns c = powered-ends _ _ _ (c .before .loop .inv .2) (omega arith)
+returns c = λ i h k. powered-ends _ _ _ (c .before .loop .inv .3) i (omega (arith, c .before .before .before .shorter .ensures))
 
 pub powers-spec : {M : Type 1} → statement M
 powers-spec =
@@ -54,6 +57,7 @@ powers-spec =
     (tie.spec
     Inv-loop
     μ-loop
+    shorter-requires
     no-powers-requires
     loop-holds
     mul-table
