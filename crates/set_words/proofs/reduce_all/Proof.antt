@@ -83,23 +83,23 @@ reduce-all-spec =
     μ-loop
     (λ c κs. search needs)
     loop-holds
-    (λ c. search needs)
-    (λ c. search needs)
-    (λ c. search needs)
+    (λ c. c .before .before .loop .inv .3)
+    (λ c. c .before .before .loop .inv .2)
+    (λ c. c .before .before .loop .inv .1)
     returns
-    (λ c. search needs)
+    (λ c. c .before .before .before .loop .inv .0)
     slice-aggregate-is-done
     (λ c κs. search needs)
-    (λ c. search needs)
-    (λ c. search needs)
-    (λ c. search needs)
+    (λ c. c .before .before .before .before .before .before .loop .inv .3)
+    (λ c. c .before .before .before .before .before .before .loop .inv .2)
+    (λ c. c .before .before .before .before .before .before .loop .inv .1)
     returns-2
-    (λ c. search needs)
+    (λ c. c .before .before .before .before .before .before .before .before .loop .inv .0)
     slice-aggregate-add-next
     add-next-requires
     loop-less
     loop-again
-    (λ c. search needs)
-    (λ c. search needs)
-    (λ c. search needs)
+    (λ c. c .before .loop .inv .3)
+    (λ c. c .before .loop .inv .2)
+    (λ c. c .before .loop .inv .1)
     returns-3)
