@@ -1,16 +1,16 @@
 -- The marks of all rows together, and the words of marked chains that are even with some words. Assumes nothing.
-use mathlib.Core.Path.{_≡_, refl, sym, ap, ap₂, _∙_, subst}
+use mathlib.Core.Path.{_≡_, refl, sym, ap, _∙_, subst}
 use mathlib.Core.Bool.{Bool, true, false, cond, _&&_}
 use mathlib.Core.Logic.{dite}
 use mathlib.Core.List.{List, [], _∷_, _++_}
-use Prim.Native.Nat.{ℕ, zero, suc, _+_, _-_, _*_, _/_, _%_, _^_, _≤_, _<_, min, max}
-use native.Mathlib.Decide.{decLt, decLe}
+use Prim.Native.Nat.{ℕ, zero, suc, _+_, _-_, _/_, _%_, _^_, _≤_, _<_, min, max}
+use native.Mathlib.Decide.{decLt}
 use native.Mathlib.Omega.{arith}
 use borrow.Author.Tests.{leb-true}
 use lib.Dec.{leb}
 use lib.Bits.{bitOr, or-step, or-shr, or-zero-r}
 use lib.ListN.{length, getD, take, drop, set, length-append, length-set, List·getD-eq-default}
-use lib.Seq.{drop-at, take-all, length-take-le, getD-set-same, getD-set-other}
+use lib.Seq.{drop-at, length-take-le, getD-set-same, getD-set-other}
 use Rattle.word.specs.Word.{digit}
 use Rattle.word.specs.Some.{allOf}
 use Rattle.word.proofs.BoolLaws.{and-left, and-right}
@@ -25,7 +25,6 @@ use Rattle.rows.proofs.CellLaws.{cell-lt}
 use Rattle.rows.proofs.MarkLaws.{length-listed}
 use Rattle.marked_words.specs.Back.{back}
 use Rattle.marked_words.proofs.BackLaws.{back-fits}
-use Rattle.signatures.specs.Signature.{Response}
 use Rattle.closed_words.specs.Closed.{ClosedUnder, EvenFor, Unchanging}
 use Rattle.closed_words.proofs.ClosedLaws.{closed-later}
 

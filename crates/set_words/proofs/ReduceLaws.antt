@@ -24,7 +24,7 @@ use Rattle.signatures.specs.Columns.{sliceColumns, columnsBelow}
 use Rattle.signatures.proofs.ColumnLaws.{column-closed}
 use Rattle.powers.proofs.PowerLaws.{later-add}
 use Rattle.swept_columns.proofs.FillLaws.{laterWords, later-words, later-words-none, later-words-get}
-use Rattle.portions.specs.Portions.{columnsLeft, Way, swept, sparse, Ready, PortionOf}
+use Rattle.portions.specs.Portions.{columnsLeft, Way, swept, sparse, PortionOf}
 use Rattle.portions.specs.declared.Portion.{Portion}
 use Rattle.portions.proofs.PortionLaws.{left-all, way-length}
 use Rattle.set_words.specs.Reducing.{Reduced, Done}
@@ -94,7 +94,7 @@ module _ (k : Circuit) (s : ℕ) (u : Response) (m : ℕ) (ps : List ℕ) where
 -- ---- columns that change nothing
 
 -- the words h are even with the chains' words ws of the cells that are left, any number of clocks later
-module _ (k : Circuit) (s : ℕ) (u : Response) (m : ℕ) (ps : List ℕ) (t : ℕ) (ws h : List ℕ) (inside : t ≤ s) (way : Way k (s - t) ps ws)
+module _ (k : Circuit) (s : ℕ) (u : Response) (ps : List ℕ) (t : ℕ) (ws h : List ℕ) (inside : t ≤ s) (way : Way k (s - t) ps ws)
     (even : (i j c : ℕ) → j < t → c < length ws → 0 < u j c → xFree h (later k i (getD ws c 0)) ≡ true) where
   -- a chain's word of the columns that are left is one of those
   word-later : Way k (s - t) ps ws → (j c : ℕ) → j < t → 0 < u j c → c < chains k → xFree h (later k (s - 1 - j) (getD (k .spread) c 0)) ≡ true
@@ -146,7 +146,7 @@ done-settled k s u m ps t c ws l left even h so-far =
     let ready = so-far .ready in
     let all : take left l ≡ reducedList m (columnsBelow k s u s) =
     sym (whole k s u m ps t c ws (take left l) so-far
-    ∙ left-stays k s u m ps t ws (take left l) (ready .inside) (ready .way) even t c (omega arith) (so-far .few))
+    ∙ left-stays k s u ps t ws (take left l) (ready .inside) (ready .way) even t c (omega arith) (so-far .few))
     in (sym (length-take-le left l h) ∙ ap length all, all)
 
 -- ---- the start

@@ -1,5 +1,4 @@
 -- `are_even` meets its contract.
-use native.Mathlib.Omega.{arith}
 use Rattle.closed_words.proofs.MarkedLaws.{row-even}
 use borrow.Author.Needs.{needs}
 use Rattle.closed_words.proofs.are_even.Statement.{statement}

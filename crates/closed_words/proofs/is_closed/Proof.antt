@@ -2,7 +2,6 @@
 use mathlib.Core.Path.{refl}
 use mathlib.Core.Bool.{false}
 use Prim.Native.Nat.{_≤_, _-_, min}
-use native.Mathlib.Omega.{arith}
 use lib.ListN.{length}
 use Rattle.word.proofs.BoolLaws.{true-not-false}
 use Rattle.closed_words.proofs.ClosedLaws.{Closing, closing-start, closing-turn, closing-end}

@@ -1,7 +1,7 @@
 -- `reduce_all` meets its contract. The loop's invariant: the words are the reduced list of the columns that are no longer left.
-use mathlib.Core.Path.{_≡_, refl, sym, ap, _∙_}
+use mathlib.Core.Path.{_≡_, refl, sym, _∙_}
 use mathlib.Core.List.{List}
-use Prim.Native.Nat.{ℕ, _+_, _*_, _≤_, _<_}
+use Prim.Native.Nat.{ℕ, _+_, _*_, _≤_}
 use native.Mathlib.Omega.{arith}
 use lib.ListN.{length, take, drop, length-append}
 use lib.Seq.{take-length, take-append-le, length-take-le, length-front}
@@ -83,23 +83,23 @@ reduce-all-spec =
     μ-loop
     (λ c κs. search needs)
     loop-holds
-    (λ c. search needs)
-    (λ c. search needs)
-    (λ c. search needs)
+    (λ c. c .before .before .loop .inv .3)
+    (λ c. c .before .before .loop .inv .2)
+    (λ c. c .before .before .loop .inv .1)
     returns
-    (λ c. search needs)
+    (λ c. c .before .before .before .loop .inv .0)
     slice-aggregate-is-done
     (λ c κs. search needs)
-    (λ c. search needs)
-    (λ c. search needs)
-    (λ c. search needs)
+    (λ c. c .before .before .before .before .before .before .loop .inv .3)
+    (λ c. c .before .before .before .before .before .before .loop .inv .2)
+    (λ c. c .before .before .before .before .before .before .loop .inv .1)
     returns-2
-    (λ c. search needs)
+    (λ c. c .before .before .before .before .before .before .before .before .loop .inv .0)
     slice-aggregate-add-next
     add-next-requires
     loop-less
     loop-again
-    (λ c. search needs)
-    (λ c. search needs)
-    (λ c. search needs)
+    (λ c. c .before .loop .inv .3)
+    (λ c. c .before .loop .inv .2)
+    (λ c. c .before .loop .inv .1)
     returns-3)
