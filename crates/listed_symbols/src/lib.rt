@@ -139,7 +139,7 @@ pub fn set_symbols(
     let words = taken.spread;
     let spread = chains::all_words(words);
     let slices = register::slice_limit(taken.s);
-    let table = powers::powers(register);
+    let table = powers::powers(register, 576);
     let limit = symbol_flags::tie_limit(count) as usize;
     let numbers = symbol_flags::symbol_numbers(ties, count);
     set_named(

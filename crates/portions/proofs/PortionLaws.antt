@@ -74,7 +74,7 @@ module _ (k : Circuit) (j : ℕ) (ps ws : List ℕ) where
         f = fromPowers (take width (drop j ps))
 
         part : (length (take (k .width) (drop j ps)) ≡ k .width) × ((i : ℕ) → i < k .width → getD (take (k .width) (drop j ps)) i 0 ≡ later k (i + j) 1)
-        part = powers-part k ps j many right room
+        part = powers-part k ps j many (λ i l. right i (omega arith)) room
 
         through : (i : ℕ) → i ≤ c → map f (markedWords (take c ws) x i) ≡ markedWords (laterWords k j (k .spread)) x i
         through i l =

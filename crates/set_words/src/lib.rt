@@ -250,7 +250,7 @@ fn reduce_marked(
             held,
         );
     }
-    let powers = powers::powers(register);
+    let powers = powers::powers(register, 576);
     reduce_all(
         source,
         list,

@@ -161,8 +161,8 @@ module _ (k : Circuit) (s : ℕ) (u : Response) where
   sparse-ends l₀ l place t f e = filled-ends k s u l₀ l (laterWords k (s - t) (k .spread)) place t f e
 
 -- the table has the powers of a register of width m and tap word taps
-abbrev pub PowersIn : ℕ → ℕ → List ℕ → Type 0
-PowersIn m taps table = (i : ℕ) → i < 576 → getD table i 0 ≡ later (circuit m taps 0 []) i 1
+abbrev pub PowersIn : ℕ → ℕ → ℕ → List ℕ → Type 0
+PowersIn m taps s table = (i : ℕ) → i < s + m → getD table i 0 ≡ later (circuit m taps 0 []) i 1
 
 -- the spread words of a taken set, with the limits on width and chains
 pub good-limited : (m n width chains : ℕ) (spread words : List ℕ) → width ≡ min m 64 → chains ≡ min n 256 → (words ≡ spread) × (length words ≡ 256)
@@ -170,9 +170,9 @@ pub good-limited : (m n width chains : ℕ) (spread words : List ℕ) → width 
 good-limited m n width chains spread words ew ec e =
     ap₂ badSpread ew (take-limit words n chains (ec ∙ ap (min n) (sym (e .1))) ∙ ap (take n) (e .0))
 
--- a turn with the powers that stand in a table of 576 words
+-- a turn with the powers that stand in a table of 576 words, as many as slices and width ask for
 module _ (m taps inversion : ℕ) (ws : List ℕ) (s : ℕ) (u : Response) (table : List ℕ) (many : length table ≡ 576)
-    (right : (i : ℕ) → i < 576 → getD table i 0 ≡ later (circuit m taps 0 []) i 1) (good : badSpread m ws ≡ false) where
+    (right : PowersIn m taps s table) (good : badSpread m ws ≡ false) where
   pub sparse-steps : (l₀ l l₁ vs l₂ row : List ℕ) (place start t width : ℕ) → m ≤ 64 → s ≤ 512 → 0 < t → width ≡ m
       → Sparse (circuit m taps inversion ws) s u l₀ l place t → cell row ≡ u (t - 1)
       → start ≡ length (take place l) - length (markedWords ws (cell row) (length ws))
@@ -185,7 +185,7 @@ module _ (m taps inversion : ℕ) (ws : List ℕ) (s : ℕ) (u : Response) (tabl
       (e₂ ∙ sym (append-assoc (take start l₁) vs (drop (place - start) (drop start l₁))) ∙ ap (λ (x : List ℕ). take start l₁ ++ vs ++ x) after)
     where
       part : (length (take m (drop (s - t) table)) ≡ m) × ((i : ℕ) → i < m → getD (take m (drop (s - t) table)) i 0 ≡ later (circuit m taps inversion ws) (i + (s - t)) 1)
-      part = powers-part (circuit m taps inversion ws) table (s - t) many (λ i l. right i l ∙ later-same m taps inversion ws i 1) (omega arith)
+      part = powers-part (circuit m taps inversion ws) table (s - t) many (λ i l. right i (omega arith) ∙ later-same m taps inversion ws i 1) (omega arith)
 
       after : drop (place - start) (drop start l₁) ≡ drop place l₁
       after =

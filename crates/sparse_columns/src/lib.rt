@@ -24,7 +24,7 @@ fn fill_sparse(taken: Taken, list: &[u8], marks: Rows, columns: &mut [u64])
     let words = taken.spread;
     let spread = chains::all_words(words);
     let slices = register::slice_limit(taken.s);
-    let table = powers::powers(register);
+    let table = powers::powers(register, slices as usize + width);
     let mut place = columns.len();
     let mut t = marked_rows::marked_end(list, marks, slices);
     while 0 < t {

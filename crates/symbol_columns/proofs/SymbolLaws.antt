@@ -63,7 +63,7 @@ module _ (k : Circuit) (s : ℕ) (ps ws : List ℕ) (m : ℕ) (p : Powered k s p
 
       powered : (length (take (k .width) (drop (s - 1 - t) ps)) ≡ k .width)
           × ((i : ℕ) → i < k .width → getD (take (k .width) (drop (s - 1 - t) ps)) i 0 ≡ later k (i + (s - 1 - t)) 1)
-      powered = powers-part k ps (s - 1 - t) (p .long) (p .powers) (omega (arith, p .narrow, p .slices))
+      powered = powers-part k ps (s - 1 - t) (p .long) (λ i l. p .powers i (omega (arith, p .narrow, p .slices))) (omega (arith, p .narrow, p .slices))
 
   -- an entry's cell
   module _ (e : Ties) (inside : Within s (length ws) e) where

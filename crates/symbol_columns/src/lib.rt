@@ -179,7 +179,7 @@ pub fn fill_symbols(taken: Taken, ties: &[u8], count: u16, flags: &[u64], places
     let words = taken.spread;
     let spread = chains::all_words(words);
     let slices = register::slice_limit(taken.s);
-    let table = powers::powers(register);
+    let table = powers::powers(register, 576);
     let limit = symbol_flags::tie_limit(count) as usize;
     let numbers = symbol_flags::symbol_numbers(ties, count);
     fill_named(
@@ -243,6 +243,6 @@ pub fn side_columns(taken: Taken, ties: &[u8], count: u16) -> u64
     let words = taken.spread;
     let spread = chains::all_words(words);
     let slices = register::slice_limit(taken.s);
-    let table = powers::powers(register);
+    let table = powers::powers(register, 576);
     opposite_columns(&table[..], &spread[..chains], width, slices, ties, count)
 }

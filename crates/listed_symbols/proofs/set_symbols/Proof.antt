@@ -33,7 +33,7 @@ returns c heads flagged =
     let numbers = c .before .before .before .before .before .before .before .symbol-numbers in
     let from =
     taken-symbols (args .taken) (width .result) (chains .result) (slices .result) (words .result) (table .result) (width .ensures) (chains .ensures)
-    (slices .ensures) (words .ensures) (search needs) (table .ensures) (heads .good) (args .ties .now) (args .count) (limit .result) (numbers .result) (limit .ensures)
+    (slices .ensures) (words .ensures) (search needs) (λ i h. table .ensures i h h) (heads .good) (args .ties .now) (args .count) (limit .result) (numbers .result) (limit .ensures)
     (search needs) (numbers .ensures) (heads .within)
     in
     set-slices (takenCircuit (args .taken)) _ _ (cellsOf (args .list .now) (args .rows)) (tiesIn (args .ties .now) (args .count)) (args .columns .now) _ (slices .ensures)

@@ -53,7 +53,7 @@ returns-2 c =
       (λ start.
           reduced .ensures .1 _ _
           (starts-sparse _ _ _ _ _ _ _ (omega arith) (few-words (c .before .before .before .before .before .before .before .before .before .before .before .before .before .before)) (omega arith) (own-words (c .before .before .before .before .before .before .before .before .before .before .before .before .before .before)) start (search needs)
-          (λ i l. c .before .before .before .before .before .before .before .before .before .before .powers2 .ensures i l ∙ later-same _ _ (taken .register .inversion) (take (taken .n) (taken .spread)) i 1)
+          (λ i l. c .before .before .before .before .before .before .before .before .before .before .powers2 .ensures i l l ∙ later-same _ _ (taken .register .inversion) (take (taken .n) (taken .spread)) i 1)
           (sym (c .before .before .before .before .before .before .before .before .before .before .before .before .has-bad-word .ensures) ∙ or-false-right (ltb 512 (c .before .before .before .before .before .before .before .before .before .before .before .before .before .count-marks .result)) (c .before .before .before .before .before .before .before .before .before .before .before .before .has-bad-word .result) (c .before .before .before .before .before .before .before .before .before .before .before .if1 .left)))),
     )
 

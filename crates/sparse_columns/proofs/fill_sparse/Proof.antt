@@ -25,7 +25,7 @@ Inv-loop list marks columns₀ width chains spread slices table place₀ t₀ co
     (t ≤ slices)
     × (place ≤ length columns)
     × (length columns ≡ length columns₀)
-    × ((taps inversion : ℕ) → PowersIn width taps table → Sparse (circuit width taps inversion (take chains spread)) slices (cellsOf list marks) columns₀ columns place t)
+    × ((taps inversion : ℕ) → PowersIn width taps slices table → Sparse (circuit width taps inversion (take chains spread)) slices (cellsOf list marks) columns₀ columns place t)
 
 abbrev μ-loop : tie.MeasureT-loop
 μ-loop list marks columns₀ width chains spread slices table place₀ t₀ columns place t = t
@@ -81,8 +81,8 @@ loop-again c =
     good-limited (args .taken .register .m) (args .taken .n) (width .result) (chains .result) (args .taken .spread) (words .result) (width .ensures)
     (chains .ensures) (words .ensures)
     ∙ c .before .before .before .before .before .before .before .before .before .before .before .before .before .before .before .before .before .before .before .before .before .before .before .before .before .pre in
-    let right : PowersIn (width .result) (args .taken .register .taps) (table .result) =
-    λ i h. table .ensures i h ∙ ap (λ (m : ℕ). later (circuit m (args .taken .register .taps) 0 []) i 1) (sym (width .ensures)) in
+    let right : PowersIn (width .result) (args .taken .register .taps) (slices .result) (table .result) =
+    λ i h. table .ensures i (omega (arith, width .ensures, slices .ensures)) h ∙ ap (λ (m : ℕ). later (circuit m (args .taken .register .taps) 0 []) i 1) (sym (width .ensures)) in
     let room =
     sparse-room _ _ _ _ _ _ _
     (sparse-steps (width .result) (args .taken .register .taps) (args .taken .register .inversion) (take (chains .result) (words .result)) (slices .result) (cellsOf (args .list .now) (args .marks)) (table .result) (search needs) right good
@@ -116,8 +116,8 @@ returns : tie.Need-returns Inv-loop μ-loop
 returns c =
     let args = c .before .before .before .before .before .before .before .before .before .before .before .before .args in
     let width = c .before .before .before .before .before .before .before .before .width-limit in
-    let right : PowersIn (width .result) (args .taken .register .taps) (c .before .before .before .powers .result) =
-    λ i h. c .before .before .before .powers .ensures i h ∙ ap (λ (m : ℕ). later (circuit m (args .taken .register .taps) 0 []) i 1) (sym (width .ensures)) in
+    let right : PowersIn (width .result) (args .taken .register .taps) (c .before .before .before .before .slice-limit .result) (c .before .before .before .powers .result) =
+    λ i h. c .before .before .before .powers .ensures i (omega (arith, width .ensures, c .before .before .before .before .slice-limit .ensures)) h ∙ ap (λ (m : ℕ). later (circuit m (args .taken .register .taps) 0 []) i 1) (sym (width .ensures)) in
     sparse-ends _ _ _ _ _ _ _ (c .before .loop .inv .3 (args .taken .register .taps) (args .taken .register .inversion) right) (omega arith)
     ∙ ap (λ (m : ℕ). back (columnsBelow (circuit m (args .taken .register .taps) (args .taken .register .inversion) (take (c .before .before .before .before .before .before .before .chain-limit .result) (c .before .before .before .before .before .all-words .result))) (c .before .before .before .before .slice-limit .result) (cellsOf (args .list .now) (args .marks)) (c .before .before .before .before .slice-limit .result)) (args .columns .now)) (width .ensures)
     ∙ columns-limited _ _ _ _ _ _ _ _ _ _ _ (c .before .before .before .before .before .before .before .chain-limit .ensures) (c .before .before .before .before .slice-limit .ensures) (c .before .before .before .before .before .all-words .ensures)
@@ -132,6 +132,8 @@ fill-sparse-spec =
     (λ c κs. search needs)
     (λ c κs. search needs)
     (λ c κs. search needs)
+    (λ c. search needs)
+    (λ c. omega (arith, c .before .before .before .before .width-limit .ensures, c .slice-limit .ensures))
     (λ c κs. search needs)
     (λ c κs. search needs)
     loop-holds

@@ -32,7 +32,7 @@ returns c inside good flagged room =
     named-slices (takenCircuit (args .taken)) _ _ (tiesIn (args .ties .now) (args .count)) (args .places .now) _ (slices .ensures) room
     (c .before .before .fill-named .ensures (takenCircuit (args .taken)) (args .count)
     (taken-symbols (args .taken) (width .result) (chains .result) (slices .result) (words .result) (table .result) (width .ensures) (chains .ensures)
-    (slices .ensures) (words .ensures) (search needs) (table .ensures) good (args .ties .now) (args .count) (limit .result) (numbers .result) (limit .ensures)
+    (slices .ensures) (words .ensures) (search needs) (λ i h. table .ensures i h h) good (args .ties .now) (args .count) (limit .result) (numbers .result) (limit .ensures)
     (search needs) (numbers .ensures) inside)
     flagged)
 

@@ -26,8 +26,8 @@ returns-2 c inside good =
     let words = c .before .before .before .before .before .all-words in
     let table = c .before .before .before .powers in
     c .opposite-columns .ensures (takenCircuit (args .taken))
-    (taken-powered (args .taken) (width .result) (chains .result) (slices .result) (words .result) (table .result) (width .ensures) (chains .ensures) (slices .ensures) (words .ensures) (search needs) (table .ensures) good)
-    (taken-within (args .taken) (width .result) (chains .result) (slices .result) (words .result) (table .result) (width .ensures) (chains .ensures) (slices .ensures) (words .ensures) (search needs) (table .ensures) good _ inside)
+    (taken-powered (args .taken) (width .result) (chains .result) (slices .result) (words .result) (table .result) (width .ensures) (chains .ensures) (slices .ensures) (words .ensures) (search needs) (λ i h. table .ensures i h h) good)
+    (taken-within (args .taken) (width .result) (chains .result) (slices .result) (words .result) (table .result) (width .ensures) (chains .ensures) (slices .ensures) (words .ensures) (search needs) (λ i h. table .ensures i h h) good _ inside)
     ∙ ap (λ (s : ℕ). sideColumns (takenCircuit (args .taken)) s (tiesIn (args .ties .now) (args .count))) (slices .ensures)
 
 pub side-columns-spec : {M : Type 1} → statement M
