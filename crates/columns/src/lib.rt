@@ -18,9 +18,6 @@ use rows::Rows;
 use set_file::SetAnswer;
 use set_file::Taken;
 
-// Up to so many columns are made one by one; from there on it is faster to advance all the chains' words together.
-const FEW_COLUMNS: usize = 512;
-
 // What listing the columns answers: the number of symbols, or the first number that applies.
 pub enum Listed {
     Count { symbols: u64 },
@@ -34,11 +31,11 @@ pub enum Listed {
 pub fn fill_columns(taken: Taken, list: &[u8], marks: Rows, columns: &mut [u64])
     ensures { λ _. ⌜ now (columns .exit) ≡ back (columnsBelow (takenCircuit taken) (min (taken .s) 512) (cellsOf (now (list .entry)) marks) (min (taken .s) 512)) (now (columns .entry)) ⌝ }
 {
-    if FEW_COLUMNS < columns.len() {
-        swept_columns::fill_swept(taken, list, marks, columns);
+    if sparse_columns::ones_pay(columns.len(), taken.n, taken.s) {
+        sparse_columns::fill_few(taken, list, marks, columns);
         return;
     }
-    sparse_columns::fill_few(taken, list, marks, columns);
+    swept_columns::fill_swept(taken, list, marks, columns);
 }
 
 // Writes the columns of the symbols over the list, one for each cell that the rows mark, by slice and then by chain: an unnamed cell's own, and

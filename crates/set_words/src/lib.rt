@@ -18,9 +18,6 @@ use set_file::Taken;
 // The places of the working list.
 const WORKING_PLACES: usize = 64;
 
-// Up to so many columns are made one by one; from there on it is faster to advance all the chains' words together.
-const FEW_COLUMNS: u64 = 512;
-
 // From so many columns on it takes less time to ask whether they change anything than to make them.
 const ASKED_COLUMNS: usize = 64;
 
@@ -238,7 +235,7 @@ fn reduce_marked(
     let unknowns = marked_rows::count_marks(list, marks, s);
     let source = Source { register, marks, s };
     let count = unknowns as usize;
-    if (FEW_COLUMNS < unknowns) | sparse_columns::has_bad_word(taken) {
+    if sparse_columns::needs_sweep(taken, count) {
         let powers = powers::no_powers();
         return reduce_all(
             source,

@@ -3,8 +3,11 @@
 use mathlib.Core.Path.{_≡_, refl, sym, ap, ap₂, _∙_}
 use mathlib.Core.Bool.{false}
 use mathlib.Core.List.{List, [], _∷_, _++_, map, map-append, append-assoc}
-use Prim.Native.Nat.{ℕ, zero, suc, _+_, _-_, _≤_, _<_, min}
+use Prim.Native.Nat.{ℕ, zero, suc, _+_, _-_, _*_, _≤_, _<_, min}
+use native.Mathlib.Nat.{mul-le-mul-left, mul-le-mul-right}
 use native.Mathlib.Omega.{arith}
+use borrow.Author.Tests.{le-ltb}
+use lib.Dec.{ltb}
 use lib.ListN.{length, take, drop, getD, length-map, length-drop, length-take}
 use lib.Seq.{drop-drop, take-at, drop-at, take-append-le, drop-append-le, length-take-le}
 use Rattle.numbers.specs.Joined.{joined}
@@ -23,6 +26,7 @@ use Rattle.signatures.specs.Columns.{columnsBelow}
 use Rattle.rows.specs.Marks.{markedWords}
 use Rattle.marked_words.specs.Back.{back}
 use Rattle.powers.specs.Powers.{fromPowers}
+use Rattle.sparse_columns.specs.Cost.{onesPay}
 use Rattle.numbers.proofs.PartLaws.{take-limit}
 use Rattle.marked_words.proofs.BackLaws.{back-length}
 use Rattle.powers.proofs.PowerLaws.{from-powers, powers-part, later-same}
@@ -197,3 +201,20 @@ module _ (m taps inversion : ℕ) (ws : List ℕ) (s : ℕ) (u : Response) (tabl
 
       later-by : s - 1 - (t - 1) ≡ s - t
       later-by = omega arith
+
+-- ---- which way is taken
+
+-- there are at most 131,072 cells
+pub cells-most : (s n : ℕ) → s ≤ 512 → n ≤ 256 → s * n ≤ 131072
+cells-most s n hs hn = omega (arith, mul-le-mul-left s hn, mul-le-mul-right 256 hs)
+
+pub many-sweep : (k n s : ℕ) → 1024 ≤ k → false ≡ onesPay k n s
+unfolding onesPay
+many-sweep k n s h =
+    sym
+    (le-ltb (128 * k + 4 * min s 512 + 256) (min s 512 * min n 256)
+    (omega (arith, cells-most (min s 512) (min n 256) (omega arith) (omega arith))))
+
+pub few-pay : (k n s slices chains : ℕ) → slices ≡ min s 512 → chains ≡ min n 256 → ltb (128 * k + 4 * slices + 256) (slices * chains) ≡ onesPay k n s
+unfolding onesPay
+few-pay k n s slices chains es en = ap₂ (λ (x y : ℕ). ltb (128 * k + 4 * x + 256) (x * y)) es en

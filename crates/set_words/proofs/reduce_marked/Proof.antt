@@ -2,11 +2,12 @@
 use mathlib.Core.Path.{_≡_, refl, sym, ap, _∙_}
 use native.Mathlib.Omega.{arith}
 use Prim.Native.Nat.{_≤_}
-use lib.Dec.{ltb}
+use mathlib.Core.Bool.{not}
 use lib.ListN.{length, take, length-take}
 use lib.Seq.{length-take-le}
 use Rattle.word.proofs.BoolLaws.{or-false-right}
 use Rattle.powers.proofs.PowerLaws.{later-same}
+use Rattle.sparse_columns.specs.Cost.{onesPay}
 use Rattle.set_words.specs.Working.{takenWords}
 use Rattle.set_words.proofs.ReduceLaws.{starts-swept, starts-sparse, limited-words, limited-few}
 use borrow.Author.Needs.{needs}
@@ -54,7 +55,7 @@ returns-2 c =
           reduced .ensures .1 _ _
           (starts-sparse _ _ _ _ _ _ _ (omega arith) (few-words (c .before .before .before .before .before .before .before .before .before .before .before .before .before .before)) (omega arith) (own-words (c .before .before .before .before .before .before .before .before .before .before .before .before .before .before)) start (search needs)
           (λ i l. c .before .before .before .before .before .before .before .before .before .before .powers2 .ensures i l l ∙ later-same _ _ (taken .register .inversion) (take (taken .n) (taken .spread)) i 1)
-          (sym (c .before .before .before .before .before .before .before .before .before .before .before .before .has-bad-word .ensures) ∙ or-false-right (ltb 512 (c .before .before .before .before .before .before .before .before .before .before .before .before .before .count-marks .result)) (c .before .before .before .before .before .before .before .before .before .before .before .before .has-bad-word .result) (c .before .before .before .before .before .before .before .before .before .before .before .if1 .left)))),
+          (or-false-right (not (onesPay _ (taken .n) (taken .s))) _ (sym (c .before .before .before .before .before .before .before .before .before .before .before .before .needs-sweep .ensures) ∙ c .before .before .before .before .before .before .before .before .before .before .before .if1 .left)))),
     )
 
 pub reduce-marked-spec : {M : Type 1} → statement M
