@@ -91,7 +91,7 @@ pub fn read_short_word(s: &[u8], i: usize) -> u64
 }
 
 // The word of the 8 bytes of s at place i, low byte first, in one load.
-fn eight_bytes(s: &[u8], i: usize) -> u64
+pub fn eight_bytes(s: &[u8], i: usize) -> u64
     requires { ⌜ i + 8 ≤ length (now s) ⌝ }
     ensures { λ r. ⌜ r ≡ wordAt (now (s .entry)) i ⌝ }
 {
