@@ -1,4 +1,4 @@
-// Numbers in lists of bytes: counts of 2 bytes and words of 8, low byte first. It sees words alone. Every function is total.
+// Numbers in lists of bytes: counts of 2 bytes and words of 8, low byte first. It sees words alone. Every function but `eight_bytes` is total.
 ghost use mathlib.Core.Path.{_≡_};
 ghost use mathlib.Core.List.{[], _∷_};
 ghost use Prim.Native.Nat.{min, _+_, _<_, _≤_};

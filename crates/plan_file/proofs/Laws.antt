@@ -18,7 +18,6 @@ use native.Mathlib.Omega.{arith}
 use borrow.Author.Tests.{eqb-true, eq-eqb, le-ltb, ltb-false, not-false}
 use lib.Dec.{eqb, ltb}
 use lib.ListN.{length}
-use Rattle.numbers.specs.Bytes.{wordAt}
 use Rattle.word.specs.Reply.{Test, _when_, answer, refusal, firstOf, replied, reply, numberOf}
 use Rattle.word.proofs.BoolLaws.{or-false-left, or-false-right}
 use Rattle.word.proofs.ReplyLaws.{none-applies}
@@ -32,7 +31,7 @@ use Rattle.plan_file.specs.Layout.{againAt, bitsAt, planLength, fileWidt
 use Rattle.plan_file.specs.Checking.{badPlanWidth, badPlanCount, badPlanEnd, planFileTests, PlanFileParts, fileParts, planCheckReply, saidChecked}
 use Rattle.plan_file.specs.Reading.{planReadTests, planFileReply}
 use Rattle.plan_file.specs.declared.PlanCheck.{PlanCheck}
-use Rattle.plan_file.proofs.TestLaws.{width-good, count-good, bits-to-end}
+use Rattle.plan_file.proofs.TestLaws.{width-good, count-good}
 
 -- none of the four tests applies
 pub record NoneApplies (plan : List ℕ) : Type 0 where
@@ -111,11 +110,6 @@ taken plan h =
 -- a taken plan doesn't end before its last word
 pub taken-long : (plan : List ℕ) → Taken plan → againAt (fileCount plan) ≤ length plan
 taken-long plan t = omega (arith, t .exact)
-
-pub taken-bits : (plan : List ℕ) → firstOf (planFileTests plan) ≡ 0 → wordAt plan (bitsAt (fileCount plan)) ≡ fileExpected plan
-taken-bits plan h =
-    let t : Taken plan = taken plan h in
-    bits-to-end plan (t .exact) (omega (arith, t .width-most, t .count-most))
 
 -- ---- a plan that is right in each part meets no number
 

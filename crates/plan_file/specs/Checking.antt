@@ -3,6 +3,7 @@
 --   badPlanWidth plan     document 01, 19: the plan has fewer than 2 bytes, or its m isn't 1 to 64
 --   badPlanCount plan     document 01, 20: the word count is absent, 0 or above m, or the plan ends before its last word
 --   badPlanEnd plan       document 01, 22: the second count is absent or isn't q, the length isn't exact, or a spare bit is set
+--   Listed plan b         b says whether 21 applies, of a plan of at most 64 words that doesn't end before its last word
 --   planFileTests plan    the numbers 19 to 22, in order
 --   PlanFileParts         m, q and the expected bits of a plan file
 --   fileParts plan        .. of this one
@@ -10,7 +11,8 @@
 --   saidChecked c         the paper's reading of what the check hands back
 use mathlib.Core.Bool.{Bool, not, _||_}
 use mathlib.Core.List.{List, [], _∷_}
-use Prim.Native.Nat.{ℕ}
+use mathlib.Core.Path.{_≡_}
+use Prim.Native.Nat.{ℕ, _≤_}
 use lib.Dec.{eqb, ltb}
 use lib.ListN.{length}
 use Rattle.word.specs.Word.{badWidth, beyond}
@@ -34,6 +36,10 @@ badPlanEnd plan =
     || not (eqb (fileAgain plan) (fileCount plan))
     || not (eqb (length plan) (planLength (fileCount plan)))
     || beyond (fileCount plan) (fileExpected plan)
+
+abbrev pub Listed : List ℕ → Bool → Type 0
+Listed plan b =
+    fileCount plan ≤ 64 → againAt (fileCount plan) ≤ length plan → b ≡ not (isReduced (fileWidth plan) (fileWords plan))
 
 unfoldable pub planFileTests : List ℕ → List Test
 planFileTests plan =

@@ -4,11 +4,11 @@ ghost use mathlib.Core.Path.{_≡_};
 ghost use mathlib.Core.Bool.{not};
 ghost use Prim.Native.Nat.{_+_, _*_, _<_, _≤_};
 ghost use lib.ListN.{length};
-ghost use Rattle.numbers.specs.Bytes.{wordAt, wholeWordAt};
+ghost use Rattle.numbers.specs.Bytes.{wordAt};
 ghost use Rattle.word.specs.Reply.{firstOf, front, lent, numberOf};
 ghost use Rattle.combinations.specs.Reduced.{isReduced};
-ghost use Rattle.plan_file.specs.Layout.{wordsPlace, againAt, bitsAt, fileWidth, fileCount, fileWords};
-ghost use Rattle.plan_file.specs.Checking.{badPlanWidth, badPlanCount, badPlanEnd, planFileTests, planCheckReply, saidChecked};
+ghost use Rattle.plan_file.specs.Layout.{wordsPlace, againAt, planLength, fileWidth, fileCount, fileWords, fileExpected};
+ghost use Rattle.plan_file.specs.Checking.{badPlanWidth, badPlanCount, badPlanEnd, Listed, planFileTests, planCheckReply, saidChecked};
 ghost use Rattle.plan_file.specs.Reading.{planFileReply, said};
 
 // What the check of a plan file answers: m, q and the expected bits as one word, or the first number that applies.
@@ -24,34 +24,37 @@ pub enum PlanAnswer {
 }
 
 // m, as the plan has it; a byte past the end counts as 0.
-fn width(plan: &[u8]) -> u64
+pub fn width(plan: &[u8]) -> u64
     ensures { λ r. ⌜ (r ≡ fileWidth (now (plan .entry))) × (r < 65536) ⌝ }
 {
     numbers::read_count(plan, 0)
 }
 
 // q, as the plan has it; a byte past the end counts as 0.
-fn count(plan: &[u8]) -> u64
+pub fn count(plan: &[u8]) -> u64
     ensures { λ r. ⌜ (r ≡ fileCount (now (plan .entry))) × (r < 65536) ⌝ }
 {
     numbers::read_count(plan, 2)
 }
 
-// The word at the place of word i; 0 where the plan ends before its last byte. It meets no number.
+// Word i of a plan that doesn't end before its last byte, in one load. It meets no number.
 pub fn plan_word(plan: &[u8], i: u16) -> u64
-    ensures { λ r. ⌜ r ≡ wholeWordAt (now (plan .entry)) (wordsPlace + 8 * i) ⌝ }
+    requires { ⌜ wordsPlace + 8 * i + 8 ≤ length (now plan) ⌝ }
+    ensures { λ r. ⌜ r ≡ wordAt (now (plan .entry)) (wordsPlace + 8 * i) ⌝ }
 {
     let place = i as usize;
-    numbers::whole_word(plan, 4 + 8 * place)
+    numbers::eight_bytes(plan, 4 + 8 * place)
 }
 
-// The 8 bytes from the place of the expected bits on; a byte past the end counts as 0. They are the expected bits as one
-// word in every plan that meets no number (proofs/Laws.antt, taken-bits). It meets no number itself.
+// The expected bits as one word, of a plan of 1 to 64 words that has the exact length: they end with it, so they are the highest of its
+// last 8 bytes. It meets no number.
 fn expected_bits(plan: &[u8]) -> u64
-    ensures { λ r. ⌜ r ≡ wordAt (now (plan .entry)) (bitsAt (fileCount (now (plan .entry)))) ⌝ }
+    requires { ⌜ (length (now plan) ≡ planLength (fileCount (now plan))) × (1 ≤ fileCount (now plan)) × (fileCount (now plan) ≤ 64) ⌝ }
+    ensures { λ r. ⌜ r ≡ fileExpected (now (plan .entry)) ⌝ }
 {
     let q = count(plan) as usize;
-    numbers::read_short_word(plan, 6 + 8 * q)
+    let others = 8 - (q + 7) / 8;
+    numbers::eight_bytes(plan, plan.len() - 8) >> (8 * others)
 }
 
 // Number 19: whether the plan has fewer than 2 bytes, or its m isn't 1 to 64.
@@ -77,25 +80,27 @@ fn is_bad_word_list(plan: &[u8]) -> bool
 {
     let m = width(plan);
     let q = count(plan) as u16;
-    let mut last: u64 = 0;
+    if plan.len() < 4 + 8 * (q as usize) {
+        return true;
+    }
     let mut seen: u64 = 0;
     let mut i: u16 = 0;
     while i < q {
         let w = plan_word(plan, i);
-        if !reduced_list::is_next(m, last, seen, w) {
+        if !reduced_list::is_next(seen, w) {
             return true;
         }
         seen = reduced_list::with_highest(seen, w);
-        last = w;
         i += 1;
     }
-    false
+    word::is_beyond(m, seen)
 }
 
-// Number 22, for a plan of at most 64 words: whether the second count is absent or isn't q, the length isn't exact, or a
-// spare bit is set. In a plan of the exact length the expected bits end with it.
+// Number 22, for a plan of 1 to 64 words: whether the second count is absent or isn't q, the length isn't exact, or a spare bit is
+// set.
 fn is_bad_plan_end(plan: &[u8]) -> bool
-    ensures { λ r. ⌜ (fileCount (now (plan .entry)) ≤ 64 → r ≡ badPlanEnd (now (plan .entry))) ⌝ }
+    requires { ⌜ (1 ≤ fileCount (now plan)) × (fileCount (now plan) ≤ 64) ⌝ }
+    ensures { λ r. ⌜ r ≡ badPlanEnd (now (plan .entry)) ⌝ }
 {
     let q = count(plan);
     let places = q as usize;
@@ -105,8 +110,9 @@ fn is_bad_plan_end(plan: &[u8]) -> bool
     (numbers::read_count(plan, 4 + 8 * places) != q) | word::is_beyond(q, expected_bits(plan))
 }
 
-// The first of the numbers 19 to 22 that applies to a plan file; 0 where none does.
-fn plan_refusal(plan: &[u8]) -> u64
+// The first of the numbers 19 to 22 that applies to a plan file, where `bad` says whether 21 does; 0 where none applies.
+fn plan_refusal(plan: &[u8], bad: bool) -> u64
+    requires { ⌜ Listed (now plan) bad ⌝ }
     ensures { λ r. ⌜ r ≡ firstOf (planFileTests (now (plan .entry))) ⌝ }
 {
     if is_bad_plan_width(plan) {
@@ -115,7 +121,7 @@ fn plan_refusal(plan: &[u8]) -> u64
     if is_bad_plan_count(plan) {
         return 20;
     }
-    if is_bad_word_list(plan) {
+    if bad {
         return 21;
     }
     if is_bad_plan_end(plan) {
@@ -124,11 +130,13 @@ fn plan_refusal(plan: &[u8]) -> u64
     0
 }
 
-// The check of a plan file. Answers with m, q and the expected bits as one word. Meets 19, 20, 21 and 22, in that order.
-pub fn check_plan(plan: &[u8]) -> PlanCheck
+// The check of a plan file, by a caller that has gone over its words: `bad` says whether 21 applies. Answers with m, q and the
+// expected bits as one word. Meets 19, 20, 21 and 22, in that order.
+pub fn check_listed(plan: &[u8], bad: bool) -> PlanCheck
+    requires { ⌜ Listed (now plan) bad ⌝ }
     ensures { λ r. ⌜ saidChecked r ≡ planCheckReply (now (plan .entry)) ⌝ }
 {
-    let number = plan_refusal(plan);
+    let number = plan_refusal(plan, bad);
     if number != 0 {
         return PlanCheck::Refused { number };
     }
@@ -137,6 +145,13 @@ pub fn check_plan(plan: &[u8]) -> PlanCheck
         q: count(plan),
         expected: expected_bits(plan),
     }
+}
+
+// The check of a plan file. Answers with m, q and the expected bits as one word. Meets 19, 20, 21 and 22, in that order.
+pub fn check_plan(plan: &[u8]) -> PlanCheck
+    ensures { λ r. ⌜ saidChecked r ≡ planCheckReply (now (plan .entry)) ⌝ }
+{
+    check_listed(plan, is_bad_word_list(plan))
 }
 
 // The refusal's number; 0 of a sound plan.
@@ -153,17 +168,15 @@ pub fn number_of(checked: PlanCheck) -> u64
     }
 }
 
-// The words of a plan that doesn't end before its last one, over the front of `words`; as many as there is room for.
+// The words of a plan that doesn't end before its last one, over the front of `words`, where there is room for them.
 fn copy_words(plan: &[u8], words: &mut [u64])
-    ensures { λ _. ⌜ (againAt (fileCount (now (plan .entry))) ≤ length (now (plan .entry)) → fileCount (now (plan .entry)) ≤ length (now (words .entry)) → now (words .exit) ≡ front (fileWords (now (plan .entry))) (now (words .entry))) ⌝ }
+    requires { ⌜ (againAt (fileCount (now plan)) ≤ length (now plan)) × (fileCount (now plan) ≤ length (now words)) ⌝ }
+    ensures { λ _. ⌜ now (words .exit) ≡ front (fileWords (now (plan .entry))) (now (words .entry)) ⌝ }
 {
-    let q = count(plan) as usize;
-    let mut i: usize = 0;
+    let q = count(plan) as u16;
+    let mut i: u16 = 0;
     while i < q {
-        if words.len() <= i {
-            return;
-        }
-        words[i] = plan_word(plan, i as u16);
+        words[i as usize] = plan_word(plan, i);
         i += 1;
     }
 }

@@ -1,2 +1,3 @@
 pub mod PassLaws
 pub mod CountLaws
+pub mod TopLaws

@@ -1,1 +1,2 @@
 pub mod WordCount
+pub mod TopPass

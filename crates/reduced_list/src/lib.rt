@@ -1,20 +1,16 @@
 // Whether some words are a reduced list, and whether they are as many as a plan can have. It sees words and combinations.
 ghost use mathlib.Core.Path.{_≡_};
-ghost use Rattle.combinations.specs.Pass.{follows, withTop};
+ghost use Rattle.combinations.specs.Pass.{withTop};
 ghost use Rattle.combinations.specs.Reduced.{isReduced};
 ghost use Rattle.reduced_list.specs.WordCount.{badWordCount};
+ghost use Rattle.reduced_list.specs.TopPass.{nextAbove};
 
-// Whether the word w can follow the word `last` in a reduced list for m, where `seen` holds the earlier words' highest bits.
-pub fn is_next(m: u64, last: u64, seen: u64, w: u64) -> bool
-    ensures { λ r. ⌜ r ≡ follows m last seen w ⌝ }
+// Whether the word w can be the next one of a reduced list, where `seen` holds the earlier words' highest bits: it is above them as a
+// number, and has none of them.
+pub fn is_next(seen: u64, w: u64) -> bool
+    ensures { λ r. ⌜ r ≡ nextAbove seen w ⌝ }
 {
-    if w <= last {
-        return false;
-    }
-    if word::is_beyond(m, w) {
-        return false;
-    }
-    seen & w == 0
+    (seen < w) & (seen & w == 0)
 }
 
 // The bits `seen`, with w's highest bit.
@@ -24,23 +20,22 @@ pub fn with_highest(seen: u64, w: u64) -> u64
     seen | (1u64 << word::highest_bit(w))
 }
 
-// Whether the words are a reduced list for m, by one pass over them (combinations/proofs/Theorems.antt, reduced-exactly).
+// Whether the words are a reduced list for m, by one pass over them (proofs/TopLaws.antt, tops-exactly). The words ascend, so their
+// highest bits are asked once, behind the last, whether one is at or above m.
 pub fn is_reduced(m: u64, words: &[u64]) -> bool
     ensures { λ r. ⌜ r ≡ isReduced m (now (words .entry)) ⌝ }
 {
-    let mut last: u64 = 0;
     let mut seen: u64 = 0;
     let mut i: usize = 0;
     while i < words.len() {
         let w = words[i];
-        if !is_next(m, last, seen, w) {
+        if !is_next(seen, w) {
             return false;
         }
         seen = with_highest(seen, w);
-        last = w;
         i += 1;
     }
-    true
+    !word::is_beyond(m, seen)
 }
 
 // Whether a plan for m can't have q words: none, or more than m.

@@ -18,6 +18,7 @@ use Rattle.word.proofs.BoolLaws.{or-false, or-false-left, or-false-right}
 use Rattle.rows.specs.Row.{rowBytes}
 use Rattle.rows.specs.Lists.{listRow}
 use Rattle.rows.proofs.CellLaws.{row-step}
+use Rattle.set_layout.specs.Layout.{rowsAt, tieCountAt}
 use Rattle.set_layout.proofs.LayoutLaws.{rows-small}
 
 -- ---- slices one after the other
@@ -122,3 +123,64 @@ not-short v k n s all e ev ek on =
 pub turned-inside : (n b : ℕ) (v k l₀ l : List ℕ) (at t from to s i : ℕ) → Turned n b v k l₀ l at t from to → t < s → rowBytes n * s ≤ i
     → from + b ≤ i
 turned-inside n b v k l₀ l at t from to s i r h room = omega (arith, r .bytes, r .source, row-step (rowBytes n) t s h)
+
+-- ---- rows of 32 bytes
+
+-- .. the same, where both lists hold s rows and there is room for all of them
+pub record Wide (n s : ℕ) (v k l₀ l : List ℕ) (at t from to : ℕ) : Type 0 where
+  pub values : 32 * s ≤ length v
+  pub marks : 32 * s ≤ length k
+  pub room : at + 64 * s ≤ length l₀
+  pub rows : at ≡ rowsAt n
+  pub inside : t ≤ s
+  pub turned : Turned n 32 v k l₀ l at t from to
+
+pub wide-start : (n s : ℕ) (v k l : List ℕ) (at : ℕ) → (rowBytes n ≡ 32) × (32 * s ≤ length v) × (32 * s ≤ length k) × (rowsAt n + 64 * s ≤ length l)
+    → at ≡ rowsAt n → Wide n s v k l l at 0 0 at
+wide-start n s v k l at h e =
+    record { values = h .1; marks = h .2; room = omega (arith, h .3); rows = e; inside = omega arith; turned = turned-start n 32 v k l at (sym (h .0)) }
+
+module _ (n s : ℕ) (v k l₀ l : List ℕ) (at t from to : ℕ) (r : Wide n s v k l₀ l at t from to) where
+  from-rows : from ≡ 32 * t
+  from-rows = r .turned .source ∙ ap (λ (b : ℕ). b * t) (sym (r .turned .bytes))
+
+  -- the next rows are there, and there is room for them
+  pub wide-room : t < s → (to + 64 ≤ length l) × (from + 32 ≤ length v) × (from + 32 ≤ length k)
+  wide-room h = (
+    omega (arith, r .room, r .turned .place, r .turned .long, from-rows),
+    omega (arith, r .values, from-rows),
+    omega (arith, r .marks, from-rows),
+  )
+
+  pub wide-turn : (l₁ l₂ : List ℕ) → t < s → l₁ ≡ sets l to (take 32 (drop from v)) → l₂ ≡ sets l₁ (to + 32) (take 32 (drop from k))
+      → Wide n s v k l₀ l₂ at (t + 1) (from + 32) (to + 64)
+  wide-turn l₁ l₂ h e₁ e₂ =
+      let count : 32 ≡ from + 32 - from = omega arith in
+      record {
+        values = r .values;
+        marks = r .marks;
+        room = r .room;
+        rows = r .rows;
+        inside = omega arith;
+        turned =
+            turned-turn n 32 v k l₀ l l₁ l₂ at t from to (r .turned) (wide-room h .1) (wide-room h .2)
+            (e₁ ∙ ap (λ (c : ℕ). sets l to (take c (drop from v))) count)
+            (e₂ ∙ ap (λ (c : ℕ). sets l₁ (to + 32) (take c (drop from k))) count);
+      }
+
+  pub wide-end : s ≤ t → l ≡ sets l₀ (rowsAt n) (joined (sliceBytes n v k) s)
+  wide-end h =
+      let all : t ≡ s = omega (arith, r .inside) in
+      turned-end n 32 v k l₀ l at t from to s (r .turned) all
+      ∙ ap (λ (i : ℕ). sets l₀ i (joined (sliceBytes n v k) s)) (r .rows)
+
+-- what the loop over rows of 32 bytes asks for, by the tests before it
+pub wide-known : (n s : ℕ) (v k l : List ℕ) (all b end : ℕ) → all ≡ rowBytes n * s → (ltb (length v) all || ltb (length k) all) ≡ false
+    → b ≡ rowBytes n → b ≡ 32 → end ≡ tieCountAt n s → end ≤ length l
+    → (rowBytes n ≡ 32) × (32 * s ≤ length v) × (32 * s ≤ length k) × (rowsAt n + 64 * s ≤ length l)
+wide-known n s v k l all b end ea h eb e32 ee room =
+    let wide : rowBytes n ≡ 32 = sym eb ∙ e32 in
+    let rows : all ≡ 32 * s = ea ∙ ap (λ (x : ℕ). x * s) wide in
+    let place : end ≡ rowsAt n + 64 * s = ee ∙ ap (λ (x : ℕ). rowsAt n + 2 * x * s) wide in
+    let there = both-inside (length v) (length k) all h in
+    (wide, omega (arith, there .0), omega (arith, there .1), omega arith)

@@ -1,8 +1,8 @@
 // The set file of document 01: its writer. What it writes the reader (`set_file`) and the rows of one slice (`slice_rows`) give
-// back: proofs/RoundTrip. The numbers that it meets are those of its content (`set_content`). Every function is total.
+// back: proofs/RoundTrip. The numbers that it meets are those of its content (`set_content`).
 ghost use mathlib.Core.Path.{_≡_};
 ghost use mathlib.Core.List.{_++_};
-ghost use Prim.Native.Nat.{_*_, _<_};
+ghost use Prim.Native.Nat.{_+_, _*_, _<_, _≤_};
 ghost use lib.ListN.{length};
 ghost use lib.Seq.{sets};
 ghost use Rattle.word.specs.Reply.{lent};
@@ -33,8 +33,9 @@ fn write_head(out: &mut [u8], m: u64, taps: u64, inversion: u64, spread: &[u64],
     written_numbers::write_count(out, set_layout::slices_at(n as u16), s);
 }
 
-// The first s value rows and mark rows of n chains, in turn, where a set of n chains has its rows.
-fn write_slices(out: &mut [u8], n: u16, s: u16, values: &[u8], marks: &[u8])
+// The first s value rows and mark rows of n chains, in turn, where a set of n chains has its rows; rows of any length, and nothing past
+// the end of out.
+fn write_any_slices(out: &mut [u8], n: u16, s: u16, values: &[u8], marks: &[u8])
     ensures { λ _. ⌜ (length (now (values .entry)) ≡ rowBytes n * s → length (now (marks .entry)) ≡ rowBytes n * s → now (out .exit) ≡ sets (now (out .entry)) (rowsAt n) (joined (sliceBytes n (now (values .entry)) (now (marks .entry))) s)) ⌝ }
 {
     let all = set_layout::rows_length(n, s);
@@ -53,6 +54,42 @@ fn write_slices(out: &mut [u8], n: u16, s: u16, values: &[u8], marks: &[u8])
         from = end;
         t += 1;
     }
+}
+
+// The same for rows of 32 bytes, where both lists have them and there is room for all of them: no test in the loop.
+fn write_wide_slices(out: &mut [u8], n: u16, s: u16, values: &[u8], marks: &[u8])
+    requires { ⌜ (rowBytes n ≡ 32) × (32 * s ≤ length (now values)) × (32 * s ≤ length (now marks)) × (rowsAt n + 64 * s ≤ length (now out)) ⌝ }
+    ensures { λ _. ⌜ now (out .exit) ≡ sets (now (out .entry)) (rowsAt n) (joined (sliceBytes n (now (values .entry)) (now (marks .entry))) s) ⌝ }
+{
+    let mut to = set_layout::rows_at(n);
+    let mut from: usize = 0;
+    let mut t: u16 = 0;
+    while t < s {
+        written_numbers::put_32(out, to, values, from);
+        written_numbers::put_32(out, to + 32, marks, from);
+        to += 64;
+        from += 32;
+        t += 1;
+    }
+}
+
+// The first s value rows and mark rows of n chains, in turn, where a set of n chains has its rows.
+fn write_slices(out: &mut [u8], n: u16, s: u16, values: &[u8], marks: &[u8])
+    ensures { λ _. ⌜ (length (now (values .entry)) ≡ rowBytes n * s → length (now (marks .entry)) ≡ rowBytes n * s → now (out .exit) ≡ sets (now (out .entry)) (rowsAt n) (joined (sliceBytes n (now (values .entry)) (now (marks .entry))) s)) ⌝ }
+{
+    let all = set_layout::rows_length(n, s);
+    if (values.len() < all) | (marks.len() < all) {
+        return;
+    }
+    if rows::row_bytes(n as usize) != 32 {
+        write_any_slices(out, n, s, values, marks);
+        return;
+    }
+    if out.len() < set_layout::tie_count_at(n, s) {
+        write_any_slices(out, n, s, values, marks);
+        return;
+    }
+    write_wide_slices(out, n, s, values, marks);
 }
 
 // The count of ties and their entries, where a set of n chains and s slices has them; nothing past the end of out.

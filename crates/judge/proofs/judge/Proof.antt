@@ -2,13 +2,16 @@
 use native.Mathlib.Omega.{arith}
 use lib.Bits.{bitXor}
 use lib.Count.{trailing-le}
-use Rattle.judge.proofs.CallLaws.{judged-unsound, sound-words, judged-beyond, judged-passes, judged-fails}
+use Rattle.judge.proofs.CallLaws.{judged-unsound, judged-beyond, judged-passes, judged-fails}
 use borrow.Author.Needs.{needs}
 use Rattle.judge.proofs.judge.Statement.{statement}
 use Rattle.judge.proofs.judge.Tie as tie
 
-check-plan-requires : tie.Need-check-plan-requires
-check-plan-requires c κs = search needs
+find-bits-requires : tie.Need-find-bits-requires
+find-bits-requires c κs = search needs
+
+check-listed-requires : tie.Need-check-listed-requires
+check-listed-requires c κs = c .find-bits .ensures .0
 
 enum-known-checked : tie.Need-enum-known-checked
 enum-known-checked c = search needs
@@ -20,54 +23,49 @@ number-of-requires : tie.Need-number-of-requires
 number-of-requires c κs = search needs
 
 returns : tie.Need-returns
-returns c = judged-unsound _ _ _ (c .before .before .before .check-plan .ensures) _ _ (c .before .enum-told .given .1) (c .number-of .ensures)
+returns c = judged-unsound _ _ _ (c .before .before .before .check-listed .ensures) _ _ (c .before .enum-told .given .1) (c .number-of .ensures)
 
 is-beyond-requires : tie.Need-is-beyond-requires
 is-beyond-requires c κs = search needs
 
 returns-2 : tie.Need-returns-2
 returns-2 c =
-    let checked = c .before .before .before .before .before .check-plan .ensures in
+    let checked = c .before .before .before .before .before .check-listed .ensures in
     let sound = c .before .before .before .checked .given .1 in
     judged-beyond _ _ _ checked _ _ _ sound _ (c .before .is-beyond .ensures) (c .if1 .taken)
 
-cancelled-bits-requires : tie.Need-cancelled-bits-requires
-cancelled-bits-requires c κs =
-    let checked = c .before .before .before .before .before .check-plan .ensures in
-    let sound = c .before .before .before .checked .given .1 in
-    sound-words _ _ _ checked _ _ _ sound _ (c .before .is-beyond .ensures)
-
 returns-3 : tie.Need-returns-3
 returns-3 c =
-    let checked = c .before .before .before .before .before .before .before .check-plan .ensures in
-    let sound = c .before .before .before .before .before .checked .given .1 in
-    let within = c .before .before .if1 .left in
-    judged-passes _ _ _ checked _ _ _ sound _ (c .before .before .before .is-beyond .ensures) within _ (c .before .cancelled-bits .ensures) (c .if2 .taken)
+    let checked = c .before .before .before .before .before .before .check-listed .ensures in
+    let sound = c .before .before .before .before .checked .given .1 in
+    let found = c .before .before .before .before .before .before .before .find-bits .ensures in
+    judged-passes _ _ _ checked _ _ _ sound _ (c .before .before .is-beyond .ensures) (c .before .if1 .left) _ _ found (c .if2 .taken)
 
 cast-index : tie.Need-cast-index
 cast-index c =
-    let expected = c .before .before .before .before .before .checked .given .0 .1 .1 .0 in
-    omega (arith, trailing-le 64 (bitXor (c .before .cancelled-bits .result) expected))
+    let expected = c .before .before .before .before .checked .given .0 .1 .1 .0 in
+    let found = c .before .before .before .before .before .before .before .find-bits .result in
+    omega (arith, trailing-le 64 (bitXor (found .bits) expected))
 
 returns-4 : tie.Need-returns-4
 returns-4 c =
-    let checked = c .before .before .before .before .before .before .before .check-plan .ensures in
-    let sound = c .before .before .before .before .before .checked .given .1 in
-    let within = c .before .before .if1 .left in
-    judged-fails _ _ _ checked _ _ _ sound _ (c .before .before .before .is-beyond .ensures) within _ (c .before .cancelled-bits .ensures) (c .if2 .left)
+    let checked = c .before .before .before .before .before .before .check-listed .ensures in
+    let sound = c .before .before .before .before .checked .given .1 in
+    let found = c .before .before .before .before .before .before .before .find-bits .ensures in
+    judged-fails _ _ _ checked _ _ _ sound _ (c .before .before .is-beyond .ensures) (c .before .if1 .left) _ _ found (c .if2 .left)
 
 pub judge-spec : {M : Type 1} → statement M
 judge-spec =
     tie.close
     (tie.spec
-    check-plan-requires
+    find-bits-requires
+    check-listed-requires
     enum-known-checked
     enum-told
     number-of-requires
     returns
     is-beyond-requires
     returns-2
-    cancelled-bits-requires
     returns-3
     cast-index
     returns-4)

@@ -12,7 +12,8 @@ use Rattle.plan_file.proofs.copy_words.Statement.{statement}
 use Rattle.plan_file.proofs.copy_words.Tie as tie
 
 abbrev Inv-loop : tie.InvT-loop
-Inv-loop plan words₀ q i₀ words i = (i ≤ q) × (length words ≡ length words₀) × (againAt (fileCount plan) ≤ length plan → words ≡ front (take i (fileWords plan)) words₀)
+Inv-loop plan words₀ q i₀ words i =
+    (i ≤ q) × (length words ≡ length words₀) × (q ≡ fileCount plan) × (againAt q ≤ length plan) × (q ≤ length words₀) × (words ≡ front (take i (fileWords plan)) words₀)
 
 abbrev μ-loop : tie.MeasureT-loop
 μ-loop plan words₀ q i₀ words i = q - i
@@ -20,20 +21,20 @@ abbrev μ-loop : tie.MeasureT-loop
 count-requires : tie.Need-count-requires Inv-loop μ-loop
 count-requires c κs = search needs
 
+cast-q : tie.Need-cast-q Inv-loop μ-loop
+cast-q c = search needs
+
 loop-holds : tie.Need-loop-holds Inv-loop μ-loop
-loop-holds c = (search needs, search needs, λ h. sym (front-nothing _))
-
-same-length : tie.Need-same-length Inv-loop μ-loop
-same-length c = search needs
-
-returns : tie.Need-returns Inv-loop μ-loop
-returns c = λ l h. let z : ⊥ = omega (arith, c .before .before .before .count .ensures .0) in absurd z
-
-cast-plan-word : tie.Need-cast-plan-word Inv-loop μ-loop
-cast-plan-word c = search needs
+loop-holds c =
+    let counted = c .count .ensures .0 in
+    let given = c .before .before .before .pre in
+    (search needs, search needs, counted, omega (arith, counted, given .0), omega (arith, counted, given .1), sym (front-nothing _))
 
 plan-word-requires : tie.Need-plan-word-requires Inv-loop μ-loop
-plan-word-requires c κs = search needs
+plan-word-requires c κs = omega (arith, c .before .loop .inv .3)
+
+cast-words : tie.Need-cast-words Inv-loop μ-loop
+cast-words c = search needs
 
 mul-words : tie.Need-mul-words Inv-loop μ-loop
 mul-words c = search needs
@@ -49,17 +50,14 @@ loop-less c = search needs
 
 loop-again : tie.Need-loop-again Inv-loop μ-loop
 loop-again c =
-    let counted = c .before .before .before .before .count .ensures .0 in (
-      search needs,
-      search needs,
-      λ h. copy-turn _ _ _ _ _ _ (c .before .before .before .loop .inv .2 h) counted h (search needs) (search needs) (c .plan-word .ensures),
-    )
+    let so-far = c .before .before .loop .inv in
+    (search needs, search needs, so-far .2, so-far .3, so-far .4, copy-turn _ _ _ _ _ _ (so-far .5) (so-far .2) (so-far .4) (search needs) (c .plan-word .ensures))
 
-same-length-2 : tie.Need-same-length-2 Inv-loop μ-loop
-same-length-2 c = search needs
+same-length : tie.Need-same-length Inv-loop μ-loop
+same-length c = search needs
 
-returns-2 : tie.Need-returns-2 Inv-loop μ-loop
-returns-2 c = λ l h. copy-end _ _ _ _ (c .before .loop .i) (c .before .loop .inv .2 l) (c .before .before .count .ensures .0) (search needs) (search needs)
+returns : tie.Need-returns Inv-loop μ-loop
+returns c = copy-end _ _ _ _ (c .before .loop .i) (c .before .loop .inv .5) (c .before .loop .inv .2) (search needs) (search needs)
 
 pub copy-words-spec : {M : Type 1} → statement M
 copy-words-spec =
@@ -68,15 +66,14 @@ copy-words-spec =
     Inv-loop
     μ-loop
     count-requires
+    cast-q
     loop-holds
-    same-length
-    returns
-    cast-plan-word
     plan-word-requires
+    cast-words
     mul-words
     slice-write-words
     add-i
     loop-less
     loop-again
-    same-length-2
-    returns-2)
+    same-length
+    returns)

@@ -1,5 +1,5 @@
 -- `is_bad_plan_end` meets its contract: a plan of another length is refused, and in one of the exact length the bits end with it.
-use Rattle.plan_file.proofs.TestLaws.{end-inexact, end-exact}
+use Rattle.plan_file.proofs.TestLaws.{end-inexact, end-exact, end-known}
 use borrow.Author.Needs.{needs}
 use Rattle.plan_file.proofs.is_bad_plan_end.Statement.{statement}
 use Rattle.plan_file.proofs.is_bad_plan_end.Tie as tie
@@ -20,7 +20,7 @@ add-if1-3 : tie.Need-add-if1-3
 add-if1-3 c = search needs
 
 returns : tie.Need-returns
-returns c = λ h. end-inexact _ _ (c .before .count .ensures .0) (c .if1 .taken)
+returns c = end-inexact _ _ (c .before .count .ensures .0) (c .if1 .taken)
 
 mul-read-count : tie.Need-mul-read-count
 mul-read-count c = search needs
@@ -32,7 +32,7 @@ read-count-requires : tie.Need-read-count-requires
 read-count-requires c κs = search needs
 
 expected-bits-requires : tie.Need-expected-bits-requires
-expected-bits-requires c κs = search needs
+expected-bits-requires c κs = end-known _ _ (c .before .before .count .ensures .0) (c .before .if1 .left) (c .before .before .before .before .pre)
 
 is-beyond-requires : tie.Need-is-beyond-requires
 is-beyond-requires c κs = search needs
@@ -40,7 +40,7 @@ is-beyond-requires c κs = search needs
 returns-2 : tie.Need-returns-2
 returns-2 c =
     let counted = c .before .before .before .before .count .ensures .0 in
-    λ h. end-exact _ _ _ _ _ counted (c .before .before .before .if1 .left) (c .before .before .read-count .ensures .0) (c .before .expected-bits .ensures) (c .is-beyond .ensures) h
+    end-exact _ _ _ _ _ counted (c .before .before .before .if1 .left) (c .before .before .read-count .ensures .0) (c .before .expected-bits .ensures) (c .is-beyond .ensures)
 
 pub is-bad-plan-end-spec : {M : Type 1} → statement M
 is-bad-plan-end-spec =

@@ -1,5 +1,5 @@
 -- `read_plan` meets its contract: each way out by its law.
-use Rattle.plan_file.proofs.CallLaws.{ends-unsound, ends-short, ends-read}
+use Rattle.plan_file.proofs.CallLaws.{ends-unsound, ends-short, sound-words, ends-read}
 use borrow.Author.Needs.{needs}
 use Rattle.plan_file.proofs.read_plan.Statement.{statement}
 use Rattle.plan_file.proofs.read_plan.Tie as tie
@@ -25,7 +25,10 @@ returns-2 c =
     ends-short _ _ _ checked _ _ _ (c .before .before .checked .given .1) (search needs)
 
 copy-words-requires : tie.Need-copy-words-requires
-copy-words-requires c κs = search needs
+copy-words-requires c κs =
+    let checked = c .before .before .before .before .before .check-plan .ensures in
+    let start = c .before .before .before .before .before .before .before .before in
+    sound-words _ (start .args .words .now) _ checked _ _ _ (c .before .before .before .checked .given .1) (search needs)
 
 same-length : tie.Need-same-length
 same-length c = search needs

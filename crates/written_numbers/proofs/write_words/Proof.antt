@@ -1,68 +1,51 @@
--- `write_words` meets its contract: the words from `c` on are left to be written.
+-- `write_words` meets its contract: past the end nothing is written, and either way to write does the same.
+use mathlib.Core.Path.{sym}
+use native.Mathlib.Omega.{arith}
+use Rattle.numbers.specs.Bytes.{wordBytes}
+use Rattle.numbers.proofs.ByteLaws.{sets-past-end}
 use borrow.Author.Needs.{needs}
-use Rattle.written_numbers.proofs.WritingLaws.{writing-start, writing-past, WordsLeft, words-turn, words-end}
-use lib.ListN.{length}
-use Prim.Native.Nat.{_≤_, _-_}
 use Rattle.written_numbers.proofs.write_words.Statement.{statement}
 use Rattle.written_numbers.proofs.write_words.Tie as tie
 
-abbrev Inv-loop : tie.InvT-loop
-Inv-loop out₀ at words i₀ c₀ out i c = (c ≤ length words) × WordsLeft out₀ out words at i c
+returns : tie.Need-returns
+returns c =
+    let start = c .before .before .before in
+    sym (sets-past-end (wordBytes (start .args .words .now)) _ _ (search needs))
 
-abbrev μ-loop : tie.MeasureT-loop
-μ-loop out₀ at words i₀ c₀ out i c = length words - c
+sub-if2 : tie.Need-sub-if2
+sub-if2 c = search needs
 
-loop-holds : tie.Need-loop-holds Inv-loop μ-loop
-loop-holds c = (search needs, writing-start _ _ _)
+mul-if2 : tie.Need-mul-if2
+mul-if2 c = search needs
 
-same-length : tie.Need-same-length Inv-loop μ-loop
-same-length c = c .before .before .loop .inv .1 .long
+write-words-to-end-requires : tie.Need-write-words-to-end-requires
+write-words-to-end-requires c κs = search needs
 
-returns : tie.Need-returns Inv-loop μ-loop
-returns c = writing-past _ _ _ _ _ _ (c .before .before .loop .inv .1) (c .if1 .taken)
+same-length : tie.Need-same-length
+same-length c = search needs
 
-mul-write-word : tie.Need-mul-write-word Inv-loop μ-loop
-mul-write-word c = search needs
+returns-2 : tie.Need-returns-2
+returns-2 c = search needs
 
-shared-slice-read-write-word : tie.Need-shared-slice-read-write-word Inv-loop μ-loop
-shared-slice-read-write-word c = search needs
+put-words-requires : tie.Need-put-words-requires
+put-words-requires c κs = search needs
 
-write-word-requires : tie.Need-write-word-requires Inv-loop μ-loop
-write-word-requires c κs = search needs
+same-length-2 : tie.Need-same-length-2
+same-length-2 c = search needs
 
-add-i : tie.Need-add-i Inv-loop μ-loop
-add-i c = search needs
-
-add-c : tie.Need-add-c Inv-loop μ-loop
-add-c c = search needs
-
-loop-less : tie.Need-loop-less Inv-loop μ-loop
-loop-less c = search needs
-
-loop-again : tie.Need-loop-again Inv-loop μ-loop
-loop-again c = (search needs, words-turn _ _ _ _ _ _ _ (c .before .before .before .before .before .before .before .loop .inv .1) (search needs) (c .before .before .write-word .ensures))
-
-same-length-2 : tie.Need-same-length-2 Inv-loop μ-loop
-same-length-2 c = c .before .loop .inv .1 .long
-
-returns-2 : tie.Need-returns-2 Inv-loop μ-loop
-returns-2 c = words-end _ _ _ _ _ _ (c .before .loop .inv .1) (c .loop-test .left)
+returns-3 : tie.Need-returns-3
+returns-3 c = search needs
 
 pub write-words-spec : {M : Type 1} → statement M
 write-words-spec =
     tie.close
     (tie.spec
-    Inv-loop
-    μ-loop
-    loop-holds
-    same-length
     returns
-    mul-write-word
-    shared-slice-read-write-word
-    write-word-requires
-    add-i
-    add-c
-    loop-less
-    loop-again
+    sub-if2
+    mul-if2
+    write-words-to-end-requires
+    same-length
+    returns-2
+    put-words-requires
     same-length-2
-    returns-2)
+    returns-3)
