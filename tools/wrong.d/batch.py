@@ -525,7 +525,11 @@ class Batch:
             self.fill(taken, spread, data, marks, 600, [self.pick(FILLERS)])
         self.call("signing::sign_rows", taken + self.pick([values, marks]), a=data, v=spread)
         self.call("signing::sign_values", taken, a=data, v=spread)
-        self.call("marked_words::count_marks", marks + [s], a=data)
+        self.call("marked_rows::count_marks", marks + [s], a=data)
+        for t in {s, s // 2, max(0, s - 1)}:
+            self.call("marked_rows::last_marked", marks + [t], a=data)
+        self.settled(one, data, marks)
+        self.call("sparse_columns::needs_sweep", taken + [self.pick([0, 1, 13, 14, 123, 1023, 1024, self.pick(NUMBERS)])], v=spread)
         left = one.left()
         for places in {left, max(0, left - 1), self.near(left)}:
             self.keep(one, data, spread, places)
@@ -548,6 +552,13 @@ class Batch:
         for words in (spread, bad, spread[:n - 1] + [0] + spread[n:], (spread[:n] + self.junk_words(256))[:256]):
             self.call("sparse_columns::has_bad_word", [self.pick([one.m, one.m, m])] + taken[1:], v=words)
         self.call("signing::sign_values", [m, taps, inversion] + taken[3:], a=data, v=bad)
+
+    def settled(self, one, data, marks):
+        """Whether words stay as they are: the set's own words, which often do, single bits, and any."""
+        spread = (one.spread + [0] * 256)[:one.n]
+        lists = [one.words(), [1 << b for b in range(one.m)][-3:], self.word_list(one.m)]
+        for held in lists:
+            self.call("closed_words::is_settled", [one.m, one.taps] + marks + [self.pick([one.s, one.s // 2])], a=data, v=spread, u=held)
 
     def tie_parts(self, one, data, taken, marks):
         """The calls that go by the entries of ties, as what is made of them asks for."""
@@ -639,7 +650,8 @@ class Batch:
             self.fill(taken, spread, data, rows, self.pick([0, 1, 5, 64, 300]), None if s < 100 else [self.pick(FILLERS)])
             self.reduce(taken, spread, data, rows)
             self.call("signing::sign_rows", taken + rows, a=data, v=spread)
-            self.call("marked_words::count_marks", rows + [s], a=data)
+            self.call("marked_rows::count_marks", rows + [s], a=data)
+            self.call("marked_rows::last_marked", rows + [self.pick([0, 1, s, self.pick(NUMBERS)])], a=data)
             self.call("rows::row_of", rows + [self.pick([0, 1, 2, self.pick(NUMBERS)])], a=data, d=self.junk(40))
 
     def use(self, one, big=False):
@@ -776,7 +788,7 @@ class Batch:
         marks, spread = [rows_at(one.n) + one.b, 2 * one.b, one.b], (one.spread + [0] * 256)[:256]
         kind = self.random.randrange(6)
         if kind == 0:
-            self.call("marked_words::count_marks", marks + [s], a=data)
+            self.call("marked_rows::count_marks", marks + [s], a=data)
         elif kind == 1:
             self.call("signing::sign_values", [one.m, one.taps, one.inversion, n, s], a=data, v=spread)
         elif kind == 2:
@@ -905,7 +917,7 @@ class Batch:
             self.call("register::advance", register + [self.pick([0, self.bits(m), self.bits(64)])])
             self.call("register::holding", register + [self.bits(64)])
             self.call("register::clock_by_table", register, u=self.junk_words(1024), a=self.pick([row, self.junk(32), self.junk(33)]))
-            self.call("powers::powers", register, v=self.junk_words(576))
+            self.call("powers::powers", register + [self.pick([0, 1, 65, 575, 576, 577, self.pick(NUMBERS)])], v=self.junk_words(576))
             self.call("powers::advance_words", register, v=self.junk_words(self.pick([0, 1, 3, 20])))
 
     # ---- the elimination
@@ -983,9 +995,9 @@ class Batch:
             last, w = self.bits(m), self.bits(m)
             for to in (w, last, 0, last ^ 1, w | 1 << min(m, 63)):
                 seen = self.pick([0, self.bits(m), self.bits(m) & ~to])
-                self.call("reduced_list::is_next", [m, last, seen, to])
+                self.call("reduced_list::is_next", [seen, to])
                 self.call("reduced_list::with_highest", [seen, to])
-            self.call("reduced_list::is_next", [self.pick(NUMBERS), 0, 0, self.bits(64)])
+            self.call("reduced_list::is_next", [self.pick(NUMBERS), self.bits(64)])
             words, few = self.word_list(m), [self.bits(m) for _ in range(self.pick([0, 1, 2, 5, m]))]
             self.call("elimination::add_columns", v=self.pick([words, [1 << b for b in range(m)]]), u=few)
             for room in (0, 1, len(words), len(words) + 1, 64):
@@ -995,9 +1007,8 @@ class Batch:
                       u=self.pick([powers_of(m, self.taps(m))[:m], self.junk_words(self.pick([0, 1, 3, 63, 64, 65, 70]))]))
         self.call("elimination::unit_words", v=self.junk_words(64))
         self.call("powers::no_powers", v=self.junk_words(576))
-        for m in (1, 5, 64):
-            self.call("reduced_list::is_next", [m, 0, 0, 0])
-            self.call("reduced_list::is_next", [m, 1, 0, 1])
+        for seen, w in ((0, 0), (0, 1), (1, 1), (1, 2), (1, 3), (2, 1)):
+            self.call("reduced_list::is_next", [seen, w])
 
     # ---- plans
 
@@ -1249,6 +1260,9 @@ class Batch:
             self.call("canceller_judge", [self.pick([0, 1, self.bits(64)])], a=plan)
         elif kind == 1:
             self.call("plan_file::plan_word", [self.pick([0, 1, q, self.pick(NUMBERS)])], a=plan)
+            self.call("plan_file::check_listed", a=plan)
+            self.call("plan_file::width", a=plan)
+            self.call("plan_file::count", a=plan)
 
     # ---- the lowest crates
 
@@ -1344,6 +1358,8 @@ class Batch:
             data, w = self.junk(9), self.bits(64)
             self.call("numbers::reads", [at], a=data)
             self.call("numbers::whole_word", [at], a=data)
+            self.call("numbers::eight_bytes", [at], a=data)
+            self.call("written_numbers::put_word", [at, w], d=data)
             self.call("numbers::part", [at, ALL], a=data, d=self.junk(24))
             self.call("numbers::part", [1, at], a=data, d=self.junk(24))
             self.call("numbers::moved", [at, 8, ALL])
@@ -1360,12 +1376,17 @@ class Batch:
             self.call("word::widths", [m, self.pick([w, 1 << min(m, 63), low(m), low(m) + 1 & ALL, 0])])
             self.call("word::shared_parity", [w, self.bits(64)])
             self.call("word::word_at", [self.pick([0, 1, 4, 5, 6, self.pick(NUMBERS)])], v=self.junk_words(5))
+            self.call("written_numbers::put_32", [self.pick([0, 1, 8]), self.pick([0, 1, 9])], a=self.junk(self.pick([31, 32, 41])), d=self.junk(self.pick([31, 32, 33, 40, 50])))
+            self.call("sparse_columns::ones_pay", [self.pick([0, 1, 13, 14, 122, 123, 1006, 1023, 1024, self.pick(NUMBERS)]), self.pick([1, 8, 255, 256, 257, 65535]), self.pick([0, 1, 8, 64, 511, 512, 513])])
+            self.call("word::xor_marked", [w], v=self.junk_words(self.pick([0, 1, 5, 63, 64, 65, 80])))
             self.call("word::word_parities", [w], v=self.junk_words(self.pick([0, 1, 5, 63, 64, 65, 80])))
             data = self.junk(self.pick([0, 1, 2, 3, 7, 8, 9, 10, 16, 17]))
             at = self.pick([0, 1, len(data), max(0, len(data) - 1), max(0, len(data) - 2), max(0, len(data) - 8),
                             max(0, len(data) - 7), self.pick(NUMBERS)])
             self.call("numbers::reads", [at], a=data)
             self.call("numbers::whole_word", [at], a=data)
+            self.call("numbers::eight_bytes", [at], a=data)
+            self.call("written_numbers::put_word", [at, w], d=data)
             self.call("numbers::moved", [self.pick(NUMBERS), self.pick(NUMBERS), self.pick(NUMBERS)])
             self.call("numbers::moved", [self.random.randrange(9), self.random.randrange(9), self.random.randrange(12)])
             self.call("numbers::part", [at, self.pick([0, 1, 3, len(data), self.pick(NUMBERS)])], a=data, d=self.junk(24))
