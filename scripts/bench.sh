@@ -4,7 +4,8 @@
 # doesn't compile is an error.
 #   scripts/bench.sh               the tables, and the picture docs/growth.svg
 #   scripts/bench.sh ties          the table of sets with named cells alone
-#   scripts/bench.sh instructions  instructions of each call by valgrind's callgrind, ours and the same algorithm in Rust
+#   scripts/bench.sh growth        the tables of growth and the picture alone
+#   scripts/bench.sh instructions  instructions of each call by valgrind's callgrind: ours, the same algorithm and the best known in Rust
 #   scripts/bench.sh against FOLDER  each call beside that of another folder of this repository, in one run; `make lib` has been
 #                                  run there, and its benchmark is built as it stands there, with sets of its own layout
 set -euo pipefail
@@ -36,11 +37,13 @@ if [ "${1:-}" = instructions ]; then
     each() { # call, side
         echo $((($(count "$1" "$2" 200) - $(count "$1" "$2" 100)) / 100))
     }
-    printf '%-18s %12s %12s %8s\n' call ours 'in Rust' ratio
+    ratio() { awk "BEGIN { printf \"%.2f\", $1 / $2 }"; }
+    printf '%-18s %12s %12s %8s %12s %8s\n' call ours 'in Rust' ratio 'best known' ratio
     for call in $("$bench" --count); do
         ours=$(each "$call" ours)
         rust=$(each "$call" rust)
-        printf '%-18s %12d %12d %8s\n' "$call" "$ours" "$rust" "$(awk "BEGIN { printf \"%.2f\", $ours / $rust }")"
+        best=$(each "$call" best)
+        printf '%-18s %12d %12d %8s %12d %8s\n' "$call" "$ours" "$rust" "$(ratio "$ours" "$rust")" "$best" "$(ratio "$ours" "$best")"
     done
 elif [ "${1:-}" = ties ]; then
     "$bench" --ties
@@ -50,7 +53,9 @@ elif [ "${1:-}" = against ]; then
     cargo build --offline --release --manifest-path "$before/reference/Cargo.toml" -p bench
     "$bench" --against "$before/reference/target/release/bench"
 else
+    picture=(docs/growth.svg)
+    [ "${1:-}" != growth ] || picture=(--growth docs/growth.svg)
     build bench_m4ri m4ri/m4ri.h HAVE_M4RI "-lm4ri -lm" libm4ri-dev
     build bench_pari pari/pari.h HAVE_PARI "-lpari -lm" libpari-dev
-    "$bench" docs/growth.svg
+    "$bench" "${picture[@]}"
 fi

@@ -22,7 +22,8 @@ use Rattle.rows.specs.Row.{cell}
 use Rattle.rows.specs.Marks.{listed, total, markedWords, bits}
 use Rattle.marked_words.specs.Back.{back}
 use Rattle.marked_words.proofs.BackLaws.{rest, joined-rest, joined-none, rest-ext, rest-none, rest-whole, rest-add, rest-joined, joined-stops, back-fits, back-none, back-length, back-more, back-more-room}
-use Rattle.rows.proofs.DigitLaws.{digit-mod, digit-past, word-cell, Lowest, below-lowest, above-lowest, lowest-gone}
+use Rattle.word.proofs.LowestLaws.{digit-mod, digit-past, Lowest, below-lowest, above-lowest, lowest-gone}
+use Rattle.rows.proofs.DigitLaws.{word-cell}
 use Rattle.marked_rows.proofs.CountLaws.{total-digits}
 use Rattle.rows.proofs.MarkLaws.{length-listed}
 

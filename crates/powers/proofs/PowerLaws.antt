@@ -21,7 +21,7 @@ use Rattle.chains.proofs.Laws.{times-chosen, driven-none, driven-suc}
 use Rattle.signatures.specs.Later.{later}
 use Rattle.rows.specs.Marks.{bits}
 use Rattle.powers.specs.Powers.{fromPowers}
-use Rattle.rows.proofs.DigitLaws.{digit-past}
+use Rattle.word.proofs.LowestLaws.{digit-past}
 
 -- ---- clocks with all cells 0
 

@@ -57,7 +57,7 @@ spare-rows-none n l count e =
 
 -- ---- a bit in common
 
-or-not-zero : (a b : ℕ) → not (eqb (bitOr a b) 0) ≡ (not (eqb a 0) || not (eqb b 0))
+pub or-not-zero : (a b : ℕ) → not (eqb (bitOr a b) 0) ≡ (not (eqb a 0) || not (eqb b 0))
 or-not-zero a b = same-failures _ _ left right
   where
     left : not (eqb (bitOr a b) 0) ≡ false → (not (eqb a 0) || not (eqb b 0)) ≡ false

@@ -1,6 +1,11 @@
 // Rows of cells: a slice's cells, eight to a byte, and lists of rows. It sees words and numbers; it knows no register and no file.
-// Every function is total.
+// Every public function is total but `pairs_share_a_bit`, whose caller has the rows' bound.
 ghost use mathlib.Core.Path.{_≡_};
+ghost use Prim.Native.Nat.{_+_, _*_, _≤_};
+ghost use lib.Bits.{bitAnd, bitOr};
+ghost use lib.ListN.{length, take, drop};
+ghost use Rattle.word.specs.Some.{anyBelow};
+ghost use Rattle.numbers.specs.Bytes.{wordAt};
 ghost use Rattle.rows.specs.Row.{rowBytes, cell, spareSet};
 ghost use Rattle.rows.specs.Lists.{listRow, rowOf, sharesBit, spareIn};
 
@@ -87,4 +92,33 @@ pub fn share_a_bit(values: &[u8], marks: &[u8]) -> bool
         i += 1;
     }
     shared != 0
+}
+
+// Of two rows of 32 bytes, the one from place `at` on and the other behind it: what the first words share, and the third ones. At 8 bytes
+// more it is the second and the fourth ones.
+fn shared_words(list: &[u8], at: usize) -> u64
+    requires { ⌜ at + 56 ≤ length (now list) ⌝ }
+    ensures { λ r. ⌜ r ≡ bitOr (bitAnd (wordAt (now (list .entry)) at) (wordAt (now (list .entry)) (at + 32))) (bitAnd (wordAt (now (list .entry)) (at + 16)) (wordAt (now (list .entry)) (at + 48))) ⌝ }
+{
+    (numbers::eight_bytes(list, at) & numbers::eight_bytes(list, at + 32))
+        | (numbers::eight_bytes(list, at + 16) & numbers::eight_bytes(list, at + 48))
+}
+
+// Whether one of `count` pairs of rows of 32 bytes, one after the other from place `from` on, has a bit in common. What they share is
+// gathered in two words, which a register of 16 bytes holds, and asked about once, at the end.
+pub fn pairs_share_a_bit(list: &[u8], from: usize, count: u16) -> bool
+    requires { ⌜ from + 64 * count ≤ length (now list) ⌝ }
+    ensures { λ r. ⌜ r ≡ anyBelow count (λ t. sharesBit (take 32 (drop (from + 64 * t) (now (list .entry)))) (take 32 (drop (from + 64 * t + 32) (now (list .entry))))) ⌝ }
+{
+    let mut at = from;
+    let mut even = 0u64;
+    let mut odd = 0u64;
+    let mut t: u16 = 0;
+    while t < count {
+        even = even | shared_words(list, at);
+        odd = odd | shared_words(list, at + 8);
+        at += 64;
+        t += 1;
+    }
+    (even | odd) != 0
 }

@@ -6,6 +6,7 @@ use Prim.Native.Nat.{ℕ, suc, _+_, _-_, _*_, _≤_, _<_}
 use native.Mathlib.Nat.{mul-add, mul-one, mul-zero}
 use native.Mathlib.Numerals.{add-one}
 use native.Mathlib.Omega.{arith}
+use lib.Bits.{bitOr}
 use lib.Dec.{eqb, ltb}
 use lib.ListN.{length, getD, take, drop, length-drop}
 use lib.Seq.{take-all}
@@ -16,11 +17,13 @@ use Rattle.rows.specs.declared.Rows.{Rows}
 use Rattle.ties.specs.Ties.{mostTies, tiesIn, tieTests}
 use Rattle.ties.proofs.EntryLaws.{tie-tests-none, tie-tests-marks}
 use Rattle.chains.specs.Driven.{badSpread}
-use Rattle.chains.proofs.Laws.{bad-spread-turn, bad-spread-ended}
+use Rattle.chains.proofs.Laws.{folded-starts, folded-turns, folded-ends}
 use Rattle.set_layout.specs.Layout.{spreadAt, rowsAt, setLength, widthOf, chainsOf, spreadOf, slicesOf, valueAt, markAt, valueRow, markRow, marks, tieCountOf, tieBytes, tiesOf}
 use Rattle.set_file.specs.Reading.{wrongLength, spareInRows, valuedInRows}
 use Rattle.rows.specs.Lists.{cellsOf, sharesBit}
 use Rattle.word.proofs.RangeLaws.{none-passed, one-passed, one-found, all-passed}
+use Rattle.word.proofs.SomeLaws.{any-below-ext}
+use Rattle.rows.proofs.PairLaws.{PairMeets}
 use Rattle.rows.proofs.RowLaws.{SpareRow, spare-rows-none}
 use Rattle.set_layout.proofs.SliceLaws.{rowsOf, slice-inside, mark-rows-row}
 use Rattle.set_file.proofs.RowTests.{length-fits, spare-of-rows, valued-of-bytes}
@@ -29,32 +32,32 @@ use Rattle.numbers.specs.Bytes.{wordAt, wordsAt}
 use Rattle.numbers.proofs.FileLaws.{word-at-place}
 use Rattle.numbers.proofs.ByteLaws.{length-words-at}
 
--- ---- number 6: the spread words before c aren't bad, so that those from c on decide
+-- ---- number 6: one of the spread words before c is 0 (`none`) or has a bit at or above m, as their OR (`seen`) then has, or those from c
+-- on decide
 
-abbrev pub Sought : List ℕ → ℕ → ℕ → ℕ → Type 0
-Sought set m n c = (c ≤ n) × (badSpread m (drop c (wordsAt set spreadAt n)) ≡ badSpread m (wordsAt set spreadAt n))
+abbrev pub Folded : List ℕ → ℕ → ℕ → ℕ → Bool → ℕ → Type 0
+Folded set m n seen none c =
+    (c ≤ n) × (((none || beyond m seen) || badSpread m (drop c (wordsAt set spreadAt n))) ≡ badSpread m (wordsAt set spreadAt n))
 
-sought-turn : (set : List ℕ) (m n c w : ℕ) (r b : Bool) → Sought set m n c → c < n → w ≡ wordAt set (spreadAt + 8 * c) → r ≡ (eqb w 0 || beyond m w)
-    → r ≡ b → (b || badSpread m (drop (suc c) (wordsAt set spreadAt n))) ≡ badSpread m (wordsAt set spreadAt n)
-sought-turn set m n c w r b i l e h g =
-    bad-spread-turn m (wordsAt set spreadAt n) c b (omega (arith, l, length-words-at set spreadAt n)) (i .1)
-    (ap (λ (x : ℕ). eqb x 0 || beyond m x) (word-at-place set spreadAt n c l ∙ sym e) ∙ sym h ∙ g)
+pub folded-start : (set : List ℕ) (m n : ℕ) → Folded set m n 0 false 0
+folded-start set m n = (omega arith, folded-starts m (wordsAt set spreadAt n))
 
-pub sought-found : (set : List ℕ) (m n c w : ℕ) (r : Bool) → m ≡ widthOf set → n ≡ chainsOf set → Sought set m n c → c < n → w ≡ wordAt set (spreadAt + 8 * c)
-    → r ≡ (eqb w 0 || beyond m w) → r ≡ true → true ≡ badSpread (widthOf set) (spreadOf set)
-sought-found set m n c w r em en i l e h g =
-    sought-turn set m n c w r true i l e h g ∙ ap₂ (λ (x y : ℕ). badSpread x (wordsAt set spreadAt y)) em en
+pub folded-turn : (set : List ℕ) (m n seen : ℕ) (none : Bool) (c w : ℕ) → Folded set m n seen none c → c < n → w ≡ wordAt set (spreadAt + 8 * c)
+    → Folded set m n (bitOr seen w) (none || eqb w 0) (c + 1)
+folded-turn set m n seen none c w i l e =
+    let word : getD (wordsAt set spreadAt n) c 0 ≡ w = word-at-place set spreadAt n c l ∙ sym e in (
+      omega (arith, l),
+      ap
+          (λ (x : ℕ). ((none || eqb x 0) || beyond m (bitOr seen x)) || badSpread m (drop (c + 1) (wordsAt set spreadAt n)))
+          (sym word)
+          ∙ folded-turns m (wordsAt set spreadAt n) none seen c (omega (arith, l, length-words-at set spreadAt n)) (i .1),
+    )
 
-pub sought-next : (set : List ℕ) (m n c w : ℕ) (r : Bool) → Sought set m n c → c < n → w ≡ wordAt set (spreadAt + 8 * c) → r ≡ (eqb w 0 || beyond m w)
-    → r ≡ false → Sought set m n (c + 1)
-sought-next set m n c w r i l e h g = (
-  omega (arith, l),
-  ap (λ (x : ℕ). badSpread m (drop x (wordsAt set spreadAt n))) (add-one c) ∙ sought-turn set m n c w r false i l e h g,
-)
-
-pub sought-none : (set : List ℕ) (m n c : ℕ) → m ≡ widthOf set → n ≡ chainsOf set → Sought set m n c → n ≤ c → false ≡ badSpread (widthOf set) (spreadOf set)
-sought-none set m n c em en i l =
-    bad-spread-ended m (wordsAt set spreadAt n) c (omega (arith, l, length-words-at set spreadAt n)) (i .1)
+pub folded-end : (set : List ℕ) (m n seen : ℕ) (none : Bool) (c : ℕ) (r : Bool) → m ≡ widthOf set → n ≡ chainsOf set → Folded set m n seen none c → n ≤ c
+    → r ≡ beyond m seen → (none || r) ≡ badSpread (widthOf set) (spreadOf set)
+folded-end set m n seen none c r em en i l e =
+    ap (λ (b : Bool). none || b) e
+    ∙ folded-ends m (wordsAt set spreadAt n) none seen c (omega (arith, l, length-words-at set spreadAt n)) (i .1)
     ∙ ap₂ (λ (x y : ℕ). badSpread x (wordsAt set spreadAt y)) em en
 
 -- ---- number 8
@@ -140,6 +143,27 @@ module _ (set : List ℕ) (small : (i : ℕ) → getD set i 0 < 256) where
   pub valued-none : (t at s : ℕ) → Unshared set t at → s ≡ slicesOf set → t ≡ s → Valued set false
   valued-none t at s u es e long clean =
       all-passed (SharedIn set) (slicesOf set) t (u .none) (e ∙ es) ∙ valued-of-bytes set clean (length-fits set long) small
+
+  -- rows of 32 bytes, compared by words
+  pub valued-pairs : (n s at bytes : ℕ) (r : Bool) → n ≡ chainsOf set → s ≡ slicesOf set → at ≡ rowsAt n → bytes ≡ rowBytes n → bytes ≡ 32
+      → r ≡ anyBelow s (PairMeets set at) → Valued set r
+  unfolding valueRow markRow
+  valued-pairs n s at bytes r en es ea eb wide er long clean =
+      er
+      ∙ any-below-ext s (PairMeets set at) (SharedIn set)
+      (λ t l. ap₂ sharesBit (ap₂ (λ (k i : ℕ). take k (drop i set)) (sym width) (value t)) (ap₂ (λ (k i : ℕ). take k (drop i set)) (sym width) (mark t)))
+      ∙ ap (λ (k : ℕ). anyBelow k (SharedIn set)) es ∙ valued-of-bytes set clean (length-fits set long) small
+    where
+      width : rowBytes (chainsOf set) ≡ 32
+      width = ap rowBytes (sym en) ∙ sym eb ∙ wide
+
+      value : (t : ℕ) → at + 64 * t ≡ valueAt (chainsOf set) t
+      value t =
+          let place : at ≡ rowsAt (chainsOf set) = ea ∙ ap rowsAt en in
+          sym (ap (λ (b : ℕ). rowsAt (chainsOf set) + 2 * b * t) width ∙ omega (arith, place))
+
+      mark : (t : ℕ) → at + 64 * t + 32 ≡ markAt (chainsOf set) t
+      mark t = ap₂ (λ (x y : ℕ). x + y) (value t) (sym width)
 
 -- ---- numbers 29 to 31
 

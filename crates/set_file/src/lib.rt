@@ -1,7 +1,8 @@
 // The set file of document 01: the tests of its parts, 1 to 10, 25 and 29 to 31, and its reader. It sees where the parts stand (`set_layout`); the
-// rows of one slice and the writer are crates above it. Every function is total.
+// rows of one slice and the writer are crates above it. Every public function is total.
 ghost use mathlib.Core.Path.{_≡_};
 ghost use mathlib.Core.Bool.{false, not, _||_};
+ghost use Prim.Native.Nat.{_≤_};
 ghost use lib.Dec.{eqb, ltb};
 ghost use lib.ListN.{length};
 ghost use Rattle.word.specs.Word.{badWidth};
@@ -80,24 +81,25 @@ fn ends_in_spread(set: &[u8]) -> bool
     set.len() < set_layout::slices_at(set_layout::chain_count(set))
 }
 
-// Number 6: whether a spread word is zero or has a bit at or above m.
+// Number 6, for a set that doesn't end before its last spread word: whether a spread word is zero or has a bit at or above m. The words
+// are looked at together: one has a bit there exactly when the OR of all has.
 fn has_bad_spread(set: &[u8]) -> bool
+    requires { ⌜ slicesAt (chainsOf (now set)) ≤ length (now set) ⌝ }
     ensures { λ r. ⌜ r ≡ badSpread (widthOf (now (set .entry))) (spreadOf (now (set .entry))) ⌝ }
 {
     let m = set_layout::register_width(set);
     let n = set_layout::chain_count(set);
+    let mut seen = 0u64;
+    let mut none = false;
     let mut c: u16 = 0;
     while c < n {
         let chain = c as usize;
-        if chains::is_bad_spread_word(
-            m,
-            numbers::read_word(set, set_layout::SPREAD_AT + 8 * chain),
-        ) {
-            return true;
-        }
+        let w = numbers::eight_bytes(set, set_layout::SPREAD_AT + 8 * chain);
+        seen = seen | w;
+        none = none | (w == 0);
         c += 1;
     }
-    false
+    none | word::is_beyond(m, seen)
 }
 
 // Number 7: whether the slice count is absent or above 512.
@@ -128,9 +130,8 @@ fn has_spare_bits(set: &[u8]) -> bool
     rows::has_spare_row(n as usize, &set[at..], rows)
 }
 
-// Number 10, for a set of the right length in which no spare bit is set: whether an unknown cell has its value bit set. Whole
-// bytes are compared.
-fn has_valued_unknown(set: &[u8]) -> bool
+// The same as `has_valued_unknown`, for rows of any length. Whole bytes are compared.
+fn finds_valued_unknown(set: &[u8]) -> bool
     ensures { λ r. ⌜ (wrongLength (now (set .entry)) ≡ false → spareInRows (now (set .entry)) ≡ false → r ≡ valuedInRows (now (set .entry))) ⌝ }
 {
     let n = set_layout::chain_count(set);
@@ -151,6 +152,24 @@ fn has_valued_unknown(set: &[u8]) -> bool
         t += 1;
     }
     false
+}
+
+// Number 10, for a set of the right length in which no spare bit is set: whether an unknown cell has its value bit set. Rows of 32
+// bytes are compared by words.
+fn has_valued_unknown(set: &[u8]) -> bool
+    ensures { λ r. ⌜ (wrongLength (now (set .entry)) ≡ false → spareInRows (now (set .entry)) ≡ false → r ≡ valuedInRows (now (set .entry))) ⌝ }
+{
+    let n = set_layout::chain_count(set);
+    let s = set_layout::slice_count(set);
+    let at = set_layout::rows_at(n);
+    let slices = s as usize;
+    if rows::row_bytes(n as usize) != 32 {
+        return finds_valued_unknown(set);
+    }
+    if set.len() < at + 64 * slices {
+        return finds_valued_unknown(set);
+    }
+    rows::pairs_share_a_bit(set, at, s)
 }
 
 // The first of 29, 30 and 31 that applies to the set's first `count` ties; 0 where none does. A set without an entry is done at once.

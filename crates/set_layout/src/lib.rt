@@ -1,9 +1,9 @@
 // The set file of document 01: where each of its parts stands, and the parts before and behind its rows, as the set gives them. It sees
-// numbers, rows, ties and the register's limits; it knows no refusal. A part past the end of the set counts as 0. Every function is
-// total.
+// numbers, rows, ties and the register's limits; it knows no refusal. A part past the end of the set counts as 0. Every public
+// function is total.
 ghost use mathlib.Core.Path.{_≡_};
 ghost use Prim.Native.Nat.{_*_, _≤_};
-ghost use lib.ListN.{take};
+ghost use lib.ListN.{length, take};
 ghost use Rattle.word.specs.Reply.{front};
 ghost use Rattle.numbers.specs.Bytes.{countAt};
 ghost use Rattle.rows.specs.Row.{rowBytes};
@@ -138,8 +138,23 @@ pub fn no_words() -> [u64; 256]
     [0u64; 256]
 }
 
-// The first 256 spread words, as the set gives them, and zeros after them.
-pub fn spread_words(set: &[u8]) -> [u64; 256]
+// The same as `spread_words`, for a set of at most 256 chains whose spread words are all there.
+fn whole_spread_words(set: &[u8]) -> [u64; 256]
+    requires { ⌜ (chainsOf (now set) ≤ 256) × (slicesAt (chainsOf (now set)) ≤ length (now set)) ⌝ }
+    ensures { λ r. ⌜ r ≡ front (take 256 (spreadOf (now (set .entry)))) noWords ⌝ }
+{
+    let n = chain_count(set) as usize;
+    let mut words = no_words();
+    let mut c = 0;
+    while c < n {
+        words[c] = numbers::eight_bytes(set, SPREAD_AT + 8 * c);
+        c += 1;
+    }
+    words
+}
+
+// The same as `spread_words`, for every set.
+fn spread_words_there(set: &[u8]) -> [u64; 256]
     ensures { λ r. ⌜ r ≡ front (take 256 (spreadOf (now (set .entry)))) noWords ⌝ }
 {
     let n = chain_count(set) as usize;
@@ -153,6 +168,20 @@ pub fn spread_words(set: &[u8]) -> [u64; 256]
         c += 1;
     }
     words
+}
+
+// The first 256 spread words, as the set gives them, and zeros after them.
+pub fn spread_words(set: &[u8]) -> [u64; 256]
+    ensures { λ r. ⌜ r ≡ front (take 256 (spreadOf (now (set .entry)))) noWords ⌝ }
+{
+    let n = chain_count(set);
+    if register::Register::LARGEST_CHAINS < n as u64 {
+        return spread_words_there(set);
+    }
+    if set.len() < slices_at(n) {
+        return spread_words_there(set);
+    }
+    whole_spread_words(set)
 }
 
 // The value rows of a set of n chains.

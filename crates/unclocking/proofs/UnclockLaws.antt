@@ -27,7 +27,7 @@ use Rattle.chains.proofs.Laws.{chosen-lt, chosen-xor}
 use Rattle.register.specs.Circuit.{Circuit, circuit, advanced}
 use Rattle.register.proofs.Laws.{advanced-xor, advanced-zero, advanced-lt, advanced-one-to-one}
 use Rattle.signatures.specs.Later.{later}
-use Rattle.rows.proofs.DigitLaws.{digit-past}
+use Rattle.word.proofs.LowestLaws.{digit-past}
 use Rattle.unclocking.specs.Unclocked.{beforeOne, unclocked, earlier, EightBack}
 
 -- the highest bit of a register as a word

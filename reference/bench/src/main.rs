@@ -1,13 +1,15 @@
-//! The benchmark: one table of every call, ours beside the same algorithm in Rust, the straightforward one, and M4RI and PARI where
-//! they are installed; planning and the expected bits also beside other calls of ours that do the same, or most of it. A second table
-//! of how listing and planning grow, drawn as a picture.
+//! The benchmark: one table of every call, ours beside the same algorithm in Rust, the best that we know there, the straightforward one, and
+//! M4RI and PARI where they are installed; planning and the expected bits also beside other calls of ours that do the same, or most of it.
+//! Then tables of how listing, planning and the elimination grow, drawn as a picture.
 //!
-//! `bench` prints the tables, `bench PICTURE` also writes the picture, `bench --ties` prints the table of sets with named cells alone.
-//! `bench --count CALL SIDE TIMES` makes one call so many times and nothing else, for counting instructions; SIDE is `ours`, `rust`,
-//! `plain` or the name of another way, CALL a name of its list or a row of a table (`row_by_parts`). `bench --against OTHER` times these
-//! calls beside those of another folder's bench, whose program OTHER is (`against.rs`).
+//! `bench` prints the tables, `bench PICTURE` also writes the picture, `bench --growth PICTURE` does so for the tables of growth alone,
+//! `bench --ties` prints the table of sets with named cells alone. `bench --count CALL SIDE TIMES` makes one call so many times and nothing
+//! else, for counting instructions; SIDE is `ours`, `rust`, `best`, `plain` or the name of another way, CALL a name of its list or a row of a
+//! table (`row_by_parts`). `bench --against OTHER` times these calls beside those of another folder's bench, whose program OTHER is
+//! (`against.rs`).
 
 mod against;
+mod best;
 mod growth;
 mod others;
 mod ours;
@@ -69,7 +71,7 @@ fn names() -> [&'static str; COUNTED.len()] {
     COUNTED.map(|(name, _)| name)
 }
 
-/// A row of a table, as `planning-500-10`: the call, the unknown cells and the rank; or of a small set, as `sample-plan`; or with ties, as
+/// A row of a table, as `planning-500-10`: the call, the unknown cells, or columns, and the rank; or of a small set, as `sample-plan`; or with ties, as
 /// `tied-planning-512-4096-40-16`: the call, the slices, the unknown cells, the rank and the named symbols.
 fn row_by_parts(call: &str) -> Row {
     let parts: Vec<&str> = call.split('-').collect();
@@ -92,6 +94,7 @@ fn row_by_parts(call: &str) -> Row {
         "planning" => rows::planning(512, unknowns, rank, 1),
         "words" => rows::wording(512, unknowns, rank, 1),
         "cutting" => rows::cutting(512, unknowns, rank, 8, 1),
+        "elimination" => rows::elimination(unknowns, rank, 1),
         _ => panic!("CALL"),
     }
 }
@@ -105,6 +108,7 @@ fn name_of(side: &Side) -> &'static str {
     match side {
         Side::Ours => "ours",
         Side::Same => "rust",
+        Side::Best => "best",
         Side::Plain => "plain",
         Side::Other(name) | Side::Parts(name) => name,
     }
@@ -130,15 +134,21 @@ fn main() {
         ["--count", ..] => return counted(&words[1..]),
         ["--serve", call] => return against::serve(row_of(call)),
         ["--ties"] => return tied::print_all(),
+        ["--growth", picture] => return grown(Some(picture)),
         ["--against", other] => return against::print_all(other, &names()),
         _ => {}
     }
-    println!("| Call | Size | Gives | Ours | Same algorithm in Rust | Straightforward | Others |");
-    println!("|---|---|---|---|---|---|---|");
+    println!("| Call | Size | Gives | Ours | Same algorithm in Rust | Best known in Rust | Straightforward | Others |");
+    println!("|---|---|---|---|---|---|---|---|");
     rows::print_all();
     tied::print_all();
-    let lines = growth::print_all();
-    if let Some(path) = words.first() {
-        std::fs::write(path, growth::picture(&lines)).unwrap_or_else(|e| panic!("{path}: {e}"));
+    grown(words.first().copied());
+}
+
+/// Prints the tables of growth, and draws them where a path is given.
+fn grown(path: Option<&str>) {
+    let growth = growth::print_all();
+    if let Some(path) = path {
+        std::fs::write(path, growth::picture(&growth)).unwrap_or_else(|e| panic!("{path}: {e}"));
     }
 }

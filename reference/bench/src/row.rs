@@ -13,6 +13,8 @@ pub type Call = Box<dyn FnMut(usize, bool) -> Option<Answer>>;
 pub enum Side {
     Ours,
     Same,
+    /// The fastest that we know in Rust.
+    Best,
     Plain,
     Other(&'static str),
     /// Other calls of ours that do what the call does, or the better part of it.
@@ -99,9 +101,12 @@ impl Row {
         let times = self.times();
         let (_, ours) = &times[0];
         let by = |wanted: Side| times.iter().find(|(side, _)| *side == wanted);
-        let same = by(Side::Same).map_or("–".to_string(), |(_, t)| {
-            format!("{} ({})", t.shown(), ratio(&ours.over(t)))
-        });
+        let in_rust = |side: Side| {
+            by(side).map_or("–".to_string(), |(_, t)| {
+                format!("{} ({})", t.shown(), ratio(&ours.over(t)))
+            })
+        };
+        let (same, best) = (in_rust(Side::Same), in_rust(Side::Best));
         let theirs = |t: &Times| format!("{} ({} ×)", t.shown(), ratio(&t.over(ours)));
         let plain = by(Side::Plain).map_or("–".to_string(), |(_, t)| theirs(t));
         let others = times.iter().filter_map(|(side, t)| match side {
@@ -114,7 +119,7 @@ impl Row {
         });
         let others = others.collect::<Vec<String>>().join(", ");
         println!(
-            "| {} | {} | {gives} | {} | {same} | {plain} | {others} |",
+            "| {} | {} | {gives} | {} | {same} | {best} | {plain} | {others} |",
             self.call,
             self.size,
             ours.shown()

@@ -5,8 +5,8 @@ use crate::row::{put, Row, Side};
 use crate::same::cutting::{cut, restart_and_cut};
 use crate::same::elimination::eliminate;
 use crate::same::response::*;
-use crate::same::set::{clock, mark_row, read_set, value_row, write_set};
-use crate::{ours, plain, same};
+use crate::same::set::{clock, mark_row, read_set, value_row, write_set, Read};
+use crate::{best, ours, plain, same};
 use reference::library::{Answer, CPlanned, CStretch, CWorded};
 use reference::random::*;
 use reference::second::set::Content;
@@ -51,7 +51,15 @@ pub fn listing(s: usize, unknowns: usize, rank: usize, inputs: usize) -> Row {
     let sets = sets(1, s, unknowns, rank, inputs);
     let read = plain_sets(sets);
     let mut columns = vec![0; 131_072];
-    let mut other = vec![0; 131_072];
+    let in_rust = |call: fn(&[u8], &mut [u64]) -> Result<usize, u64>| {
+        let mut columns = vec![0; 131_072];
+        move |i: usize, ask: bool| {
+            let listed = black_box(call(&sets[i], &mut columns));
+            put(ask, listed.err().unwrap_or(0), || {
+                columns[..listed.unwrap()].to_vec()
+            })
+        }
+    };
     Row::new("listing columns", format!("{unknowns} unknowns"), inputs)
         .side(Side::Ours, move |i, ask| {
             let listed = black_box(ours::list_columns(&sets[i], &mut columns));
@@ -59,12 +67,8 @@ pub fn listing(s: usize, unknowns: usize, rank: usize, inputs: usize) -> Row {
                 columns[..listed.count as usize].to_vec()
             })
         })
-        .side(Side::Same, move |i, ask| {
-            let listed = black_box(list_columns(&sets[i], &mut other));
-            put(ask, listed.err().unwrap_or(0), || {
-                other[..listed.unwrap()].to_vec()
-            })
-        })
+        .side(Side::Same, in_rust(list_columns))
+        .side(Side::Best, in_rust(best::columns::list_columns))
         .side(Side::Plain, move |i, ask| {
             let columns = black_box(read[i].columns());
             put(ask, 0, || columns)
@@ -101,17 +105,17 @@ fn listed_words(set: &[u8], columns: &mut [u64], words: &mut [u64]) -> (u64, u64
     (e.q, e.refusal)
 }
 
-/// The sets, and the row of such a call by ours, whose answer `numbers` puts into words, by the same algorithm in Rust, and in Rust by
-/// listing all columns.
+/// The sets, and the row of such a call by ours, whose answer `numbers` puts into words, by the same algorithm in Rust, the best that we know
+/// there, and in Rust by listing all columns.
 fn making_words<A: Answer + 'static, const N: usize>(
     call: &'static str,
     (s, unknowns, rank, inputs): (usize, usize, usize, usize),
     ours: (MakesWords<A>, fn(A) -> [u64; N]),
-    same: [MakesWords<Result<[u64; N], u64>>; 2],
+    same: [MakesWords<Result<[u64; N], u64>>; 3],
 ) -> (Files, Row) {
     let sets = sets(2, s, unknowns, rank, inputs);
     let (mut working, mut words) = ([0; 64], [0; 64]);
-    let [same, listing] = same;
+    let [same, best, listing] = same;
     let in_rust = |call: MakesWords<Result<[u64; N], u64>>, places: usize| {
         let (mut list, mut words) = (vec![0; places], [0; 64]);
         move |i: usize, ask: bool| {
@@ -126,6 +130,7 @@ fn making_words<A: Answer + 'static, const N: usize>(
             put(ask, p.refusal(), || of_plan(&numbers(p), &words))
         })
         .side(Side::Same, in_rust(same, 64))
+        .side(Side::Best, in_rust(best, 64))
         .side(
             Side::Other("same, listing all columns"),
             in_rust(listing, 131_072),
@@ -136,7 +141,7 @@ fn making_words<A: Answer + 'static, const N: usize>(
 /// Planning sets of s slices; also by its two calls in a row, and by listing all columns, which reads the set once more.
 pub fn planning(s: usize, unknowns: usize, rank: usize, inputs: usize) -> Row {
     let size = (s, unknowns, rank, inputs);
-    let same = [plan, list_and_plan];
+    let same = [plan, best::words::plan, list_and_plan];
     let (sets, row) = making_words("planning", size, (ours::plan, planned), same);
     let (mut working, mut words) = ([0; 64], [0; 64]);
     let (mut columns, mut others) = (vec![0; 131_072], [0; 64]);
@@ -174,7 +179,7 @@ const LISTING: &str = "the way that lists all columns";
 /// cells of full rank.
 pub fn wording(s: usize, unknowns: usize, rank: usize, inputs: usize) -> Row {
     let (size, worded) = ((s, unknowns, rank, inputs), |w: CWorded| [w.m, w.q]);
-    let same = [plan_words, list_and_word];
+    let same = [plan_words, best::words::plan_words, list_and_word];
     let (sets, row) = making_words("words", size, (ours::plan_words, worded), same);
     let (mut columns, mut others) = (vec![0; 131_072], [0; 64]);
     row.side(Side::Plain, move |i, ask| {
@@ -220,6 +225,7 @@ pub fn cutting(s: usize, unknowns: usize, rank: usize, k: u64, inputs: usize) ->
         put(ask, c.refusal, || of_cut(c.runs, c.bits, &cuts))
     })
     .side(Side::Same, in_rust(cut))
+    .side(Side::Best, in_rust(best::cutting::cut))
     .side(Side::Plain, move |i, ask| {
         let cuts = black_box(plain::read_set(&sets[i]).unwrap().cut(k as usize));
         put(ask, *cuts.as_ref().err().unwrap_or(&0), || {
@@ -238,11 +244,23 @@ fn large() -> (&'static Content, &'static Vec<u8>, &'static Vec<u8>) {
     (content, kept(file_of(content)), kept(record(r, 256, 512)))
 }
 
+type ReadsSet = fn(&[u8]) -> Result<(Read, [u64; 256]), u64>;
+
 pub fn reader() -> Row {
     let (_, set, _) = large();
     let all = |numbers: [u64; 5], spread: &[u64]| {
         let [.., n, _] = numbers;
         [&numbers, &spread[..n as usize]].concat()
+    };
+    let in_rust = |call: ReadsSet| {
+        move |_: usize, ask: bool| {
+            let read = black_box(call(black_box(set)));
+            put(ask, read.err().unwrap_or(0), || {
+                let (read, spread) = read.unwrap();
+                let (n, s) = (read.n as u64, read.s as u64);
+                all([read.m, read.taps, read.inversion, n, s], &spread)
+            })
+        }
     };
     Row::new("set reader", "34,840 bytes".into(), 1)
         .side(Side::Ours, move |_, ask| {
@@ -252,14 +270,8 @@ pub fn reader() -> Row {
                 all(numbers, &read.spread)
             })
         })
-        .side(Side::Same, move |_, ask| {
-            let read = black_box(read_set(black_box(set)));
-            put(ask, 0, || {
-                let (read, spread) = read.unwrap();
-                let (n, s) = (read.n as u64, read.s as u64);
-                all([read.m, read.taps, read.inversion, n, s], &spread)
-            })
-        })
+        .side(Side::Same, in_rust(read_set))
+        .side(Side::Best, in_rust(best::set::read_set))
         .side(Side::Plain, move |_, ask| {
             let read = black_box(plain::read_set(black_box(set)));
             put(ask, 0, || {
@@ -270,27 +282,35 @@ pub fn reader() -> Row {
         })
 }
 
-type Place = Result<(usize, usize), u64>;
+type FindsRow = fn(&[u8], u64) -> Result<(usize, usize), u64>;
 
 /// A row call: value_row or mark_row.
 pub fn stretch(marks: bool) -> Row {
     let (_, set, _) = large();
-    let (name, one, other): (_, fn(&[u8], u64) -> CStretch, fn(&[u8], u64) -> Place) = match marks {
-        false => ("value row", ours::value_row, value_row),
-        true => ("mark row", ours::mark_row, mark_row),
+    let (name, one): (_, fn(&[u8], u64) -> CStretch) = match marks {
+        false => ("value row", ours::value_row),
+        true => ("mark row", ours::mark_row),
+    };
+    let (same, best): (FindsRow, FindsRow) = match marks {
+        false => (value_row, best::set::value_row),
+        true => (mark_row, best::set::mark_row),
+    };
+    let in_rust = |call: FindsRow| {
+        move |i: usize, ask: bool| {
+            let at = black_box(call(black_box(set), i as u64));
+            put(ask, at.err().unwrap_or(0), || {
+                let (start, length) = at.unwrap();
+                vec![start as u64, length as u64]
+            })
+        }
     };
     Row::new(name, "34,840 bytes".into(), 512)
         .side(Side::Ours, move |i, ask| {
             let at = black_box(one(black_box(set), i as u64));
             put(ask, at.refusal, || vec![at.start, at.length])
         })
-        .side(Side::Same, move |i, ask| {
-            let at = black_box(other(black_box(set), i as u64));
-            put(ask, at.err().unwrap_or(0), || {
-                let (start, length) = at.unwrap();
-                vec![start as u64, length as u64]
-            })
-        })
+        .side(Side::Same, in_rust(same))
+        .side(Side::Best, in_rust(best))
         .side(Side::Plain, move |i, ask| {
             let set = black_box(plain::read_set(black_box(set))).unwrap();
             let start = 22 + 8 * set.spread.len() + set.b * (2 * i + usize::from(marks));
@@ -301,15 +321,19 @@ pub fn stretch(marks: bool) -> Row {
 pub fn signature() -> Row {
     let (_, set, record) = large();
     let read = plain::read_set(set).unwrap();
+    let in_rust = |call: fn(&[u8], &[u8]) -> Result<u64, u64>| {
+        move |_: usize, ask: bool| {
+            let signed = black_box(call(set, black_box(record)));
+            put(ask, signed.err().unwrap_or(0), || vec![signed.unwrap()])
+        }
+    };
     Row::new("a record's signature", "131,072 cells, half 1".into(), 1)
         .side(Side::Ours, move |_, ask| {
             let signed = black_box(ours::sign(set, black_box(record)));
             put(ask, signed.refusal, || vec![signed.signature])
         })
-        .side(Side::Same, move |_, ask| {
-            let signed = black_box(sign(set, black_box(record)));
-            put(ask, signed.err().unwrap_or(0), || vec![signed.unwrap()])
-        })
+        .side(Side::Same, in_rust(sign))
+        .side(Side::Best, in_rust(best::response::sign))
         .side(Side::Plain, move |_, ask| {
             let signed = black_box(read.signature(black_box(record), 32));
             put(ask, 0, || vec![signed])
@@ -323,35 +347,47 @@ fn bytes(out: &[u8]) -> Vec<u64> {
 
 pub fn set_writer() -> Row {
     let (content, _, _) = large();
-    let (mut out, mut other) = (vec![0; 34_840], vec![0; 34_840]);
+    let mut out = vec![0; 34_840];
+    let in_rust = |call: fn(&Content, &mut [u8]) -> Result<usize, u64>| {
+        let mut out = vec![0; 34_840];
+        move |_: usize, ask: bool| {
+            let wrote = black_box(call(black_box(content), &mut out));
+            put(ask, wrote.err().unwrap_or(0), || {
+                bytes(&out[..wrote.unwrap()])
+            })
+        }
+    };
     Row::new("set writer", "34,840 bytes".into(), 1)
         .side(Side::Ours, move |_, ask| {
             let wrote = black_box(ours::write_set(black_box(content), &mut out));
             put(ask, wrote.refusal, || bytes(&out[..wrote.length as usize]))
         })
-        .side(Side::Same, move |_, ask| {
-            let wrote = black_box(write_set(black_box(content), &mut other));
-            put(ask, wrote.err().unwrap_or(0), || {
-                bytes(&other[..wrote.unwrap()])
-            })
-        })
+        .side(Side::Same, in_rust(write_set))
+        .side(Side::Best, in_rust(best::set::write_set))
 }
+
+/// One clock: of m, the tap word, the inversion word, the state, the spread words and a row.
+type Clocks = fn(u64, u64, u64, u64, &[u64], &[u8]) -> Result<u64, u64>;
 
 pub fn one_clock() -> Row {
     let (content, _, record) = large();
     let row = |i: usize| &record[32 * i..32 * (i + 1)];
     let state = |i: usize| (i as u64).wrapping_mul(0x9E37_79B9_7F4A_7C15);
+    let in_rust = |call: Clocks| {
+        move |i: usize, ask: bool| {
+            let c = content;
+            let next = call(c.m, c.taps, c.inversion, state(i), &c.spread, row(i));
+            let clocked = black_box(next);
+            put(ask, clocked.err().unwrap_or(0), || vec![clocked.unwrap()])
+        }
+    };
     Row::new("one clock", "256 chains".into(), 512)
         .side(Side::Ours, move |i, ask| {
             let clocked = black_box(ours::clock(content, state(i), row(i)));
             put(ask, clocked.refusal, || vec![clocked.state])
         })
-        .side(Side::Same, move |i, ask| {
-            let c = content;
-            let next = clock(c.m, c.taps, c.inversion, state(i), &c.spread, row(i));
-            let clocked = black_box(next);
-            put(ask, clocked.err().unwrap_or(0), || vec![clocked.unwrap()])
-        })
+        .side(Side::Same, in_rust(clock))
+        .side(Side::Best, in_rust(best::set::clock))
 }
 
 /// 63 words, their expected bits, and their plan file.
@@ -376,15 +412,19 @@ pub fn expecting() -> Row {
         vec![bits.map(|(i, bit)| bit << i).sum()]
     };
     let signed = move || black_box(ours::sign(set, black_box(&content.values)));
+    let in_rust = |call: fn(&[u8], &[u64]) -> Result<u64, u64>| {
+        move |_: usize, ask: bool| {
+            let e = black_box(call(black_box(set), words));
+            put(ask, e.err().unwrap_or(0), || vec![e.unwrap()])
+        }
+    };
     Row::new("expected bits", "34,840 bytes, 63 words".into(), 1)
         .side(Side::Ours, move |_, ask| {
             let e = black_box(ours::expect(black_box(set), words));
             put(ask, e.refusal, || vec![e.expected])
         })
-        .side(Side::Same, move |_, ask| {
-            let e = black_box(expect(black_box(set), words));
-            put(ask, e.err().unwrap_or(0), || vec![e.unwrap()])
-        })
+        .side(Side::Same, in_rust(expect))
+        .side(Side::Best, in_rust(best::response::expect))
         .side(Side::Plain, move |_, ask| {
             let set = plain::read_set(black_box(set)).unwrap();
             let e = black_box(set.expect(words));
@@ -404,23 +444,30 @@ pub fn expecting() -> Row {
         )
 }
 
+/// Judging: the cancelled bits, and the first word that disagrees.
+type Judges = fn(&[u8], u64) -> Result<(u64, Option<u32>), u64>;
+
 pub fn judging() -> Row {
     let (_, _, plan) = large_plan();
     let r = &mut Random::new(5);
     let signatures: &Vec<u64> = kept((0..256).map(|_| r.word()).collect());
     let at = |first: Option<u64>| vec![u64::from(first.is_some()), first.unwrap_or(0)];
+    let in_rust = |call: Judges| {
+        move |i: usize, ask: bool| {
+            let j = black_box(call(black_box(plan), signatures[i]));
+            put(ask, j.err().unwrap_or(0), || {
+                let (cancelled, first) = j.unwrap();
+                [vec![cancelled], at(first.map(u64::from))].concat()
+            })
+        }
+    };
     Row::new("judging", "63 words".into(), 256)
         .side(Side::Ours, move |i, ask| {
             let j = black_box(ours::judge(black_box(plan), signatures[i]));
             put(ask, j.refusal, || vec![j.cancelled, j.failed, j.index])
         })
-        .side(Side::Same, move |i, ask| {
-            let j = black_box(same::plan::judge(black_box(plan), signatures[i]));
-            put(ask, j.err().unwrap_or(0), || {
-                let (cancelled, first) = j.unwrap();
-                [vec![cancelled], at(first.map(u64::from))].concat()
-            })
-        })
+        .side(Side::Same, in_rust(same::plan::judge))
+        .side(Side::Best, in_rust(best::plan::judge))
         .side(Side::Plain, move |i, ask| {
             let (cancelled, first) = black_box(plain::judge(black_box(plan), signatures[i]));
             put(ask, 0, || {
@@ -431,41 +478,60 @@ pub fn judging() -> Row {
 
 pub fn plan_reader() -> Row {
     let (_, _, plan) = large_plan();
-    let (mut words, mut other) = ([0; 64], [0; 64]);
+    let mut words = [0; 64];
+    let in_rust = |call: fn(&[u8], &mut [u64]) -> Result<[u64; 3], u64>| {
+        let mut words = [0; 64];
+        move |_: usize, ask: bool| {
+            let p = black_box(call(black_box(plan), &mut words));
+            put(ask, p.err().unwrap_or(0), || of_plan(&p.unwrap(), &words))
+        }
+    };
     Row::new("plan reader", "63 words".into(), 1)
         .side(Side::Ours, move |_, ask| {
             let p = black_box(ours::read_plan(black_box(plan), &mut words));
             put(ask, p.refusal, || of_plan(&planned(p), &words))
         })
-        .side(Side::Same, move |_, ask| {
-            let p = black_box(same::plan::read_plan(black_box(plan), &mut other));
-            put(ask, p.err().unwrap_or(0), || of_plan(&p.unwrap(), &other))
-        })
+        .side(Side::Same, in_rust(same::plan::read_plan))
+        .side(Side::Best, in_rust(best::plan::read_plan))
 }
 
 pub fn plan_writer() -> Row {
     let (words, expected, _) = large_plan();
-    let (mut out, mut other) = ([0; 526], [0; 526]);
+    let mut out = [0; 526];
+    let in_rust = |call: fn(u64, &[u64], u64, &mut [u8]) -> Result<usize, u64>| {
+        let mut out = [0; 526];
+        move |_: usize, ask: bool| {
+            let wrote = black_box(call(64, black_box(words), expected, &mut out));
+            put(ask, wrote.err().unwrap_or(0), || {
+                bytes(&out[..wrote.unwrap()])
+            })
+        }
+    };
     Row::new("plan writer", "63 words".into(), 1)
         .side(Side::Ours, move |_, ask| {
             let wrote = black_box(ours::write_plan(black_box(words), expected, &mut out));
             put(ask, wrote.refusal, || bytes(&out[..wrote.length as usize]))
         })
-        .side(Side::Same, move |_, ask| {
-            let wrote = same::plan::write_plan(64, black_box(words), expected, &mut other);
-            let wrote = black_box(wrote);
-            put(ask, wrote.err().unwrap_or(0), || {
-                bytes(&other[..wrote.unwrap()])
-            })
-        })
+        .side(Side::Same, in_rust(same::plan::write_plan))
+        .side(Side::Best, in_rust(best::plan::write_plan))
 }
+
+/// The elimination of columns of m bits: the rank and q.
+type Eliminates = fn(u64, &[u64], &mut [u64]) -> Result<(u64, usize), u64>;
 
 /// An elimination at width 64, by the libraries too. What those give is a count of words, compared here.
 pub fn elimination(count: usize, rank: usize, inputs: usize) -> Row {
     let r = &mut Random::new(6);
     let one = |_| columns_of_rank(r, 64, rank, count);
     let lists: &Vec<Vec<u64>> = kept((0..inputs).map(one).collect());
-    let (mut words, mut other) = ([0; 64], [0; 64]);
+    let mut words = [0; 64];
+    let in_rust = |call: Eliminates| {
+        let mut words = [0; 64];
+        move |i: usize, ask: bool| {
+            let e = black_box(call(64, &lists[i], &mut words));
+            put(ask, e.err().unwrap_or(0), || words[..e.unwrap().1].to_vec())
+        }
+    };
     let size = match rank {
         64 => format!("{count} columns of full rank"),
         _ => format!("{count} columns of rank {rank}"),
@@ -475,10 +541,8 @@ pub fn elimination(count: usize, rank: usize, inputs: usize) -> Row {
             let e = black_box(ours::eliminate(&lists[i], &mut words));
             put(ask, e.refusal, || words[..e.q as usize].to_vec())
         })
-        .side(Side::Same, move |i, ask| {
-            let e = black_box(eliminate(64, &lists[i], &mut other));
-            put(ask, e.err().unwrap_or(0), || other[..e.unwrap().1].to_vec())
-        })
+        .side(Side::Same, in_rust(eliminate))
+        .side(Side::Best, in_rust(best::basis::eliminate))
         .side(Side::Plain, move |i, ask| {
             let words = black_box(plain::eliminate(64, &lists[i]));
             put(ask, if words.is_some() { 0 } else { 17 }, || words.unwrap())

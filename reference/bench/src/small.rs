@@ -1,11 +1,8 @@
 //! Every call that is lent a set or its parts, on small sets without ties: the sample, and 8 chains with 3 slices.
 
-use crate::ours;
-use crate::plain;
 use crate::row::{put, Answer, Row, Side};
-use crate::same::cutting::cut;
-use crate::same::response::{expect, list_columns, plan, plan_words, sign};
-use crate::same::set::{clock, mark_row, read_set, value_row, write_set};
+use crate::same::set::Read;
+use crate::{best, ours, plain, same};
 use reference::random::{content, file_of, Random};
 use reference::second::set::Content;
 use std::hint::black_box;
@@ -121,40 +118,93 @@ fn by_us(l: &'static Lent, call: &str) -> One {
     }
 }
 
-fn by_rust(l: &'static Lent, call: &str) -> One {
+/// The calls in Rust, the same algorithms or the best that we know.
+#[derive(Clone, Copy)]
+struct InRust {
+    read_set: fn(&[u8]) -> Result<(Read, [u64; 256]), u64>,
+    value_row: fn(&[u8], u64) -> Result<(usize, usize), u64>,
+    mark_row: fn(&[u8], u64) -> Result<(usize, usize), u64>,
+    write_set: fn(&Content, &mut [u8]) -> Result<usize, u64>,
+    clock: fn(u64, u64, u64, u64, &[u64], &[u8]) -> Result<u64, u64>,
+    sign: fn(&[u8], &[u8]) -> Result<u64, u64>,
+    list_columns: fn(&[u8], &mut [u64]) -> Result<usize, u64>,
+    plan_words: fn(&[u8], &mut [u64], &mut [u64]) -> Result<[u64; 2], u64>,
+    expect: fn(&[u8], &[u64]) -> Result<u64, u64>,
+    plan: fn(&[u8], &mut [u64], &mut [u64]) -> Result<[u64; 3], u64>,
+    cut: fn(&[u8], u64, &mut [u64]) -> Result<[u64; 2], u64>,
+}
+
+const SAME: InRust = InRust {
+    read_set: same::set::read_set,
+    value_row: same::set::value_row,
+    mark_row: same::set::mark_row,
+    write_set: same::set::write_set,
+    clock: same::set::clock,
+    sign: same::response::sign,
+    list_columns: same::response::list_columns,
+    plan_words: same::response::plan_words,
+    expect: same::response::expect,
+    plan: same::response::plan,
+    cut: same::cutting::cut,
+};
+
+const BEST: InRust = InRust {
+    read_set: best::set::read_set,
+    value_row: best::set::value_row,
+    mark_row: best::set::mark_row,
+    write_set: best::set::write_set,
+    clock: best::set::clock,
+    sign: best::response::sign,
+    list_columns: best::columns::list_columns,
+    plan_words: best::words::plan_words,
+    expect: best::response::expect,
+    plan: best::words::plan,
+    cut: best::cutting::cut,
+};
+
+fn by_rust(ways: InRust, l: &'static Lent, call: &str) -> One {
     let (c, set) = (&l.content, black_box(&l.set));
     let (mut list, mut words, mut out) = ([0; 64], [0; 64], vec![0; set.len()]);
     let row = &c.values[..c.spread.len().div_ceil(8)];
     let place = |(start, length)| vec![start as u64, length as u64];
     match call {
         "read_set" => in_rust(
-            move || read_set(set),
+            move || (ways.read_set)(set),
             |(r, _)| vec![r.m, r.taps, r.n as u64, r.s as u64],
         ),
-        "value_row" => in_rust(move || value_row(set, 0), place),
-        "mark_row" => in_rust(move || mark_row(set, 0), place),
-        "write_set" => in_rust(move || write_set(c, &mut out), |length| vec![length as u64]),
+        "value_row" => in_rust(move || (ways.value_row)(set, 0), place),
+        "mark_row" => in_rust(move || (ways.mark_row)(set, 0), place),
+        "write_set" => in_rust(
+            move || (ways.write_set)(c, &mut out),
+            |length| vec![length as u64],
+        ),
         "clock" => in_rust(
-            move || clock(c.m, c.taps, c.inversion, 1, &c.spread, row),
+            move || (ways.clock)(c.m, c.taps, c.inversion, 1, &c.spread, row),
             |state| vec![state],
         ),
-        "sign" => in_rust(move || sign(set, &c.values), |signature| vec![signature]),
+        "sign" => in_rust(
+            move || (ways.sign)(set, &c.values),
+            |signature| vec![signature],
+        ),
         "list" => boxed(move |_, ask| {
-            let r = black_box(list_columns(set, &mut list));
+            let r = black_box((ways.list_columns)(set, &mut list));
             put(ask, r.err().unwrap_or(0), || list[..r.unwrap()].to_vec())
         }),
         "plan_words" => boxed(move |_, ask| {
-            let r = black_box(plan_words(set, &mut list, &mut words));
+            let r = black_box((ways.plan_words)(set, &mut list, &mut words));
             put(ask, r.err().unwrap_or(0), || {
                 words[..r.unwrap()[1] as usize].to_vec()
             })
         }),
-        "expect" => in_rust(move || expect(set, &l.words), |bits| vec![bits]),
+        "expect" => in_rust(move || (ways.expect)(set, &l.words), |bits| vec![bits]),
         "plan" => in_rust(
-            move || plan(set, &mut list, &mut words),
+            move || (ways.plan)(set, &mut list, &mut words),
             |p: [u64; 3]| p.to_vec(),
         ),
-        "cut" => in_rust(move || cut(set, 1, &mut list), |r: [u64; 2]| r.to_vec()),
+        "cut" => in_rust(
+            move || (ways.cut)(set, 1, &mut list),
+            |r: [u64; 2]| r.to_vec(),
+        ),
         _ => panic!("a small call"),
     }
 }
@@ -164,7 +214,8 @@ pub fn row(small: &str, call: &str) -> Row {
     let l = lent(small);
     let mut row = Row::new("small", format!("{call} of {small}"), 1);
     row.sides.push((Side::Ours, by_us(l, call)));
-    row.sides.push((Side::Same, by_rust(l, call)));
+    row.sides.push((Side::Same, by_rust(SAME, l, call)));
+    row.sides.push((Side::Best, by_rust(BEST, l, call)));
     row
 }
 

@@ -1,11 +1,10 @@
 //! Sets in which 256 of the unknown cells are named, for some symbols of as many cells each, half of them as opposite; each call beside
 //! itself on the same set without its entries.
 
-use crate::ours;
 use crate::plain::{read_set, PlainSet};
 use crate::row::{put, Answer, Row, Side};
 use crate::rows::{inputs_for, inverting, kept, of_plan, planned, Files};
-use crate::same::response::{expect, list_columns, plan, plan_words};
+use crate::{best, ours, same};
 use reference::random::*;
 use reference::second::set::Content;
 use std::hint::black_box;
@@ -81,7 +80,7 @@ impl Lent {
     }
 }
 
-/// A call on a set, as ours or the same algorithm makes it.
+/// A call on a set, as ours, the same algorithm or the best that we know makes it.
 type Made = fn(&[u8], &mut Lent, bool) -> Option<Answer>;
 
 /// .. as the straightforward way makes it.
@@ -99,18 +98,24 @@ fn in_rust<T>(
     ask.then(|| got.map(numbers))
 }
 
-fn ways(call: &str) -> (&'static str, Made, Made, Plainly) {
+fn ways(call: &str) -> (&'static str, [Made; 3], Plainly) {
     match call {
         "planning" => (
             "planning",
-            |set, l, ask| {
-                let p = black_box(ours::plan(set, &mut l.working, &mut l.words));
-                put(ask, p.refusal, || of_plan(&planned(p), &l.words))
-            },
-            |set, l, ask| {
-                let p = plan(set, &mut l.working, &mut l.words);
-                in_rust(ask, p, |p| of_plan(&p, &l.words))
-            },
+            [
+                |set, l, ask| {
+                    let p = black_box(ours::plan(set, &mut l.working, &mut l.words));
+                    put(ask, p.refusal, || of_plan(&planned(p), &l.words))
+                },
+                |set, l, ask| {
+                    let p = same::response::plan(set, &mut l.working, &mut l.words);
+                    in_rust(ask, p, |p| of_plan(&p, &l.words))
+                },
+                |set, l, ask| {
+                    let p = best::words::plan(set, &mut l.working, &mut l.words);
+                    in_rust(ask, p, |p| of_plan(&p, &l.words))
+                },
+            ],
             |set| {
                 let (words, expected) = set.plan().ok_or(17u64)?;
                 Ok(of_plan(&[64, words.len() as u64, expected], &words))
@@ -118,14 +123,20 @@ fn ways(call: &str) -> (&'static str, Made, Made, Plainly) {
         ),
         "words" => (
             "words",
-            |set, l, ask| {
-                let w = black_box(ours::plan_words(set, &mut l.working, &mut l.words));
-                put(ask, w.refusal, || of_plan(&[w.m, w.q], &l.words))
-            },
-            |set, l, ask| {
-                let w = plan_words(set, &mut l.working, &mut l.words);
-                in_rust(ask, w, |w| of_plan(&w, &l.words))
-            },
+            [
+                |set, l, ask| {
+                    let w = black_box(ours::plan_words(set, &mut l.working, &mut l.words));
+                    put(ask, w.refusal, || of_plan(&[w.m, w.q], &l.words))
+                },
+                |set, l, ask| {
+                    let w = same::response::plan_words(set, &mut l.working, &mut l.words);
+                    in_rust(ask, w, |w| of_plan(&w, &l.words))
+                },
+                |set, l, ask| {
+                    let w = best::words::plan_words(set, &mut l.working, &mut l.words);
+                    in_rust(ask, w, |w| of_plan(&w, &l.words))
+                },
+            ],
             |set| {
                 let words = set.words().ok_or(17u64)?;
                 Ok(of_plan(&[64, words.len() as u64], &words))
@@ -133,35 +144,50 @@ fn ways(call: &str) -> (&'static str, Made, Made, Plainly) {
         ),
         "expected" => (
             "expected bits",
-            |set, _, ask| {
-                let e = black_box(ours::expect(set, &OTHERS));
-                put(ask, e.refusal, || vec![e.expected])
-            },
-            |set, _, ask| in_rust(ask, expect(set, &OTHERS), |e| vec![e]),
+            [
+                |set, _, ask| {
+                    let e = black_box(ours::expect(set, &OTHERS));
+                    put(ask, e.refusal, || vec![e.expected])
+                },
+                |set, _, ask| in_rust(ask, same::response::expect(set, &OTHERS), |e| vec![e]),
+                |set, _, ask| in_rust(ask, best::response::expect(set, &OTHERS), |e| vec![e]),
+            ],
             |set| set.expect(&OTHERS).map(|e| vec![e]),
         ),
         "listing" => (
             "listing columns",
-            |set, l, ask| {
-                let c = black_box(ours::list_columns(set, &mut l.columns));
-                put(ask, c.refusal, || l.columns[..c.count as usize].to_vec())
-            },
-            |set, l, ask| {
-                let c = list_columns(set, &mut l.columns);
-                in_rust(ask, c, |c| l.columns[..c].to_vec())
-            },
+            [
+                |set, l, ask| {
+                    let c = black_box(ours::list_columns(set, &mut l.columns));
+                    put(ask, c.refusal, || l.columns[..c.count as usize].to_vec())
+                },
+                |set, l, ask| {
+                    let c = same::response::list_columns(set, &mut l.columns);
+                    in_rust(ask, c, |c| l.columns[..c].to_vec())
+                },
+                |set, l, ask| {
+                    let c = best::columns::list_columns(set, &mut l.columns);
+                    in_rust(ask, c, |c| l.columns[..c].to_vec())
+                },
+            ],
             |set| Ok(set.columns()),
         ),
         "reading" => (
             "set reader",
-            |set, _, ask| {
-                let r = black_box(ours::read_set(set));
-                put(ask, r.refusal, || vec![r.m, r.taps, r.n, r.s])
-            },
-            |set, _, ask| {
-                let r = crate::same::set::read_set(set);
-                in_rust(ask, r, |(r, _)| vec![r.m, r.taps, r.n as u64, r.s as u64])
-            },
+            [
+                |set, _, ask| {
+                    let r = black_box(ours::read_set(set));
+                    put(ask, r.refusal, || vec![r.m, r.taps, r.n, r.s])
+                },
+                |set, _, ask| {
+                    let r = same::set::read_set(set);
+                    in_rust(ask, r, |(r, _)| vec![r.m, r.taps, r.n as u64, r.s as u64])
+                },
+                |set, _, ask| {
+                    let r = best::set::read_set(set);
+                    in_rust(ask, r, |(r, _)| vec![r.m, r.taps, r.n as u64, r.s as u64])
+                },
+            ],
             |set| {
                 Ok(vec![
                     set.m.into(),
@@ -175,11 +201,11 @@ fn ways(call: &str) -> (&'static str, Made, Made, Plainly) {
     }
 }
 
-/// A call on sets with entries: ours, the same algorithm and the straightforward one; and both first on the sets without them. What all
-/// sides answer there is compared here.
+/// A call on sets with entries: ours, the same algorithm, the best that we know and the straightforward one; and the first two on the sets
+/// without them. What all sides answer there is compared here.
 pub fn row(call: &str, sizes: [usize; 4], inputs: usize) -> Row {
     let [s, unknowns, rank, symbols] = sizes;
-    let (name, ours, same, plain) = ways(call);
+    let (name, [ours, same, best], plain) = ways(call);
     let [with, without] = both(sizes, inputs);
     let lent = |made: Made, sets: Files, compares: bool| {
         let mut l = Lent::new();
@@ -208,19 +234,21 @@ pub fn row(call: &str, sizes: [usize; 4], inputs: usize) -> Row {
     Row::new("", "the same sets without entries".into(), inputs)
         .side(Side::Ours, lent(ours, without, true))
         .side(Side::Same, lent(same, without, true))
+        .side(Side::Best, lent(best, without, true))
         .side(Side::Plain, plainly(without))
         .compared();
     Row::new(name, size, inputs)
         .side(Side::Ours, lent(ours, with, true))
         .side(Side::Same, lent(same, with, true))
+        .side(Side::Best, lent(best, with, true))
         .side(Side::Plain, plainly(with))
         .side(Side::Parts(WITHOUT), lent(ours, without, false))
         .side(Side::Parts(SAME_WITHOUT), lent(same, without, false))
 }
 
 pub fn print_all() {
-    println!("\n| Call | Size | Gives | Ours | Same algorithm in Rust | Straightforward | Without entries |");
-    println!("|---|---|---|---|---|---|---|");
+    println!("\n| Call | Size | Gives | Ours | Same algorithm in Rust | Best known in Rust | Straightforward | Without entries |");
+    println!("|---|---|---|---|---|---|---|---|");
     for call in ["planning", "words", "listing"] {
         for [s, unknowns, rank] in SIZES {
             for symbols in SYMBOLS {

@@ -5,7 +5,7 @@ use Prim.Native.Nat.{_^_, _<_}
 use native.Mathlib.Omega.{arith}
 use lib.Count.{trailingZeros, ones-le, trailing-le}
 use lib.ListN.{length}
-use Rattle.rows.proofs.DigitLaws.{Lowest, trailing-lowest, lowest-less}
+use Rattle.word.proofs.LowestLaws.{Lowest, trailing-lowest, lowest-less}
 use Rattle.marked_words.proofs.ListLaws.{Putting, putting-starts, putting-place, putting-room, putting-long, putting-turns, putting-ends}
 use borrow.Author.Needs.{needs}
 use Rattle.marked_words.proofs.list_from_first.Statement.{statement}

@@ -1,16 +1,18 @@
--- `has_bad_spread` meets its contract: the words from `c` on decide.
-use mathlib.Core.Path.{refl}
-use Prim.Native.Nat.{_-_}
+-- `has_bad_spread` meets its contract: what `none` and `seen` say of the words before `c`, and the words from `c` on decide it.
+use Prim.Native.Nat.{_-_, _≤_}
+use lib.ListN.{length}
+use native.Mathlib.Omega.{arith}
 use borrow.Author.Needs.{needs}
-use Rattle.set_file.proofs.CodeLaws.{Sought, sought-found, sought-next, sought-none}
+use Rattle.set_layout.specs.Layout.{slicesAt}
+use Rattle.set_file.proofs.CodeLaws.{Folded, folded-start, folded-turn, folded-end}
 use Rattle.set_file.proofs.has_bad_spread.Statement.{statement}
 use Rattle.set_file.proofs.has_bad_spread.Tie as tie
 
 abbrev Inv-loop : tie.InvT-loop
-Inv-loop set m n c₀ c = Sought set m n c
+Inv-loop set m n seen₀ none₀ c₀ seen none c = (slicesAt n ≤ length set) × Folded set m n seen none c
 
 abbrev μ-loop : tie.MeasureT-loop
-μ-loop set m n c₀ c = n - c
+μ-loop set m n seen₀ none₀ c₀ seen none c = n - c
 
 register-width-requires : tie.Need-register-width-requires Inv-loop μ-loop
 register-width-requires c κs = search needs
@@ -19,29 +21,19 @@ chain-count-requires : tie.Need-chain-count-requires Inv-loop μ-loop
 chain-count-requires c κs = search needs
 
 loop-holds : tie.Need-loop-holds Inv-loop μ-loop
-loop-holds c = (search needs, refl)
+loop-holds c = (omega (arith, c .chain-count .ensures), folded-start _ _ _)
 
 cast-chain : tie.Need-cast-chain Inv-loop μ-loop
 cast-chain c = search needs
 
-mul-read-word : tie.Need-mul-read-word Inv-loop μ-loop
-mul-read-word c = search needs
+mul-eight-bytes : tie.Need-mul-eight-bytes Inv-loop μ-loop
+mul-eight-bytes c = search needs
 
-add-read-word : tie.Need-add-read-word Inv-loop μ-loop
-add-read-word c = search needs
+add-eight-bytes : tie.Need-add-eight-bytes Inv-loop μ-loop
+add-eight-bytes c = search needs
 
-read-word-requires : tie.Need-read-word-requires Inv-loop μ-loop
-read-word-requires c κs = search needs
-
-is-bad-spread-word-requires : tie.Need-is-bad-spread-word-requires Inv-loop μ-loop
-is-bad-spread-word-requires c κs = search needs
-
-returns : tie.Need-returns Inv-loop μ-loop
-returns c =
-    let turn = c .before .before .before in
-    let started = turn .before .before in
-    sought-found _ _ _ _ _ _ (started .before .register-width .ensures) (started .chain-count .ensures) (turn .before .loop .inv) (turn .loop-test .taken)
-    (c .before .before .read-word .ensures) (c .before .is-bad-spread-word .ensures) (c .if1 .taken)
+eight-bytes-requires : tie.Need-eight-bytes-requires Inv-loop μ-loop
+eight-bytes-requires c κs = search needs
 
 add-c : tie.Need-add-c Inv-loop μ-loop
 add-c c = search needs
@@ -51,12 +43,18 @@ loop-less c = search needs
 
 loop-again : tie.Need-loop-again Inv-loop μ-loop
 loop-again c =
-    let turn = c .before .before .before in
-    sought-next _ _ _ _ _ _ (turn .before .loop .inv) (turn .loop-test .taken) (c .before .before .read-word .ensures) (c .before .is-bad-spread-word .ensures)
-    (c .if1 .left)
+    let at = c .before .before .loop in
+    (search needs, folded-turn _ _ _ (at .seen) (at .none) (at .c) _ (at .inv .1) (c .before .loop-test .taken) (c .eight-bytes .ensures))
 
-returns-2 : tie.Need-returns-2 Inv-loop μ-loop
-returns-2 c = sought-none _ _ _ _ (c .before .before .before .register-width .ensures) (c .before .before .chain-count .ensures) (c .before .loop .inv) (search needs)
+is-beyond-requires : tie.Need-is-beyond-requires Inv-loop μ-loop
+is-beyond-requires c κs = search needs
+
+returns : tie.Need-returns Inv-loop μ-loop
+returns c =
+    let at = c .before .before .loop in
+    let started = c .before .before .before in
+    folded-end _ _ _ (at .seen) (at .none) (at .c) _ (started .before .register-width .ensures) (started .chain-count .ensures) (at .inv .1) (search needs)
+    (c .is-beyond .ensures)
 
 pub has-bad-spread-spec : {M : Type 1} → statement M
 has-bad-spread-spec =
@@ -68,12 +66,11 @@ has-bad-spread-spec =
     chain-count-requires
     loop-holds
     cast-chain
-    mul-read-word
-    add-read-word
-    read-word-requires
-    is-bad-spread-word-requires
-    returns
+    mul-eight-bytes
+    add-eight-bytes
+    eight-bytes-requires
     add-c
     loop-less
     loop-again
-    returns-2)
+    is-beyond-requires
+    returns)

@@ -10,6 +10,7 @@ use mathlib.Core.Path.{_≡_, sym, _∙_}
 use mathlib.Core.List.{List}
 use Prim.Native.Nat.{ℕ}
 use borrow.Author.Needs.{needs}
+use borrow.Author.Tests.{ltb-false}
 use Rattle.set_file.proofs.set_refusal.Statement.{statement}
 use Rattle.set_file.proofs.set_refusal.Tie as tie
 
@@ -108,7 +109,7 @@ set-refusal-spec =
     returns-5
     (λ c κs. search needs)
     returns-6
-    (λ c κs. search needs)
+    (λ c κs. ltb-false _ _ (sym (c .before .ends-in-spread .ensures) ∙ c .if6 .left))
     returns-7
     (λ c κs. search needs)
     returns-8

@@ -1,4 +1,4 @@
--- `spread_words` meets its contract: the words of the chains passed are read.
+-- `spread_words_there` meets its contract: the words of the chains passed are read.
 use borrow.Author.Needs.{needs}
 use Rattle.set_layout.proofs.LayoutLaws.{no-words-length, spread-start, spread-turn, spread-end, spread-full}
 use Rattle.set_layout.specs.Layout.{spreadAt, noWords}
@@ -7,8 +7,8 @@ use lib.ListN.{take, length}
 use native.Mathlib.Omega.{arith}
 use Prim.Native.Nat.{ℕ, _≤_, _-_}
 use mathlib.Core.Path.{_≡_, ap, _∙_}
-use Rattle.set_layout.proofs.spread_words.Statement.{statement}
-use Rattle.set_layout.proofs.spread_words.Tie as tie
+use Rattle.set_layout.proofs.spread_words_there.Statement.{statement}
+use Rattle.set_layout.proofs.spread_words_there.Tie as tie
 use Rattle.numbers.specs.Bytes.{wordsAt}
 
 abbrev Inv-loop : tie.InvT-loop
@@ -59,8 +59,8 @@ loop-again c = (search needs, search needs, search needs, spread-turn _ _ _ _ _ 
 returns-2 : tie.Need-returns-2 Inv-loop μ-loop
 returns-2 c = spread-end _ _ _ _ (c .before .loop .c) (c .before .before .before .chain-count .ensures) (c .before .loop .inv .3) (search needs) (search needs)
 
-pub spread-words-spec : {M : Type 1} → statement M
-spread-words-spec =
+pub spread-words-there-spec : {M : Type 1} → statement M
+spread-words-there-spec =
     tie.close
     (tie.spec
     Inv-loop
