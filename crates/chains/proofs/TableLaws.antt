@@ -7,22 +7,23 @@ use mathlib.Core.List.{List, []}
 use Prim.Native.Nat.{ℕ, zero, suc, _+_, _-_, _*_, _/_, _%_, _^_, _≤_, _<_, min}
 use native.Mathlib.Nat.{add-zero, add-suc, add-assoc}
 use native.Mathlib.Numerals.{add-one}
-use native.Mathlib.Decide.{decLe, decLt, ℕ-discrete}
+use native.Mathlib.Decide.{decLe, decLt}
 use native.Mathlib.Omega.{arith}
 use borrow.Author.Tests.{eqb-true, not-false, lt-ltb}
 use lib.Bits.{bitXor, xor-zero-r}
 use lib.Dec.{eqb, ltb}
-use lib.ListN.{length, length-take, take, drop, getD, set, replicate, getD-replicate, length-set, length-replicate, drop-of-length-le, List·getD-eq-default}
-use lib.Seq.{getD-drop, getD-take, getD-set-same, getD-set-other}
+use lib.ListN.{length, length-take, take, drop, getD, replicate, getD-replicate, length-replicate, drop-of-length-le, List·getD-eq-default}
+use lib.Seq.{getD-drop, getD-take}
 use lib.Pow.{shr-shr}
 use Rattle.word.specs.Word.{digit}
 use Rattle.word.specs.Some.{anyBelow}
+use Rattle.word.specs.Doubled.{Doubled}
 use Rattle.word.proofs.Laws.{mod2-lt, xor-assoc}
 use Rattle.word.proofs.SomeLaws.{any-below-false}
 use Rattle.rows.specs.Row.{Cells, cell}
 use Rattle.chains.specs.Driven.{chosen, driven}
 use Rattle.chains.proofs.Laws.{driven-ext, driven-none, driven-xor, driven-unit, chosen-zero, driven-add, driven-stops, driven-words-ext}
-use Rattle.chains.specs.Table.{halfByte, HalfBytes, Doubled, tableEnd, lookedByte, lookedUp}
+use Rattle.chains.specs.Table.{halfByte, HalfBytes, tableEnd, lookedByte, lookedUp}
 use Rattle.rows.proofs.CellLaws.{byte-cell, cell-past}
 
 -- ---- facts of half bytes, each computed for all of them
@@ -136,10 +137,10 @@ module _ (ws : List ℕ) where
   )
 
   -- as many entries more as the group has
-  made-doubles : (table made : List ℕ) (e k h c : ℕ) → k < 4 → h ≡ 2 ^ k → h ≤ 8 → e % 16 ≡ 0 → c ≡ e / 4 + k → Made table (e + h)
-      → Doubled table made e h h (getD ws c 0) → Made made (e + h + h)
+  made-doubles : (table made : List ℕ) (e k h w : ℕ) → k < 4 → h ≡ 2 ^ k → h ≤ 8 → e % 16 ≡ 0 → w ≡ getD ws (e / 4 + k) 0 → Made table (e + h)
+      → Doubled table made e h h w → Made made (e + h + h)
   unfolding Made
-  made-doubles table made e k h c hk hh h8 h0 hc m d = (
+  made-doubles table made e k h w hk hh h8 h0 ew m d = (
     d .long ∙ m .0,
     (λ i l. dite (decLt i (e + h)) (λ (z : i < e + h). d .below i z ∙ m .1 i z) (λ (z : i < e + h → ⊥). new i (omega arith) l)),
     (λ i l. d .above i l ∙ m .2 i (omega arith)),
@@ -149,18 +150,19 @@ module _ (ws : List ℕ) where
       new i a b =
           let from : i - h ≡ e + (i - (e + h)) = omega arith in
           let here : e + h + (i - (e + h)) ≡ i = omega arith in
-          d .new i a b ∙ ap₂ bitXor (m .1 (i - h) (omega arith) ∙ ap (halfByte ws) from) (ap (λ (x : ℕ). getD ws x 0) hc)
+          d .new i a b ∙ ap₂ bitXor (m .1 (i - h) (omega arith) ∙ ap (halfByte ws) from) ew
           ∙ sym (half-byte-next e k h (i - (e + h)) hk hh h8 (omega arith) h0) ∙ ap (halfByte ws) here
 
   -- the sixteen entries of a group
-  pub made-group : (t t1 t2 t3 t4 : List ℕ) (e : ℕ) → e % 16 ≡ 0 → Made t e → Doubled t t1 e 1 1 (getD ws (e / 4) 0)
-      → Doubled t1 t2 e 2 2 (getD ws (e / 4 + 1) 0) → Doubled t2 t3 e 4 4 (getD ws (e / 4 + 2) 0)
-      → Doubled t3 t4 e 8 8 (getD ws (e / 4 + 3) 0) → Made t4 (e + 16)
-  made-group t t1 t2 t3 t4 e h m d1 d2 d3 d4 =
-      let m1 = made-doubles t t1 e 0 1 (e / 4) (omega arith) refl (omega arith) h (omega arith) (made-first t e h m) d1 in
-      let m2 = made-doubles t1 t2 e 1 2 (e / 4 + 1) (omega arith) refl (omega arith) h refl (to t1 _ _ (omega arith) m1) d2 in
-      let m3 = made-doubles t2 t3 e 2 4 (e / 4 + 2) (omega arith) refl (omega arith) h refl (to t2 _ _ (omega arith) m2) d3 in
-      let m4 = made-doubles t3 t4 e 3 8 (e / 4 + 3) (omega arith) refl (omega arith) h refl (to t3 _ _ (omega arith) m3) d4 in
+  pub made-group : (t t1 t2 t3 t4 : List ℕ) (e w0 w1 w2 w3 : ℕ) → e % 16 ≡ 0 → Made t e → w0 ≡ getD ws (e / 4) 0
+      → w1 ≡ getD ws (e / 4 + 1) 0 → w2 ≡ getD ws (e / 4 + 2) 0 → w3 ≡ getD ws (e / 4 + 3) 0 → Doubled t t1 e 1 1 w0
+      → Doubled t1 t2 e 2 2 w1 → Doubled t2 t3 e 4 4 w2 → Doubled t3 t4 e 8 8 w3 → Made t4 (e + 16)
+  made-group t t1 t2 t3 t4 e w0 w1 w2 w3 h m e0 e1 e2 e3 d1 d2 d3 d4 =
+      let first : w0 ≡ getD ws (e / 4 + 0) 0 = e0 ∙ ap (λ (x : ℕ). getD ws x 0) (sym (add-zero (e / 4))) in
+      let m1 = made-doubles t t1 e 0 1 w0 (omega arith) refl (omega arith) h first (made-first t e h m) d1 in
+      let m2 = made-doubles t1 t2 e 1 2 w1 (omega arith) refl (omega arith) h e1 (to t1 _ _ (omega arith) m1) d2 in
+      let m3 = made-doubles t2 t3 e 2 4 w2 (omega arith) refl (omega arith) h e2 (to t2 _ _ (omega arith) m2) d3 in
+      let m4 = made-doubles t3 t4 e 3 8 w3 (omega arith) refl (omega arith) h e3 (to t3 _ _ (omega arith) m3) d4 in
       to t4 _ _ (omega arith) m4
     where
       to : (l : List ℕ) (a b : ℕ) → a ≡ b → Made l a → Made l b
@@ -170,38 +172,6 @@ module _ (ws : List ℕ) where
   unfolding Made
   made-ends table e k h i l =
       dite (decLt i e) (k .1 i) (λ (z : i < e → ⊥). k .2 i (omega arith) ∙ sym (half-byte-past i (omega arith)))
-
--- ---- the loop that doubles the entries of a group
-
-module _ (l₀ : List ℕ) (e h w : ℕ) where
-  pub doubled-starts : Doubled l₀ l₀ e h 0 w
-  doubled-starts =
-      record {
-        long = refl;
-        below = λ i l. refl;
-        new = λ i a b. let z : ⊥ = omega arith in absurd z;
-        above = λ i l. refl;
-      }
-
-  pub doubled-turns : (l : List ℕ) (j : ℕ) → j < h → e + h + h ≤ length l₀ → Doubled l₀ l e h j w
-      → Doubled l₀ (set l (e + h + j) (bitXor (getD l (e + j) 0) w)) e h (j + 1) w
-  doubled-turns l j hj room d =
-      record {
-        long = length-set l (e + h + j) _ ∙ d .long;
-        below = λ i m. getD-set-other l (e + h + j) i _ 0 (λ (z : i ≡ e + h + j). omega arith) ∙ d .below i m;
-        new = λ i a b. dite (ℕ-discrete i (e + h + j)) (here i) (λ (z : i ≡ e + h + j → ⊥). getD-set-other l (e + h + j) i _ 0 z ∙ d .new i a (omega arith));
-        above = λ i m. getD-set-other l (e + h + j) i _ 0 (λ (z : i ≡ e + h + j). omega arith) ∙ d .above i (omega arith);
-      }
-    where
-      here : (i : ℕ) → i ≡ e + h + j → getD (set l (e + h + j) (bitXor (getD l (e + j) 0) w)) i 0 ≡ bitXor (getD l₀ (i - h) 0) w
-      here i z =
-          let from : e + j ≡ i - h = omega arith in
-          ap (λ (x : ℕ). getD (set l (e + h + j) (bitXor (getD l (e + j) 0) w)) x 0) z
-          ∙ getD-set-same l (e + h + j) _ 0 (omega (arith, d .long))
-          ∙ ap (λ (x : ℕ). bitXor x w) (d .below (e + j) (omega arith) ∙ ap (λ (x : ℕ). getD l₀ x 0) from)
-
-  pub doubled-ends : (l : List ℕ) (j v : ℕ) → j ≡ h → w ≡ v → Doubled l₀ l e h j w → Doubled l₀ l e h h v
-  doubled-ends l j v ej ev d = subst (λ (x : ℕ). Doubled l₀ l e h h x) ev (subst (λ (x : ℕ). Doubled l₀ l e h x w) ej d)
 
 -- ---- the entries of a row's half bytes
 

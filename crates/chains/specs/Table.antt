@@ -4,16 +4,14 @@
 --   halfByte ws e         the XOR of the words of ws of four chains, the first of them 4 * (e ÷ 16): those whose bit in e mod 16 is
 --                         1, lowest bit first
 --   HalfBytes ws table    the table has these entries for the words ws: 1,024 of them, for 256 chains
---   Doubled l₀ l e h j w  the list l is l₀ but for its j entries from e + h on: each of them is the entry h places before it in l₀,
---                         with the word w XORed in
 --   tableEnd n            the number of entries that can differ from 0, for n chains
 --   lookedByte table row i   the XOR of the entries of the table for the two half bytes of byte i of the row
 --   lookedUp table row i  the XOR of the entries of the table for the two half bytes of each of the row's first i bytes
 use mathlib.Core.Path.{_≡_}
 use mathlib.Core.List.{List}
-use Prim.Native.Nat.{ℕ, zero, suc, _+_, _-_, _*_, _/_, _%_, _≤_, _<_, min}
+use Prim.Native.Nat.{ℕ, zero, suc, _+_, _*_, _/_, _%_, _<_, min}
 use lib.Bits.{bitXor}
-use lib.ListN.{length, drop, getD}
+use lib.ListN.{drop, getD}
 use Rattle.word.specs.Word.{digit}
 use Rattle.chains.specs.Driven.{driven}
 
@@ -22,12 +20,6 @@ halfByte ws e = driven (drop (4 * (e / 16)) ws) (λ i. digit i (e % 16)) 4
 
 abbrev pub HalfBytes : List ℕ → List ℕ → Type 0
 HalfBytes ws table = (e : ℕ) → e < 1024 → getD table e 0 ≡ halfByte ws e
-
-pub record Doubled (l₀ l : List ℕ) (e h j w : ℕ) : Type 0 where
-  pub long : length l ≡ length l₀
-  pub below : (i : ℕ) → i < e + h → getD l i 0 ≡ getD l₀ i 0
-  pub new : (i : ℕ) → e + h ≤ i → i < e + h + j → getD l i 0 ≡ bitXor (getD l₀ (i - h) 0) w
-  pub above : (i : ℕ) → e + h + j ≤ i → getD l i 0 ≡ getD l₀ i 0
 
 abbrev pub tableEnd : ℕ → ℕ
 tableEnd n = min (16 * ((n + 3) / 4)) 1024

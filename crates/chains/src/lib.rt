@@ -9,7 +9,7 @@ ghost use lib.ListN.{length, getD, replicate};
 ghost use Rattle.word.specs.Word.{beyond};
 ghost use Rattle.rows.specs.Row.{cell};
 ghost use Rattle.chains.specs.Driven.{chosen, driven, badSpread};
-ghost use Rattle.chains.specs.Table.{HalfBytes, Doubled, tableEnd, lookedByte, lookedUp};
+ghost use Rattle.chains.specs.Table.{HalfBytes, tableEnd, lookedByte, lookedUp};
 
 // Whether a spread word is zero or has a bit at or above m.
 pub fn is_bad_spread_word(m: u64, w: u64) -> bool
@@ -70,19 +70,6 @@ fn no_entries() -> [u64; 1024]
     [0u64; 1024]
 }
 
-// Entries e + h to e + 2 h - 1 of a table from the h entries from e on: each of these with the spread word of chain c XORed in.
-fn double_entries(table: &mut [u64], e: usize, h: usize, spread: &[u64], c: usize)
-    requires { ⌜ e + h + h ≤ length (now table) ⌝ }
-    ensures { λ _. ⌜ Doubled (now (table .entry)) (now (table .exit)) e h h (getD (now (spread .entry)) c 0) ⌝ }
-{
-    let w = word::word_at(spread, c);
-    let mut j = 0;
-    while j < h {
-        table[e + h + j] = table[e + j] ^ w;
-        j += 1;
-    }
-}
-
 // How many entries of the table of half bytes can differ from 0, for n chains.
 fn table_end(n: usize) -> usize
     ensures { λ r. ⌜ r ≡ tableEnd n ⌝ }
@@ -100,10 +87,10 @@ pub fn half_bytes(spread: &[u64]) -> [u64; 1024]
     let mut e = 0;
     while e < end {
         let c = e / 4;
-        double_entries(&mut table[..], e, 1, spread, c);
-        double_entries(&mut table[..], e, 2, spread, c + 1);
-        double_entries(&mut table[..], e, 4, spread, c + 2);
-        double_entries(&mut table[..], e, 8, spread, c + 3);
+        word::double_entries(&mut table[..], e, 1, word::word_at(spread, c));
+        word::double_entries(&mut table[..], e, 2, word::word_at(spread, c + 1));
+        word::double_entries(&mut table[..], e, 4, word::word_at(spread, c + 2));
+        word::double_entries(&mut table[..], e, 8, word::word_at(spread, c + 3));
         e += 16;
     }
     table

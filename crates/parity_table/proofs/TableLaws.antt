@@ -1,66 +1,49 @@
 -- A table of the parities of a list of words with each byte: how its entries follow from each other, and that the entries of a
 -- column's bytes add up to the column's parities. Assumes nothing.
 use mathlib.Core.Path.{_≡_, refl, sym, ap, ap₂, _∙_, subst}
-use mathlib.Core.Bool.{cond}
 use mathlib.Core.Logic.{dite}
-use mathlib.Core.List.{List, [], _∷_, map, map-append}
+use mathlib.Core.List.{List}
 use Prim.Native.Nat.{ℕ, zero, suc, _+_, _-_, _*_, _/_, _%_, _^_, _≤_, _<_}
-use native.Mathlib.Nat.{add-comm, one-mul, zero-mul, mod-lt, mod-one, mod-eq-of-lt}
+use native.Mathlib.Nat.{add-comm, one-mul, zero-mul, mod-lt, mod-one, mod-eq-of-lt, pow-suc}
 use native.Mathlib.Numerals.{add-one}
-use native.Mathlib.Decide.{ℕ-discrete}
+use native.Mathlib.Decide.{decLt, ℕ-discrete}
 use native.Mathlib.Omega.{arith}
-use borrow.Author.Tests.{eq-eqb, ne-eqb}
 use lib.Bits.{bitXor, xor-comm, xor-shifted}
-use lib.Dec.{eqb}
-use lib.ListN.{length, take, getD, set, List·getD-map}
-use lib.Seq.{getD-set-same, getD-set-other, take-all}
-use lib.Pow.{pow-add, pow-pos, shr-shr, mod-pow-add}
-use Rattle.word.specs.Word.{highestBit}
+use lib.ListN.{length, getD, getD-replicate, List·getD-eq-default}
+use lib.Pow.{pow-add, pow-pos, pow-mono, shr-shr, mod-pow-add}
+use Rattle.word.specs.Word.{parity}
 use Rattle.word.specs.Parities.{parities}
-use Rattle.word.proofs.Laws.{parities-zero, parities-xor}
+use Rattle.word.specs.Zeros.{zeros}
+use Rattle.word.specs.Doubled.{Doubled}
+use Rattle.word.proofs.Laws.{parity-pow, parity-comm, parities-zero, parities-xor}
 use Rattle.word.proofs.WordLaws.{xor-scaled}
-use Rattle.combinations.specs.Step.{units}
-use Rattle.parity_table.specs.Table.{byteParities, parityEntry, lookedParities}
-use Rattle.combinations.proofs.Tops.{top-below, top-least}
-use Rattle.combinations.proofs.Units.{units-at, one-bit, next-taken}
-use Rattle.combinations.proofs.Reducing.{top-of-highest, highest-below}
+use Rattle.word.proofs.FrontLaws.{length-zeros}
+use Rattle.parity_table.specs.Table.{byteParities, lookedParities}
+use Rattle.combinations.proofs.Units.{one-bit}
 
--- ---- the parities with each single bit
+-- ---- the parities with a single bit
 
-pub bits-start : (ws l : List ℕ) → take 0 l ≡ map (parities ws) (units 0)
-unfolding units
-bits-start ws l = refl
+-- a word's parity with bit i is that bit of it
+pub bit-parity : (w i : ℕ) → w / 2 ^ i % 2 ≡ parity w (2 ^ i)
+bit-parity w i = sym (parity-comm w (2 ^ i) ∙ parity-pow i w)
 
-pub bits-turn : (ws l : List ℕ) (i w : ℕ) → length l ≡ 64 → i < 64 → take i l ≡ map (parities ws) (units i)
-    → w ≡ parities ws ((1 * 2 ^ i) % 18446744073709551616) → take (i + 1) (set l i w) ≡ map (parities ws) (units (i + 1))
-unfolding units
-bits-turn ws l i w long h e ew =
-    next-taken l (map (parities ws) (units i)) i w (parities ws (2 ^ i)) (subst (λ (n : ℕ). i < n) (sym long) h) e (ew ∙ ap (parities ws) (one-bit i h))
-    ∙ sym (map-append (parities ws) (units i) (2 ^ i ∷ [])) ∙ ap (λ (n : ℕ). map (parities ws) (units n)) (sym (add-one i))
+-- ---- how many entries a byte has before one of its bits
 
-pub bits-end : (ws l : List ℕ) (i : ℕ) → length l ≡ 64 → i ≤ 64 → 64 ≤ i → take i l ≡ map (parities ws) (units i) → l ≡ map (parities ws) (units 64)
-bits-end ws l i long a b e =
-    let all : i ≡ 64 = omega arith in
-    sym (take-all i l (omega arith)) ∙ e ∙ ap (λ (n : ℕ). map (parities ws) (units n)) all
+bit-half : (i : ℕ) → 2 ^ (i % 8) ≤ 128
+bit-half i = let small : i % 8 ≤ 7 = omega arith in pow-mono small
 
-bits-at : (ws : List ℕ) (i : ℕ) → i < 64 → getD (map (parities ws) (units 64)) i 0 ≡ parities ws (2 ^ i)
-bits-at ws i h =
-    ap (getD (map (parities ws) (units 64)) i) (sym (parities-zero ws)) ∙ List·getD-map (parities ws) (units 64) i 0
-    ∙ ap (parities ws) (units-at 64 i h)
+next-byte : (i : ℕ) → i % 8 ≡ 7 → 2 ^ (i % 8) ≡ 128 → 256 * (i / 8) + 2 ^ (i % 8) + 2 ^ (i % 8) + 1 ≡ 256 * ((i + 1) / 8) + 2 ^ ((i + 1) % 8)
+next-byte i last full =
+    let first : (i + 1) % 8 ≡ 0 = omega arith in
+    let one : 2 ^ ((i + 1) % 8) ≡ 1 = ap (λ (x : ℕ). 2 ^ x) first in
+    omega arith
 
--- ---- a byte's highest bit
-
-pub byte-top : (v : ℕ) → (v ≡ 0 → ⊥) → v < 256 → (highestBit v < 8) × (2 ^ highestBit v ≤ v)
-byte-top v n h = (highest-below 8 v (omega arith) n h, top-least (highestBit v) v (top-of-highest v n (omega arith)))
-
--- a byte is its highest bit and the byte without it
-byte-split : (v : ℕ) → (v ≡ 0 → ⊥) → v < 256 → v ≡ bitXor (2 ^ highestBit v) (v - 2 ^ highestBit v)
-byte-split v n h =
-    let high : v < 2 ^ suc (highestBit v) = top-below (highestBit v) v (top-of-highest v n (omega arith)) in
-    let rest : v - 2 ^ highestBit v < 2 ^ highestBit v = omega (arith, byte-top v n h .1) in
-    sym
-    (ap (λ (x : ℕ). bitXor x (v - 2 ^ highestBit v)) (sym (one-mul (2 ^ highestBit v)))
-    ∙ xor-shifted 1 (highestBit v) (v - 2 ^ highestBit v) rest ∙ omega (arith, byte-top v n h .1, one-mul (2 ^ highestBit v)))
+next-bit : (i : ℕ) → (i % 8 ≡ 7 → ⊥) → 256 * (i / 8) + 2 ^ (i % 8) + 2 ^ (i % 8) ≡ 256 * ((i + 1) / 8) + 2 ^ ((i + 1) % 8)
+next-bit i more =
+    let next : (i + 1) % 8 ≡ suc (i % 8) = omega arith in
+    let same : (i + 1) / 8 ≡ i / 8 = omega arith in
+    let twice : 2 ^ ((i + 1) % 8) ≡ 2 ^ suc (i % 8) = ap (λ (x : ℕ). 2 ^ x) next in
+    omega (arith, pow-suc 2 (i % 8))
 
 -- ---- the entries of the table
 
@@ -70,86 +53,112 @@ module _ (ws : List ℕ) where
   byte-none e h =
       ap (λ (v : ℕ). parities ws (v * 2 ^ (8 * (e / 256)))) h ∙ ap (parities ws) (zero-mul (2 ^ (8 * (e / 256)))) ∙ parities-zero ws
 
-  byte-next : (e : ℕ) → (e % 256 ≡ 0 → ⊥)
-      → byteParities ws e ≡ bitXor (byteParities ws (e - 2 ^ highestBit (e % 256))) (parities ws (2 ^ (8 * (e / 256) + highestBit (e % 256))))
+  -- entry 2 ^ t + j of the group of byte b, for j below 2 ^ t: entry j of it and the parities with bit 8 b + t
+  byte-next : (b t h j : ℕ) → h ≡ 2 ^ t → j < h → h ≤ 128
+      → byteParities ws (256 * b + h + j) ≡ bitXor (byteParities ws (256 * b + j)) (parities ws (2 ^ (8 * b + t)))
   unfolding byteParities
-  byte-next e n =
-      let t = highestBit (e % 256) in
-      let k = 8 * (e / 256) in
-      let small : e % 256 < 256 = omega arith in
-      let low : 2 ^ t ≤ e % 256 = byte-top (e % 256) n small .1 in
-      let block : (e - 2 ^ t) / 256 ≡ e / 256 = omega arith in
-      let rest : (e - 2 ^ t) % 256 ≡ e % 256 - 2 ^ t = omega arith in
-      ap (λ (v : ℕ). parities ws (v * 2 ^ k)) (byte-split (e % 256) n small)
-      ∙ ap (parities ws) (xor-scaled k (2 ^ t) (e % 256 - 2 ^ t)) ∙ parities-xor ws (2 ^ t * 2 ^ k) ((e % 256 - 2 ^ t) * 2 ^ k)
-      ∙ xor-comm (parities ws (2 ^ t * 2 ^ k)) (parities ws ((e % 256 - 2 ^ t) * 2 ^ k))
-      ∙ ap₂ bitXor (ap₂ (λ (b v : ℕ). parities ws (v * 2 ^ (8 * b))) (sym block) (sym rest))
+  byte-next b t h j eh hj small =
+      let k = 8 * b in
+      let block : (256 * b + h + j) / 256 ≡ b = omega arith in
+      let value : (256 * b + h + j) % 256 ≡ h + j = omega arith in
+      let block′ : (256 * b + j) / 256 ≡ b = omega arith in
+      let value′ : (256 * b + j) % 256 ≡ j = omega arith in
+      let sum : h + j ≡ 1 * 2 ^ t + j = omega (arith, one-mul (2 ^ t)) in
+      let top : h + j ≡ bitXor (2 ^ t) j =
+      sum ∙ sym (xor-shifted 1 t j (subst (λ (x : ℕ). j < x) eh hj)) ∙ ap (λ (x : ℕ). bitXor x j) (one-mul (2 ^ t)) in
+      ap₂ (λ (x v : ℕ). parities ws (v * 2 ^ (8 * x))) block (value ∙ top)
+      ∙ ap (parities ws) (xor-scaled k (2 ^ t) j) ∙ parities-xor ws (2 ^ t * 2 ^ k) (j * 2 ^ k)
+      ∙ xor-comm (parities ws (2 ^ t * 2 ^ k)) (parities ws (j * 2 ^ k))
+      ∙ ap₂ bitXor (ap₂ (λ (x v : ℕ). parities ws (v * 2 ^ (8 * x))) (sym block′) (sym value′))
       (ap (parities ws) (sym (pow-add 2 t k) ∙ ap (λ (x : ℕ). 2 ^ x) (add-comm t k)))
 
-  -- the entries below e are right
-  pub Made : List ℕ → ℕ → Type 0
-  Made table e = (i : ℕ) → i < e → getD table i 0 ≡ byteParities ws i
+  -- the entries below n are right, and the others are 0
+  pub record Made (table : List ℕ) (n : ℕ) : Type 0 where
+    pub long : length table ≡ 2048
+    pub right : (e : ℕ) → e < n → getD table e 0 ≡ byteParities ws e
+    pub none : (e : ℕ) → n ≤ e → getD table e 0 ≡ 0
 
-  pub made-starts : (table : List ℕ) → Made table 0
-  unfolding Made
-  made-starts table i h = let z : ⊥ = omega arith in absurd z
-
-  entry-right : (table bits : List ℕ) (e : ℕ) → Made table e → bits ≡ map (parities ws) (units 64) → e < 2048
-      → parityEntry table bits e ≡ byteParities ws e
-  unfolding parityEntry Made
-  entry-right table bits e k eb h = dite (ℕ-discrete (e % 256) 0) first next
+  pub made-starts : (table : List ℕ) → table ≡ zeros 2048 → Made table 1
+  made-starts table h =
+      record {
+        long = ap length h ∙ length-zeros 2048;
+        right = λ e l. let first : e ≡ 0 = omega arith in clear e ∙ sym (byte-none e (omega arith));
+        none = λ e l. clear e;
+      }
     where
-      t : ℕ
-      t = highestBit (e % 256)
+      clear : (e : ℕ) → getD table e 0 ≡ 0
+      clear e =
+          ap (λ (l : List ℕ). getD l e 0) h
+          ∙ dite (decLt e 2048) (λ (l : e < 2048). getD-replicate 2048 e 0 0 l)
+          (λ (l : e < 2048 → ⊥). List·getD-eq-default (zeros 2048) 0 {n = e} (omega (arith, length-zeros 2048)))
 
-      first : e % 256 ≡ 0 → _≡_ {A = ℕ} (cond (eqb (e % 256) 0) 0 (bitXor (getD table (e - 2 ^ t) 0) (getD bits (8 * (e / 256) + t) 0))) (byteParities ws e)
-      first z = rw (eq-eqb (e % 256) 0 z) (sym (byte-none e z))
+  made-doubles : (table made : List ℕ) (b t h w : ℕ) → h ≡ 2 ^ t → h ≤ 128 → w ≡ parities ws (2 ^ (8 * b + t)) → Made table (256 * b + h)
+      → Doubled table made (256 * b) h h w → Made made (256 * b + h + h)
+  made-doubles table made b t h w eh small ew m d =
+      record {
+        long = d .long ∙ m .long;
+        right = λ i l.
+            dite (decLt i (256 * b + h)) (λ (z : i < 256 * b + h). d .below i z ∙ m .right i z)
+            (λ (z : i < 256 * b + h → ⊥). new i (omega arith) l);
+        none = λ i l. d .above i l ∙ m .none i (omega arith);
+      }
+    where
+      new : (i : ℕ) → 256 * b + h ≤ i → i < 256 * b + h + h → getD made i 0 ≡ byteParities ws i
+      new i l u =
+          let from : i - h ≡ 256 * b + (i - (256 * b + h)) = omega arith in
+          let here : 256 * b + h + (i - (256 * b + h)) ≡ i = omega arith in
+          d .new i l u ∙ ap₂ bitXor (m .right (i - h) (omega arith) ∙ ap (byteParities ws) from) ew
+          ∙ sym (byte-next b t h (i - (256 * b + h)) eh (omega arith) small) ∙ ap (byteParities ws) here
 
-      next : (e % 256 ≡ 0 → ⊥) → _≡_ {A = ℕ} (cond (eqb (e % 256) 0) 0 (bitXor (getD table (e - 2 ^ t) 0) (getD bits (8 * (e / 256) + t) 0))) (byteParities ws e)
-      next n =
-          let top = byte-top (e % 256) n (omega arith) in
-          let before : e - 2 ^ t < e = omega (arith, pow-pos t, top .1) in
-          let place : 8 * (e / 256) + t < 64 = omega (arith, top .0) in
-          rw (ne-eqb (e % 256) 0 n)
-          (ap₂ bitXor (k (e - 2 ^ t) before) (ap (λ (l : List ℕ). getD l (8 * (e / 256) + t) 0) eb ∙ bits-at ws (8 * (e / 256) + t) place)
-          ∙ sym (byte-next e n))
+  -- the first entry of the next byte is 0
+  made-first : (table : List ℕ) (n : ℕ) → n % 256 ≡ 0 → Made table n → Made table (n + 1)
+  made-first table n h m =
+      record {
+        long = m .long;
+        right = λ i l.
+            dite (decLt i n) (m .right i)
+            (λ (z : i < n → ⊥). let here : i ≡ n = omega arith in m .none i (omega arith) ∙ sym (byte-none i (omega arith)));
+        none = λ i l. m .none i (omega arith);
+      }
 
-  pub made-turns : (table bits : List ℕ) (e w : ℕ) → length table ≡ 2048 → bits ≡ map (parities ws) (units 64) → Made table e → e < 2048
-      → w ≡ parityEntry table bits e → Made (set table e w) (e + 1)
-  unfolding Made
-  made-turns table bits e w long eb k h ew i l =
-      dite (ℕ-discrete i e)
-      (λ (z : i ≡ e).
-      ap (λ (x : ℕ). getD (set table e w) x 0) z ∙ getD-set-same table e w 0 (omega (arith, long)) ∙ ew
-      ∙ entry-right table bits e k eb h ∙ ap (byteParities ws) (sym z))
-      (λ (z : i ≡ e → ⊥). getD-set-other table e i w 0 z ∙ k i (omega arith))
+-- how many entries are right before bit i
+pub entriesAt : ℕ → ℕ
+entriesAt i = 256 * (i / 8) + 2 ^ (i % 8)
 
-  pub made-ends : (table : List ℕ) (e : ℕ) → Made table e → 2048 ≤ e → (i : ℕ) → i < 2048 → getD table i 0 ≡ byteParities ws i
-  unfolding Made
-  made-ends table e k h i l = k i (omega arith)
+-- ---- the loop over the bits
 
--- ---- the code that makes an entry
+pub bits-room : (table : List ℕ) (i : ℕ) → i < 64 → length table ≡ 2048
+    → 256 * (i / 8) + (1 * 2 ^ (i % 8)) % 18446744073709551616 + (1 * 2 ^ (i % 8)) % 18446744073709551616 ≤ length table
+bits-room table i h long = omega (arith, one-bit (i % 8) (omega arith), bit-half i)
 
-pub entry-first : (table bits : List ℕ) (e : ℕ) → e % 256 ≡ 0 → 0 ≡ parityEntry table bits e
-unfolding parityEntry
-entry-first table bits e h = rw (eq-eqb (e % 256) 0 h)
+module _ (ws : List ℕ) where
+  pub bits-start : (table : List ℕ) → table ≡ zeros 2048 → Made ws table (entriesAt 0)
+  unfolding entriesAt
+  bits-start table h = made-starts ws table h
 
-module _ (e top : ℕ) (n : e % 256 ≡ 0 → ⊥) (et : top ≡ highestBit (e % 256)) where
-  pub entry-top : (top < 8) × (2 ^ top ≤ e)
-  entry-top =
-      let bounds = byte-top (e % 256) n (omega arith) in
-      (omega (arith, bounds .0), omega (arith, bounds .1, ap (λ (x : ℕ). 2 ^ x) et))
+  pub bits-turn : (table made : List ℕ) (i w : ℕ) → i < 64 → Made ws table (entriesAt i) → w ≡ parities ws (2 ^ i)
+      → Doubled table made (256 * (i / 8)) ((1 * 2 ^ (i % 8)) % 18446744073709551616) ((1 * 2 ^ (i % 8)) % 18446744073709551616) w
+      → Made ws made (entriesAt (i + 1))
+  unfolding entriesAt
+  bits-turn table made i w h m ew d =
+      let t = i % 8 in
+      let d′ : Doubled table made (256 * (i / 8)) (2 ^ t) (2 ^ t) w =
+      subst (λ (x : ℕ). Doubled table made (256 * (i / 8)) x x w) (one-bit t (omega arith)) d in
+      let place : i ≡ 8 * (i / 8) + t = omega arith in
+      let twice = made-doubles ws table made (i / 8) t (2 ^ t) w refl (bit-half i) (ew ∙ ap (λ (x : ℕ). parities ws (2 ^ x)) place) m d′ in
+      dite (ℕ-discrete t 7)
+      (λ (last : t ≡ 7).
+      let h128 : 2 ^ t ≡ 128 = ap (λ (x : ℕ). 2 ^ x) last in
+      let end : 256 * (i / 8) + 2 ^ t + 2 ^ t + 1 ≡ 256 * ((i + 1) / 8) + 2 ^ ((i + 1) % 8) =
+      next-byte i last h128 in
+      subst (Made ws made) end (made-first ws made (256 * (i / 8) + 2 ^ t + 2 ^ t) (omega arith) twice))
+      (λ (more : t ≡ 7 → ⊥). subst (Made ws made) (next-bit i more) twice)
 
-  pub entry-shift : (1 * 2 ^ top) % 18446744073709551616 ≡ 2 ^ top
-  entry-shift = one-bit top (omega (arith, entry-top .0))
-
-  pub entry-next : (table bits : List ℕ)
-      → bitXor (getD table (e - (1 * 2 ^ top) % 18446744073709551616) 0) (getD bits (8 * (e / 256) + top) 0) ≡ parityEntry table bits e
-  unfolding parityEntry
-  entry-next table bits =
-      rw (ne-eqb (e % 256) 0 n)
-      (ap₂ bitXor (ap (λ (x : ℕ). getD table (e - x) 0) (entry-shift ∙ ap (λ (x : ℕ). 2 ^ x) et))
-      (ap (λ (x : ℕ). getD bits (8 * (e / 256) + x) 0) et))
+  pub bits-end : (table : List ℕ) (i : ℕ) → 64 ≤ i → i ≤ 64 → Made ws table (entriesAt i) → (e : ℕ) → e < 2048 → getD table e 0 ≡ byteParities ws e
+  unfolding entriesAt
+  bits-end table i a b m e l =
+      let all : i ≡ 64 = omega arith in
+      (subst (λ (x : ℕ). Made ws table (256 * (x / 8) + 2 ^ (x % 8))) all m) .right e (omega arith)
 
 -- ---- a column looked up
 

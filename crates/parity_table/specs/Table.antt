@@ -3,8 +3,6 @@
 --
 --   byteParities ws e           the parities of the words ws with the column whose byte e ÷ 256 is e mod 256 and whose others are 0
 --   ParityTable ws table        the table's 2048 entries are these
---   parityEntry table bits e    entry e of a table of byteParities, from the entry that lacks its byte's highest bit, where bits
---                               lists the parities with each single bit
 --   lookedParities table c b    the XOR of the entries of the table for the first b bytes of c, lowest first
 --   runOf f cs                  how many columns stand before the first of cs of which f does not hold
 --   evenRun ws cs               .. that is odd with one of the words ws
@@ -16,7 +14,6 @@ use Prim.Native.Nat.{ℕ, zero, suc, _+_, _-_, _*_, _/_, _%_, _^_, _<_}
 use lib.ListN.{getD}
 use lib.Bits.{bitXor}
 use lib.Dec.{eqb}
-use Rattle.word.specs.Word.{highestBit}
 use Rattle.word.specs.Parities.{parities}
 use Rattle.combinations.specs.Combination.{xFree}
 
@@ -25,11 +22,6 @@ byteParities ws e = parities ws (e % 256 * 2 ^ (8 * (e / 256)))
 
 abbrev pub ParityTable : List ℕ → List ℕ → Type 0
 ParityTable ws table = (e : ℕ) → e < 2048 → getD table e 0 ≡ byteParities ws e
-
-unfoldable pub parityEntry : List ℕ → List ℕ → ℕ → ℕ
-parityEntry table bits e =
-    cond (eqb (e % 256) 0) 0
-    (bitXor (getD table (e - 2 ^ highestBit (e % 256)) 0) (getD bits (8 * (e / 256) + highestBit (e % 256)) 0))
 
 unfoldable pub lookedParities : List ℕ → ℕ → ℕ → ℕ
 lookedParities table c zero = 0

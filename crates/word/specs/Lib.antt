@@ -6,3 +6,4 @@ pub mod Span
 pub mod Parities
 pub mod Zeros
 pub mod Marked
+pub mod Doubled

@@ -1,11 +1,13 @@
-// Words of 64 bits: masks, parities, the highest bit, widths; lists of them. Every function is total.
+// Words of 64 bits: masks, parities, the highest bit, widths; lists of them. Every function is total, but for `double_entries`, which asks
+// for the room.
 ghost use mathlib.Core.Path.{_≡_};
-ghost use Prim.Native.Nat.{min};
+ghost use Prim.Native.Nat.{min, _+_, _≤_};
 ghost use lib.ListN.{length, take, getD};
 ghost use Rattle.word.specs.Word.{lowMask, beyond, parity, highestBit, badWidth};
 ghost use Rattle.word.specs.Parities.{parities};
 ghost use Rattle.word.specs.Zeros.{zeros};
 ghost use Rattle.word.specs.Marked.{xorMarked};
+ghost use Rattle.word.specs.Doubled.{Doubled};
 
 // The word with bits 0 to m - 1 set; all 64 bits from m = 64 on.
 pub fn low_mask(m: u64) -> u64
@@ -32,7 +34,8 @@ pub fn shared_parity(a: u64, b: u64) -> u64
     (u64::count_ones(a & b) % 2) as u64
 }
 
-fn at_most_64(n: usize) -> usize
+// The smaller of n and 64.
+pub fn at_most_64(n: usize) -> usize
     ensures { λ r. ⌜ r ≡ min n 64 ⌝ }
 {
     if n < 64 { n } else { 64 }
@@ -99,4 +102,16 @@ pub fn xor_marked(words: &[u64], marks: u64) -> u64
         left = left & (left - 1);
     }
     sum
+}
+
+// Entries e + h to e + 2 h - 1 of a table from the h entries from e on: each of these with the word w XORed in.
+pub fn double_entries(table: &mut [u64], e: usize, h: usize, w: u64)
+    requires { ⌜ e + h + h ≤ length (now table) ⌝ }
+    ensures { λ _. ⌜ Doubled (now (table .entry)) (now (table .exit)) e h h w ⌝ }
+{
+    let mut j = 0;
+    while j < h {
+        table[e + h + j] = table[e + j] ^ w;
+        j += 1;
+    }
 }

@@ -28,14 +28,20 @@ loop-holds c =
 slice-aggregate-double-entries : tie.Need-slice-aggregate-double-entries Inv-loop μ-loop
 slice-aggregate-double-entries c = search needs
 
+word-at-requires : tie.Need-word-at-requires Inv-loop μ-loop
+word-at-requires c κs = search needs
+
 double-entries-requires : tie.Need-double-entries-requires Inv-loop μ-loop
 double-entries-requires c κs = search needs
 
 slice-aggregate-double-entries-2 : tie.Need-slice-aggregate-double-entries-2 Inv-loop μ-loop
 slice-aggregate-double-entries-2 c = search needs
 
-add-double-entries : tie.Need-add-double-entries Inv-loop μ-loop
-add-double-entries c = search needs
+add-word-at : tie.Need-add-word-at Inv-loop μ-loop
+add-word-at c = search needs
+
+word-at-requires-2 : tie.Need-word-at-requires-2 Inv-loop μ-loop
+word-at-requires-2 c κs = search needs
 
 double-entries-requires-2 : tie.Need-double-entries-requires-2 Inv-loop μ-loop
 double-entries-requires-2 c κs = search needs
@@ -43,8 +49,11 @@ double-entries-requires-2 c κs = search needs
 slice-aggregate-double-entries-3 : tie.Need-slice-aggregate-double-entries-3 Inv-loop μ-loop
 slice-aggregate-double-entries-3 c = search needs
 
-add-double-entries-2 : tie.Need-add-double-entries-2 Inv-loop μ-loop
-add-double-entries-2 c = search needs
+add-word-at-2 : tie.Need-add-word-at-2 Inv-loop μ-loop
+add-word-at-2 c = search needs
+
+word-at-requires-3 : tie.Need-word-at-requires-3 Inv-loop μ-loop
+word-at-requires-3 c κs = search needs
 
 double-entries-requires-3 : tie.Need-double-entries-requires-3 Inv-loop μ-loop
 double-entries-requires-3 c κs = search needs
@@ -52,8 +61,11 @@ double-entries-requires-3 c κs = search needs
 slice-aggregate-double-entries-4 : tie.Need-slice-aggregate-double-entries-4 Inv-loop μ-loop
 slice-aggregate-double-entries-4 c = search needs
 
-add-double-entries-3 : tie.Need-add-double-entries-3 Inv-loop μ-loop
-add-double-entries-3 c = search needs
+add-word-at-3 : tie.Need-add-word-at-3 Inv-loop μ-loop
+add-word-at-3 c = search needs
+
+word-at-requires-4 : tie.Need-word-at-requires-4 Inv-loop μ-loop
+word-at-requires-4 c κs = search needs
 
 double-entries-requires-4 : tie.Need-double-entries-requires-4 Inv-loop μ-loop
 double-entries-requires-4 c κs = search needs
@@ -66,9 +78,12 @@ loop-less c = search needs
 
 loop-again : tie.Need-loop-again Inv-loop μ-loop
 loop-again c =
+    let inv = c .before .before .before .before .before .before .before .before .before .before .before .before .before .before .before .before .before .loop .inv in
     let k =
-    made-group _ _ _ _ _ _ _ (c .before .before .before .before .before .before .before .before .before .before .before .before .before .loop .inv .1) (c .before .before .before .before .before .before .before .before .before .before .before .before .before .loop .inv .3)
-    (c .before .before .before .before .before .before .before .before .before .before .double-entries .ensures) (c .before .before .before .before .before .before .before .double-entries2 .ensures) (c .before .before .before .before .double-entries3 .ensures) (c .before .double-entries4 .ensures) in
+    made-group _ _ _ _ _ _ _ _ _ _ _ (inv .1) (inv .3) (c .before .before .before .before .before .before .before .before .before .before .before .before .before .before .word-at .ensures)
+    (c .before .before .before .before .before .before .before .before .before .before .word-at2 .ensures) (c .before .before .before .before .before .before .word-at3 .ensures) (c .before .before .word-at4 .ensures)
+    (c .before .before .before .before .before .before .before .before .before .before .before .before .before .double-entries .ensures) (c .before .before .before .before .before .before .before .before .before .double-entries2 .ensures)
+    (c .before .before .before .before .before .double-entries3 .ensures) (c .before .double-entries4 .ensures) in
     (search needs, omega arith, made-length _ _ _ k, k)
 
 returns : tie.Need-returns Inv-loop μ-loop
@@ -84,15 +99,19 @@ half-bytes-spec =
     table-end-requires
     loop-holds
     slice-aggregate-double-entries
+    word-at-requires
     double-entries-requires
     slice-aggregate-double-entries-2
-    add-double-entries
+    add-word-at
+    word-at-requires-2
     double-entries-requires-2
     slice-aggregate-double-entries-3
-    add-double-entries-2
+    add-word-at-2
+    word-at-requires-3
     double-entries-requires-3
     slice-aggregate-double-entries-4
-    add-double-entries-3
+    add-word-at-3
+    word-at-requires-4
     double-entries-requires-4
     add-e
     loop-less

@@ -1,54 +1,50 @@
--- `bit_parities` meets its contract: the places passed hold the parities with their bits.
-use mathlib.Core.Path.{_≡_}
-use mathlib.Core.List.{map}
-use Prim.Native.Nat.{_≤_, _-_}
-use lib.ListN.{length, take}
-use Rattle.word.specs.Parities.{parities}
-use Rattle.combinations.specs.Step.{units}
-use Rattle.parity_table.proofs.TableLaws.{bits-start, bits-turn, bits-end}
+-- `bit_parities` meets its contract: the words passed, from the last on, are done.
+use Prim.Native.Nat.{_^_}
+use native.Mathlib.Omega.{arith}
 use borrow.Author.Needs.{needs}
+use Rattle.word.proofs.ParityLaws.{Paritied, paritied-start, paritied-small, paritied-turn, paritied-end}
+use Rattle.parity_table.proofs.TableLaws.{bit-parity}
 use Rattle.parity_table.proofs.bit_parities.Statement.{statement}
 use Rattle.parity_table.proofs.bit_parities.Tie as tie
 
 abbrev Inv-loop : tie.InvT-loop
-Inv-loop words bits₀ i₀ bits i = (i ≤ 64) × (length bits ≡ 64) × (take i bits ≡ map (parities (take 64 words)) (units i))
+Inv-loop words i k₀ bits₀ k bits = Paritied words (2 ^ i) k bits
 
 abbrev μ-loop : tie.MeasureT-loop
-μ-loop words bits₀ i₀ bits i = 64 - i
+μ-loop words i k₀ bits₀ k bits = k
 
-no-words-requires : tie.Need-no-words-requires Inv-loop μ-loop
-no-words-requires c κs = search needs
+at-most-64-requires : tie.Need-at-most-64-requires Inv-loop μ-loop
+at-most-64-requires c κs = search needs
 
 loop-holds : tie.Need-loop-holds Inv-loop μ-loop
-loop-holds c = (search needs, c .no-words .ensures, bits-start _ (c .no-words .result))
+loop-holds c = paritied-start _ _ _ (c .at-most-64 .ensures)
 
-shl-word-parities : tie.Need-shl-word-parities Inv-loop μ-loop
-shl-word-parities c = search needs
-
-word-parities-requires : tie.Need-word-parities-requires Inv-loop μ-loop
-word-parities-requires c κs = search needs
+sub-k : tie.Need-sub-k Inv-loop μ-loop
+sub-k c = search needs
 
 mul-bits : tie.Need-mul-bits Inv-loop μ-loop
-mul-bits c = search needs
+mul-bits c = omega (arith, paritied-small _ _ _ _ (c .before .loop .inv) (c .loop-test .taken))
 
-array-write-bits : tie.Need-array-write-bits Inv-loop μ-loop
-array-write-bits c = search needs
+mul-bits-2 : tie.Need-mul-bits-2 Inv-loop μ-loop
+mul-bits-2 c = search needs
 
-add-i : tie.Need-add-i Inv-loop μ-loop
-add-i c = search needs
+shared-slice-read-bits : tie.Need-shared-slice-read-bits Inv-loop μ-loop
+shared-slice-read-bits c = search needs
+
+shr-bits : tie.Need-shr-bits Inv-loop μ-loop
+shr-bits c = search needs
+
+add-bits : tie.Need-add-bits Inv-loop μ-loop
+add-bits c = omega (arith, paritied-small _ _ _ _ (c .before .before .loop .inv) (c .before .loop-test .taken))
 
 loop-less : tie.Need-loop-less Inv-loop μ-loop
 loop-less c = search needs
 
 loop-again : tie.Need-loop-again Inv-loop μ-loop
-loop-again c = (
-  search needs,
-  search needs,
-  bits-turn _ _ _ _ (c .before .before .loop .inv .1) (search needs) (c .before .before .loop .inv .2) (c .word-parities .ensures),
-)
+loop-again c = paritied-turn _ _ _ _ _ (c .before .before .loop .inv) (c .before .loop-test .taken) (bit-parity _ _)
 
 returns : tie.Need-returns Inv-loop μ-loop
-returns c = bits-end _ _ _ (c .before .loop .inv .1) (c .before .loop .inv .0) (search needs) (c .before .loop .inv .2)
+returns c = paritied-end _ _ _ _ (c .before .loop .inv) (search needs)
 
 pub bit-parities-spec : {M : Type 1} → statement M
 bit-parities-spec =
@@ -56,13 +52,14 @@ bit-parities-spec =
     (tie.spec
     Inv-loop
     μ-loop
-    no-words-requires
+    at-most-64-requires
     loop-holds
-    shl-word-parities
-    word-parities-requires
+    sub-k
     mul-bits
-    array-write-bits
-    add-i
+    mul-bits-2
+    shared-slice-read-bits
+    shr-bits
+    add-bits
     loop-less
     loop-again
     returns)

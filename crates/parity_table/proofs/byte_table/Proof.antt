@@ -1,54 +1,54 @@
--- `byte_table` meets its contract. The loop's invariant: the entries below `e` are right.
+-- `byte_table` meets its contract. The loop's invariant: the entries that have no bit from `i` on are right, and the others are 0.
 use mathlib.Core.Path.{_≡_}
 use Prim.Native.Nat.{_≤_, _-_}
 use lib.ListN.{length, take}
-use Rattle.parity_table.proofs.TableLaws.{Made, made-starts, made-turns, made-ends}
+use Rattle.parity_table.proofs.TableLaws.{Made, entriesAt, bits-start, bits-room, bits-turn, bits-end}
 use borrow.Author.Needs.{needs}
 use Rattle.parity_table.proofs.byte_table.Statement.{statement}
 use Rattle.parity_table.proofs.byte_table.Tie as tie
 
 abbrev Inv-loop : tie.InvT-loop
-Inv-loop words bits table₀ e₀ table e = (e ≤ 2048) × (length table ≡ 2048) × Made (take 64 words) table e
+Inv-loop words table₀ i₀ table i = (i ≤ 64) × (length table ≡ 2048) × Made (take 64 words) table (entriesAt i)
 
 abbrev μ-loop : tie.MeasureT-loop
-μ-loop words bits table₀ e₀ table e = 2048 - e
-
-bit-parities-requires : tie.Need-bit-parities-requires Inv-loop μ-loop
-bit-parities-requires c κs = search needs
+μ-loop words table₀ i₀ table i = 64 - i
 
 no-entries-requires : tie.Need-no-entries-requires Inv-loop μ-loop
 no-entries-requires c κs = search needs
 
 loop-holds : tie.Need-loop-holds Inv-loop μ-loop
-loop-holds c = (search needs, c .no-entries .ensures, made-starts _ _)
+loop-holds c = let k = bits-start (take 64 (c .before .before .args .words .now)) _ (c .no-entries .ensures) in (search needs, k .long, k)
 
-table-entry-requires : tie.Need-table-entry-requires Inv-loop μ-loop
-table-entry-requires c κs = search needs
+bit-parities-requires : tie.Need-bit-parities-requires Inv-loop μ-loop
+bit-parities-requires c κs = search needs
 
-mul-table : tie.Need-mul-table Inv-loop μ-loop
-mul-table c = search needs
+slice-aggregate-double-entries : tie.Need-slice-aggregate-double-entries Inv-loop μ-loop
+slice-aggregate-double-entries c = search needs
 
-array-write-table : tie.Need-array-write-table Inv-loop μ-loop
-array-write-table c = search needs
+mul-double-entries : tie.Need-mul-double-entries Inv-loop μ-loop
+mul-double-entries c = search needs
 
-add-e : tie.Need-add-e Inv-loop μ-loop
-add-e c = search needs
+shl-double-entries : tie.Need-shl-double-entries Inv-loop μ-loop
+shl-double-entries c = search needs
+
+double-entries-requires : tie.Need-double-entries-requires Inv-loop μ-loop
+double-entries-requires c κs = bits-room (c .before .before .before .loop .table) _ (c .before .before .loop-test .taken) (c .before .before .before .loop .inv .1)
+
+add-i : tie.Need-add-i Inv-loop μ-loop
+add-i c = search needs
 
 loop-less : tie.Need-loop-less Inv-loop μ-loop
 loop-less c = search needs
 
 loop-again : tie.Need-loop-again Inv-loop μ-loop
 loop-again c =
-    let long = c .before .before .before .before .loop .inv .1 in
-    let bits = c .before .before .before .before .before .before .bit-parities .ensures in
-    let made = c .before .before .before .before .loop .inv .2 in (
-      search needs,
-      search needs,
-      made-turns _ _ _ _ _ long bits made (search needs) (c .table-entry .ensures),
-    )
+    let made = c .before .before .before .before .before .loop .inv .2 in
+    let bit = c .before .before .before .bit-parities .ensures in
+    let k = bits-turn _ _ _ _ _ (c .before .before .before .before .loop-test .taken) made bit (c .before .double-entries .ensures) in
+    (search needs, k .long, k)
 
 returns : tie.Need-returns Inv-loop μ-loop
-returns c = made-ends _ _ _ (c .before .loop .inv .2) (search needs)
+returns c = bits-end _ _ _ (search needs) (c .before .loop .inv .0) (c .before .loop .inv .2)
 
 pub byte-table-spec : {M : Type 1} → statement M
 byte-table-spec =
@@ -56,13 +56,14 @@ byte-table-spec =
     (tie.spec
     Inv-loop
     μ-loop
-    bit-parities-requires
     no-entries-requires
     loop-holds
-    table-entry-requires
-    mul-table
-    array-write-table
-    add-e
+    bit-parities-requires
+    slice-aggregate-double-entries
+    mul-double-entries
+    shl-double-entries
+    double-entries-requires
+    add-i
     loop-less
     loop-again
     returns)

@@ -4,23 +4,20 @@ use Prim.Native.Nat.{_≤_, _-_}
 use native.Mathlib.Omega.{arith}
 use lib.ListN.{length}
 use borrow.Author.Needs.{needs}
-use Rattle.chains.specs.Table.{Doubled}
-use Rattle.chains.proofs.TableLaws.{doubled-starts, doubled-turns, doubled-ends}
-use Rattle.chains.proofs.double_entries.Statement.{statement}
-use Rattle.chains.proofs.double_entries.Tie as tie
+use Rattle.word.specs.Doubled.{Doubled}
+use Rattle.word.proofs.DoubledLaws.{doubled-starts, doubled-turns, doubled-ends}
+use Rattle.word.proofs.double_entries.Statement.{statement}
+use Rattle.word.proofs.double_entries.Tie as tie
 
 abbrev Inv-loop : tie.InvT-loop
-Inv-loop table₀ e h spread c w j₀ table j = (j ≤ h) × (length table ≡ length table₀) × Doubled table₀ table e h j w
+Inv-loop table₀ e h w j₀ table j = (j ≤ h) × (length table ≡ length table₀) × Doubled table₀ table e h j w
 
 abbrev μ-loop : tie.MeasureT-loop
-μ-loop table₀ e h spread c w j₀ table j = h - j
-
-word-at-requires : tie.Need-word-at-requires Inv-loop μ-loop
-word-at-requires c κs = search needs
+μ-loop table₀ e h w j₀ table j = h - j
 
 loop-holds : tie.Need-loop-holds Inv-loop μ-loop
 loop-holds c =
-    let k = doubled-starts (c .before .before .before .args .table .now) (c .before .before .before .args .e) (c .before .before .before .args .h) (c .word-at .result) in (search needs, k .long, k)
+    let k = doubled-starts (c .args .table .now) (c .args .e) (c .args .h) (c .args .w) in (search needs, k .long, k)
 
 add-table : tie.Need-add-table Inv-loop μ-loop
 add-table c = search needs
@@ -51,13 +48,13 @@ loop-less c = search needs
 
 loop-again : tie.Need-loop-again Inv-loop μ-loop
 loop-again c =
-    let k = doubled-turns _ _ _ _ _ _ (omega arith) (c .before .before .before .before .before .before .pre) (c .before .before .loop .inv .2) in (search needs, k .long, k)
+    let k = doubled-turns _ _ _ _ _ _ (omega arith) (c .before .before .before .pre) (c .before .before .loop .inv .2) in (search needs, k .long, k)
 
 same-length : tie.Need-same-length Inv-loop μ-loop
 same-length c = search needs
 
 returns : tie.Need-returns Inv-loop μ-loop
-returns c = doubled-ends _ _ _ _ _ _ _ (omega arith) (c .before .before .word-at .ensures) (c .before .loop .inv .2)
+returns c = doubled-ends _ _ _ _ _ _ (omega arith) (c .before .loop .inv .2)
 
 pub double-entries-spec : {M : Type 1} → statement M
 double-entries-spec =
@@ -65,7 +62,6 @@ double-entries-spec =
     (tie.spec
     Inv-loop
     μ-loop
-    word-at-requires
     loop-holds
     add-table
     mul-table
