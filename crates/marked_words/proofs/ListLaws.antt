@@ -4,7 +4,7 @@ use mathlib.Core.Path.{_≡_, refl, sym, ap, ap₂, subst, _∙_}
 use mathlib.Core.Logic.{dite}
 use mathlib.Core.List.{List, [], _∷_, _++_, append-assoc, append-nil}
 use Prim.Native.Nat.{ℕ, zero, suc, _+_, _-_, _*_, _/_, _%_, _^_, _≤_, _<_, min}
-use native.Mathlib.Nat.{mod-lt, one-mul, div-eq-of-lt-le, pow-suc, pos-of-ne-zero, lt-of-lt-of-le}
+use native.Mathlib.Nat.{mod-lt, one-mul, div-eq-of-lt-le, pow-suc, pos-of-ne-zero, lt-of-lt-of-le, mod-eq-of-lt}
 use native.Mathlib.Numerals.{add-one}
 use native.Mathlib.Decide.{decLe}
 use native.Mathlib.Omega.{arith}
@@ -23,6 +23,7 @@ use Rattle.rows.specs.Marks.{listed, total, markedWords, bits}
 use Rattle.marked_words.specs.Back.{back}
 use Rattle.marked_words.proofs.BackLaws.{rest, joined-rest, joined-none, rest-ext, rest-none, rest-whole, rest-add, rest-joined, joined-stops, back-fits, back-none, back-length, back-more, back-more-room}
 use Rattle.word.proofs.LowestLaws.{digit-mod, digit-past, Lowest, below-lowest, above-lowest, lowest-gone}
+use Rattle.word.proofs.MarkedLaws.{masked-below}
 use Rattle.rows.proofs.DigitLaws.{word-cell}
 use Rattle.marked_rows.proofs.CountLaws.{total-digits}
 use Rattle.rows.proofs.MarkLaws.{length-listed}
@@ -125,7 +126,7 @@ module _ (ws : List ℕ) where
       (sym (ap (λ (x : List ℕ). x ++ rest (marked (bitAnd w (w - 1))) (suc k) (63 - k)) gone)
       ∙ joined-rest (marked (bitAnd w (w - 1))) (suc k) (63 - k) ∙ ap (joined (marked (bitAnd w (w - 1)))) whole)
 
-  words-of-length : (w : ℕ) → w < 2 ^ 64 → length (wordsOf w) ≡ ones w
+  pub words-of-length : (w : ℕ) → w < 2 ^ 64 → length (wordsOf w) ≡ ones w
   unfolding wordsOf
   words-of-length w h = length-chosen ws (bits w) 64 (λ d. mod2-lt (w / 2 ^ d)) ∙ total-digits 64 w h
 
@@ -250,6 +251,23 @@ module _ (ws : List ℕ) where
 
 -- ---- a row, by words of 64 chains
 
+-- the mask of 64 chains or more leaves a word as it is
+whole-mask : (w n : ℕ) → 64 ≤ n → w < 2 ^ 64 → w ≡ bitAnd w (lowMask n)
+unfolding lowMask
+whole-mask w n h l =
+    let full : min n 64 ≡ 64 = omega arith in sym (and-mask w (min n 64) ∙ ap (λ (x : ℕ). w % 2 ^ x) full ∙ mod-eq-of-lt l)
+
+-- marks within the words that are lent for them: masked ones, and those of 64 chains
+module _ (ws : List ℕ) (n : ℕ) where
+  lent-long : length (take (length ws - n) (drop n ws)) ≡ length ws - n
+  lent-long = length-take-le (length ws - n) (drop n ws) (omega (arith, length-drop n ws))
+
+  pub marks-inside : (w mask : ℕ) → mask ≡ lowMask (length ws - n) → bitAnd w mask < 2 ^ length (take (length ws - n) (drop n ws))
+  marks-inside w mask e = masked-below (take (length ws - n) (drop n ws)) w mask (e ∙ ap lowMask (sym lent-long)) .1
+
+  pub word-inside : (w : ℕ) → w < 2 ^ 64 → n + 64 ≤ length ws → w < 2 ^ length (take (length ws - n) (drop n ws))
+  word-inside w h l = let some : 64 ≤ length (take (length ws - n) (drop n ws)) = omega (arith, lent-long) in lt-of-lt-of-le h (pow-mono some)
+
 module _ (ws row : List ℕ) where
   abbrev word : ℕ → List ℕ
   word d = listed (cell row d) (getD ws d 0)
@@ -370,6 +388,17 @@ module _ (ws row : List ℕ) where
     where
       mine : List ℕ
       mine = markedWords vs (bits marks) 64
+
+  -- the same where the row has all of the word's chains: no mask is needed
+  pub listing-turns-whole : ((i : ℕ) → getD row i 0 < 256) → (l₀ l l′ vs : List ℕ) (place place′ i marks : ℕ) → Listing l₀ l place (64 * i) → 0 < i
+      → 64 * i ≤ length ws → marks < 2 ^ 64 → marks ≡ wordAt row (8 * (i - 1)) → vs ≡ take (length ws - 64 * (i - 1)) (drop (64 * (i - 1)) ws)
+      → place′ ≡ length (take place l) - length (markedWords vs (bits marks) 64)
+      → l′ ≡ back (markedWords vs (bits marks) 64) (take place l) ++ drop place l
+      → Listing l₀ l′ place′ (64 * (i - 1))
+  listing-turns-whole bytes l₀ l l′ vs place place′ i marks k h m f ek ev ep el =
+      let mask : ℕ = lowMask (length ws - 64 * (i - 1)) in
+      listing-turns bytes l₀ l l′ vs place place′ i mask marks k h (omega arith) refl
+      (whole-mask marks (length ws - 64 * (i - 1)) (omega arith) f ∙ ap (λ (x : ℕ). bitAnd x mask) ek) ev ep el
 
   pub listing-ends : (l₀ l : List ℕ) (place c : ℕ) → Listing l₀ l place c → c ≡ 0
       → (place ≡ length l₀ - length (markedWords ws (cell row) (length ws))) × (l ≡ back (markedWords ws (cell row) (length ws)) l₀)

@@ -1,11 +1,11 @@
 // The words of the chains whose cell in a row is marked, written over the end of a list. It sees words, numbers and rows; it knows no
-// register and no file. Every function is total.
+// register and no file. The public functions are total; the private ones that ask for something are those without a test in their loops.
 ghost use mathlib.Core.Path.{_≡_};
 ghost use mathlib.Core.List.{[], _∷_};
-ghost use Prim.Native.Nat.{_-_, _≤_, min};
+ghost use Prim.Native.Nat.{_-_, _^_, _≤_, _<_, min};
 ghost use lib.Dec.{ltb};
 ghost use lib.Count.{ones};
-ghost use lib.ListN.{length};
+ghost use lib.ListN.{length, take};
 ghost use Rattle.rows.specs.Row.{cell};
 ghost use Rattle.rows.specs.Marks.{markedWords, bits};
 ghost use Rattle.marked_words.specs.Back.{back};
@@ -46,9 +46,11 @@ fn list_from_last(columns: &mut [u64], words: &[u64], marks: u64) -> usize
     place
 }
 
-// The same for a list that is long enough, from the first chain on: the next bit then doesn't wait for the one before it.
+// The same for a list that is long enough, and marks of chains that have a word, from the first chain on: the next bit then doesn't wait
+// for the one before it.
 fn list_from_first(columns: &mut [u64], words: &[u64], marks: u64) -> usize
     requires { ⌜ ones marks ≤ length (now columns) ⌝ }
+    requires { ⌜ marks < 2 ^ length (now words) ⌝ }
     ensures { λ r. ⌜ r ≡ length (now (columns .entry)) - length (markedWords (now (words .entry)) (bits marks) 64) ⌝ }
     ensures { λ _. ⌜ now (columns .exit) ≡ back (markedWords (now (words .entry)) (bits marks) 64) (now (columns .entry)) ⌝ }
 {
@@ -57,15 +59,33 @@ fn list_from_first(columns: &mut [u64], words: &[u64], marks: u64) -> usize
     let mut left = marks;
     while left != 0 {
         let low = u64::trailing_zeros(left) as usize;
-        columns[place] = word::word_at(words, low);
+        columns[place] = words[low];
         left = left & (left - 1);
         place += 1;
     }
     start
 }
 
-// Writes the words of the chains whose bit in `marks` is 1 over the list's end, and answers with how many places stand before them.
+// The same where 64 chains are all marked: the first 64 words, in a loop of that many turns, which is compiled to moves of several words.
+fn list_whole(columns: &mut [u64], words: &[u64]) -> usize
+    requires { ⌜ 64 ≤ length (now columns) ⌝ }
+    requires { ⌜ 64 ≤ length (now words) ⌝ }
+    ensures { λ r. ⌜ r ≡ length (now (columns .entry)) - 64 ⌝ }
+    ensures { λ _. ⌜ now (columns .exit) ≡ back (take 64 (now (words .entry))) (now (columns .entry)) ⌝ }
+{
+    let start = columns.len() - 64;
+    let mut c: usize = 0;
+    while c < 64 {
+        columns[start + c] = words[c];
+        c += 1;
+    }
+    start
+}
+
+// Writes the words of the chains whose bit in `marks` is 1 over the list's end, and answers with how many places stand before them. Each such
+// chain has a word.
 fn list_word(columns: &mut [u64], words: &[u64], marks: u64) -> usize
+    requires { ⌜ marks < 2 ^ length (now words) ⌝ }
     ensures { λ r. ⌜ r ≡ length (now (columns .entry)) - length (markedWords (now (words .entry)) (bits marks) 64) ⌝ }
     ensures { λ _. ⌜ now (columns .exit) ≡ back (markedWords (now (words .entry)) (bits marks) 64) (now (columns .entry)) ⌝ }
 {
@@ -75,7 +95,28 @@ fn list_word(columns: &mut [u64], words: &[u64], marks: u64) -> usize
     if columns.len() < u64::count_ones(marks) as usize {
         return list_from_last(columns, words, marks);
     }
+    if marks == 0xffff_ffff_ffff_ffff {
+        return list_whole(columns, words);
+    }
     list_from_first(columns, words, marks)
+}
+
+// The words of the chains whose cell in the row is 1 over the list's end, as `list_row` writes them, for 256 chains and a row with all their
+// cells: no word of the row is short, and none needs a mask.
+fn list_256(columns: &mut [u64], words: &[u64], row: &[u8]) -> usize
+    requires { ⌜ length (now words) ≡ 256 ⌝ }
+    requires { ⌜ length (now row) ≡ 32 ⌝ }
+    ensures { λ r. ⌜ r ≡ length (now (columns .entry)) - length (markedWords (now (words .entry)) (cell (now (row .entry))) (length (now (words .entry)))) ⌝ }
+    ensures { λ _. ⌜ now (columns .exit) ≡ back (markedWords (now (words .entry)) (cell (now (row .entry))) (length (now (words .entry)))) (now (columns .entry)) ⌝ }
+{
+    let mut place = columns.len();
+    let mut i: usize = 4;
+    while 0 < i {
+        i -= 1;
+        let marks = numbers::eight_bytes(row, 8 * i);
+        place = list_word(&mut columns[..place], &words[64 * i..], marks);
+    }
+    place
 }
 
 // Writes the words of the chains whose cell in the row is 1 over the list's end, and answers with how many places stand before
@@ -85,6 +126,9 @@ pub fn list_row(columns: &mut [u64], words: &[u64], row: &[u8]) -> usize
     ensures { λ _. ⌜ now (columns .exit) ≡ back (markedWords (now (words .entry)) (cell (now (row .entry))) (length (now (words .entry)))) (now (columns .entry)) ⌝ }
 {
     let chains = words.len();
+    if (chains == 256) & (row.len() == 32) {
+        return list_256(columns, words, row);
+    }
     let mut place = columns.len();
     let mut i = chains / 64 + (chains % 64 + 63) / 64;
     while 0 < i {

@@ -8,7 +8,7 @@ use lib.Bits.{bitAnd}
 use lib.Count.{ones-le}
 use lib.ListN.{length, drop}
 use lib.Seq.{length-take-le}
-use Rattle.marked_words.proofs.ListLaws.{marks-small}
+use Rattle.marked_words.proofs.ListLaws.{marks-small, marks-inside}
 use Rattle.marked_words.proofs.FitLaws.{Fitting, fitting-room, fitting-starts, fitting-turns, fitting-stops, fitting-ends}
 use borrow.Author.Needs.{needs}
 use Rattle.marked_words.proofs.list_fitting.Statement.{statement}
@@ -39,6 +39,10 @@ returns c =
 
 slice-aggregate-list-word : tie.Need-slice-aggregate-list-word Inv-loop μ-loop
 slice-aggregate-list-word c = sym (length-take-le _ _ (search needs))
+
+list-word-requires : tie.Need-list-word-requires Inv-loop μ-loop
+list-word-requires c κs =
+    marks-inside (c .before .before .before .before .before .before .before .before .before .before .before .args .words .now) (64 * (c .before .before .before .before .before .before .before .loop .i - 1)) (c .before .before .before .before .read-word .result) _ (c .before .before .before .before .before .low-mask .ensures)
 
 loop-again : tie.Need-loop-again Inv-loop μ-loop
 loop-again c =
@@ -86,7 +90,7 @@ list-fitting-spec =
     (λ c. search needs)
     (λ c. search needs)
     (λ c. search needs)
-    (λ c κs. search needs)
+    list-word-requires
     (λ c. search needs)
     (λ c. search needs)
     loop-again
