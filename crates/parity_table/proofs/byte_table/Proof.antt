@@ -32,7 +32,7 @@ shl-double-entries : tie.Need-shl-double-entries Inv-loop μ-loop
 shl-double-entries c = search needs
 
 double-entries-requires : tie.Need-double-entries-requires Inv-loop μ-loop
-double-entries-requires c κs = bits-room (c .before .before .before .loop .table) _ (c .before .before .loop-test .taken) (c .before .before .before .loop .inv .1)
+double-entries-requires c κs = bits-room (c .before .before .before .loop .table) (c .before .before .before .loop .i) (search needs) (c .before .before .before .loop .inv .1)
 
 add-i : tie.Need-add-i Inv-loop μ-loop
 add-i c = search needs
@@ -44,7 +44,7 @@ loop-again : tie.Need-loop-again Inv-loop μ-loop
 loop-again c =
     let made = c .before .before .before .before .before .loop .inv .2 in
     let bit = c .before .before .before .bit-parities .ensures in
-    let k = bits-turn _ _ _ _ _ (c .before .before .before .before .loop-test .taken) made bit (c .before .double-entries .ensures) in
+    let k = bits-turn _ _ _ (c .before .before .before .before .before .loop .i) _ (search needs) made bit (c .before .double-entries .ensures) in
     (search needs, k .long, k)
 
 returns : tie.Need-returns Inv-loop μ-loop
