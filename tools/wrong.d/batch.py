@@ -1276,7 +1276,7 @@ class Batch:
                 inversion = self.pick([self.bits(min(m, 64)), 1 << min(m, 63), self.bits(64)])
                 self.call("register::limits", [m, self.bits(min(m, 64)), self.pick(NUMBERS), self.pick(NUMBERS)])
                 self.call("register::fresh", [m, w, inversion])
-                self.call("chains::words", [m, self.pick([0, w, 1 << min(m, 63)]), self.pick([0, 1, 2, ALL])])
+                self.call("chains::chosen_word", [ALL, self.pick([0, w, 1 << min(m, 63)]), self.pick([0, 1, 2])])
                 spread = self.spread(max(1, min(m, 64)), max(1, n))
                 if self.random.random() < 0.4:
                     spread[self.random.randrange(len(spread))] = self.pick([0, ALL, 1 << min(m, 63)])
@@ -1357,7 +1357,6 @@ class Batch:
         for at in (ALL, ALL - 1, ALL - 7, ALL - 8, 1 << 63):
             data, w = self.junk(9), self.bits(64)
             self.call("numbers::reads", [at], a=data)
-            self.call("numbers::whole_word", [at], a=data)
             self.call("numbers::eight_bytes", [at], a=data)
             self.call("written_numbers::put_word", [at, w], d=data)
             self.call("numbers::part", [at, ALL], a=data, d=self.junk(24))
@@ -1378,13 +1377,15 @@ class Batch:
             self.call("word::word_at", [self.pick([0, 1, 4, 5, 6, self.pick(NUMBERS)])], v=self.junk_words(5))
             self.call("written_numbers::put_32", [self.pick([0, 1, 8]), self.pick([0, 1, 9])], a=self.junk(self.pick([31, 32, 41])), d=self.junk(self.pick([31, 32, 33, 40, 50])))
             self.call("sparse_columns::ones_pay", [self.pick([0, 1, 13, 14, 122, 123, 1006, 1023, 1024, self.pick(NUMBERS)]), self.pick([1, 8, 255, 256, 257, 65535]), self.pick([0, 1, 8, 64, 511, 512, 513])])
+            self.call("word::double_entries", [self.pick([0, 1, 3]), self.pick([0, 1, 2, 4]), w], v=self.junk_words(self.pick([4, 8, 11, 12])))
+            self.call("rows::pairs_share_a_bit", [self.pick([0, 1, 64]), self.pick([0, 1, 2, 3])],
+                      a=[x & self.pick([0, 0, 255, 1 << self.random.randrange(8)]) for x in self.junk(self.pick([64, 128, 193, 257]))])
             self.call("word::xor_marked", [w], v=self.junk_words(self.pick([0, 1, 5, 63, 64, 65, 80])))
             self.call("word::word_parities", [w], v=self.junk_words(self.pick([0, 1, 5, 63, 64, 65, 80])))
             data = self.junk(self.pick([0, 1, 2, 3, 7, 8, 9, 10, 16, 17]))
             at = self.pick([0, 1, len(data), max(0, len(data) - 1), max(0, len(data) - 2), max(0, len(data) - 8),
                             max(0, len(data) - 7), self.pick(NUMBERS)])
             self.call("numbers::reads", [at], a=data)
-            self.call("numbers::whole_word", [at], a=data)
             self.call("numbers::eight_bytes", [at], a=data)
             self.call("written_numbers::put_word", [at, w], d=data)
             self.call("numbers::moved", [self.pick(NUMBERS), self.pick(NUMBERS), self.pick(NUMBERS)])

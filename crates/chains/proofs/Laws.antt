@@ -195,15 +195,6 @@ pub bad-spread-from : (m : ℕ) (ws : List ℕ) (c : ℕ) → c < length ws
 unfolding badSpread anyOf
 bad-spread-from m ws c l = rw (drop-cons ws c 0 l)
 
--- the word of chain c and the words after it decide what the words from c on do
-pub bad-spread-turn : (m : ℕ) (ws : List ℕ) (c : ℕ) (b : Bool) → c < length ws → badSpread m (drop c ws) ≡ badSpread m ws
-    → (eqb (getD ws c 0) 0 || beyond m (getD ws c 0)) ≡ b → (b || badSpread m (drop (suc c) ws)) ≡ badSpread m ws
-bad-spread-turn m ws c b l e h = sym (rw h at (bad-spread-from m ws c l)) ∙ e
-
--- after the last word nothing is left to decide it
-pub bad-spread-ended : (m : ℕ) (ws : List ℕ) (c : ℕ) → length ws ≤ c → badSpread m (drop c ws) ≡ badSpread m ws → false ≡ badSpread m ws
-bad-spread-ended m ws c l e = sym (bad-spread-none m) ∙ ap (badSpread m) (sym (drop-of-length-le ws l)) ∙ e
-
 -- what the loop over the words knows: one of the words before c is 0 (`none`) or has a bit at or above m, as their OR (`seen`) then has, or
 -- one from c on is bad
 pub folded-starts : (m : ℕ) (ws : List ℕ) → ((false || beyond m 0) || badSpread m ws) ≡ badSpread m ws

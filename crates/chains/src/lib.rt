@@ -1,22 +1,12 @@
 // Chains: their spread words and what they drive into the register's inputs, cell by cell or by a table of half bytes. It sees
 // words, numbers and rows; it knows no register. Every function is total.
 ghost use mathlib.Core.Path.{_≡_};
-ghost use mathlib.Core.Bool.{_||_};
 ghost use Prim.Native.Nat.{min, _+_, _≤_, _<_};
 ghost use lib.Bits.{bitXor};
-ghost use lib.Dec.{eqb};
 ghost use lib.ListN.{length, getD, replicate};
-ghost use Rattle.word.specs.Word.{beyond};
 ghost use Rattle.rows.specs.Row.{cell};
 ghost use Rattle.chains.specs.Driven.{chosen, driven, badSpread};
 ghost use Rattle.chains.specs.Table.{HalfBytes, tableEnd, lookedByte, lookedUp};
-
-// Whether a spread word is zero or has a bit at or above m.
-pub fn is_bad_spread_word(m: u64, w: u64) -> bool
-    ensures { λ r. ⌜ r ≡ (eqb w 0 || beyond m w) ⌝ }
-{
-    (w == 0) | word::is_beyond(m, w)
-}
 
 // Number 6: whether one of the spread words is zero or has a bit at or above m. The words are looked at together: one has a bit there
 // exactly when the OR of all has.

@@ -8,12 +8,11 @@ use native.Mathlib.Nat.{add-zero, add-suc, suc-add, pow-suc, mod-lt, mod-one, on
 use native.Mathlib.Decide.{decLt}
 use native.Mathlib.Numerals.{add-one, towards-suc}
 use lib.Arith.{mod-mul}
-use borrow.Author.Tests.{le-leb, lt-leb}
-use lib.Dec.{leb, lit<}
+use lib.Dec.{lit<}
 use lib.ListN.{length, getD, set, take, drop, length-append, drop-of-length-le}
 use lib.Pow.{pow-mono, pow-add}
 use lib.Seq.{drop-drop, take-nil, take-at, getD-take, drop-append-seam, sets, set-out}
-use Rattle.numbers.specs.Bytes.{number, numberAt, countAt, wordAt, wholeWordAt, wordsAt, bytesOf, wordBytes}
+use Rattle.numbers.specs.Bytes.{number, numberAt, countAt, wordAt, wordsAt, bytesOf, wordBytes}
 
 pub number-at-zero : (s : List ℕ) (i : ℕ) → numberAt zero s i ≡ 0
 unfolding numberAt number
@@ -62,16 +61,6 @@ pub word-of-bytes : (s : List ℕ) (i : ℕ)
     ≡ number
     (getD s i 0 ∷ getD s (i + 1) 0 ∷ getD s (i + 2) 0 ∷ getD s (i + 3) 0 ∷ getD s (i + 4) 0 ∷ getD s (i + 5) 0 ∷ getD s (i + 6) 0 ∷ getD s (i + 7) 0 ∷ [])
 word-of-bytes s i = simp towards-suc (number-of-bytes 8 s i)
-
--- ---- a word all of whose bytes are there
-
-pub whole-word : (s : List ℕ) (i : ℕ) → i + 8 ≤ length s → wholeWordAt s i ≡ wordAt s i
-unfolding wholeWordAt
-whole-word s i h = rw (le-leb (i + 8) (length s) h)
-
-pub whole-absent : (s : List ℕ) (i : ℕ) → length s < i + 8 → 0 ≡ wholeWordAt s i
-unfolding wholeWordAt
-whole-absent s i h = rw (lt-leb (i + 8) (length s) h)
 
 -- ---- a word, from its last byte on
 

@@ -4,14 +4,11 @@
 --   numberAt k s i    the number of the k bytes of s from place i; a byte past the end counts as 0
 --   countAt s i       the count of 2 bytes at place i
 --   wordAt s i        the word of 8 bytes at place i
---   wholeWordAt s i   the same where all 8 bytes are there, and 0 where they aren't
 --   wordsAt s i k     the k words of 8 bytes from place i
 --   bytesOf k x       the k low bytes of x, low byte first
 --   wordBytes ws      the words ws, 8 bytes each
-use mathlib.Core.Bool.{cond}
 use mathlib.Core.List.{List, [], _∷_, _++_}
 use Prim.Native.Nat.{ℕ, zero, suc, _+_, _*_, _/_, _%_}
-use lib.Dec.{leb}
 use lib.ListN.{length, take, drop}
 
 unfoldable pub number : List ℕ → ℕ
@@ -26,9 +23,6 @@ countAt s i = numberAt 2 s i
 
 abbrev pub wordAt : List ℕ → ℕ → ℕ
 wordAt s i = numberAt 8 s i
-
-unfoldable pub wholeWordAt : List ℕ → ℕ → ℕ
-wholeWordAt s i = cond {A = ℕ} (leb (i + 8) (length s)) (wordAt s i) 0
 
 unfoldable pub wordsAt : List ℕ → ℕ → ℕ → List ℕ
 wordsAt s i zero = []

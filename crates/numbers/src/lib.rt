@@ -3,7 +3,7 @@ ghost use mathlib.Core.Path.{_≡_};
 ghost use mathlib.Core.List.{[], _∷_};
 ghost use Prim.Native.Nat.{min, _+_, _<_, _≤_};
 ghost use lib.ListN.{length, getD, take, drop};
-ghost use Rattle.numbers.specs.Bytes.{number, countAt, wordAt, wholeWordAt};
+ghost use Rattle.numbers.specs.Bytes.{number, countAt, wordAt};
 
 // A byte as a word.
 pub fn wide(b: u8) -> u64
@@ -105,19 +105,6 @@ pub fn eight_bytes(s: &[u8], i: usize) -> u64
         s[i + 6],
         s[i + 7],
     )
-}
-
-// The word of 8 bytes of s at place i, low byte first; 0 where they aren't all there.
-pub fn whole_word(s: &[u8], i: usize) -> u64
-    ensures { λ r. ⌜ r ≡ wholeWordAt (now (s .entry)) i ⌝ }
-{
-    if s.len() < 8 {
-        return 0;
-    }
-    if s.len() - 8 < i {
-        return 0;
-    }
-    eight_bytes(s, i)
 }
 
 // The word of 8 bytes of s at place i, low byte first; a byte past the end counts as 0.

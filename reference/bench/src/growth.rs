@@ -196,10 +196,11 @@ fn stroke([x1, y1, x2, y2]: [f64; 4], style: &str) -> String {
 fn axes(left: f64, title: &str, under: &str) -> String {
     let (grey, right) = ("stroke=\"#ddd\"", left + WIDTH);
     let mut svg = text(left, 30.0, "start", title);
-    for power in 0..=5 {
-        let (at, name) = (x(left, 10f64.powi(power)), 10u64.pow(power as u32));
+    let numbers = ["1", "10", "100", "1,000", "10,000", "100,000"];
+    for (power, name) in (0..).zip(numbers) {
+        let at = x(left, 10f64.powi(power));
         svg += &stroke([at, TOP, at, BOTTOM], grey);
-        svg += &text(at, BOTTOM + 18.0, "middle", &name.to_string());
+        svg += &text(at, BOTTOM + 18.0, "middle", name);
     }
     let times = [
         "0.1 µs", "1 µs", "10 µs", "100 µs", "1 ms", "10 ms", "100 ms",

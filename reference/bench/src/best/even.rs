@@ -3,7 +3,6 @@
 use super::basis::Basis;
 
 /// A test of columns against the words that a basis leaves.
-#[allow(clippy::large_enum_variant)]
 pub enum Even {
     Words([u64; 64], usize),
     Table(Table),
@@ -13,8 +12,7 @@ pub enum Even {
 /// is its own entry and isn't looked up: where only such bits stand above some byte, the table ends there.
 pub struct Table {
     tops: u64,
-    bytes: usize,
-    table: [[u64; 256]; 8],
+    bytes: Vec<[u64; 256]>,
 }
 
 /// How many columns are tested together.
@@ -38,14 +36,14 @@ impl Even {
     pub fn run(&self, columns: &[u64]) -> usize {
         match self {
             Even::Words(words, q) => even_run(columns, |block| is_even(&words[..*q], block)),
-            Even::Table(table) => match table.bytes {
-                0..=2 => even_run(columns, |block| table.is_even::<2>(block)),
-                3 => even_run(columns, |block| table.is_even::<3>(block)),
-                4 => even_run(columns, |block| table.is_even::<4>(block)),
-                5 => even_run(columns, |block| table.is_even::<5>(block)),
-                6 => even_run(columns, |block| table.is_even::<6>(block)),
-                7 => even_run(columns, |block| table.is_even::<7>(block)),
-                _ => even_run(columns, |block| table.is_even::<8>(block)),
+            Even::Table(table) => match table.bytes.len() {
+                0..=2 => table.run::<2>(columns),
+                3 => table.run::<3>(columns),
+                4 => table.run::<4>(columns),
+                5 => table.run::<5>(columns),
+                6 => table.run::<6>(columns),
+                7 => table.run::<7>(columns),
+                _ => table.run::<8>(columns),
             },
         }
     }
@@ -98,29 +96,30 @@ impl Table {
         let tops = words.iter().fold(0u64, |a, w| a | 1 << w.ilog2());
         let low = 64 - (!tops).leading_zeros() as usize;
         let bits = parities_of_bits(words);
-        let mut table = [[0; 256]; 8];
-        for (byte, bits) in table.iter_mut().zip(bits.chunks_exact(8)) {
+        let mut bytes = vec![[0; 256]; low.div_ceil(8).max(2)];
+        for (byte, bits) in bytes.iter_mut().zip(bits.chunks_exact(8)) {
             for (k, bit) in bits.iter().enumerate() {
-                for x in 0..1 << k {
-                    byte[(1 << k) + x] = byte[x] ^ bit;
+                let (done, next) = byte.split_at_mut(1 << k);
+                for (to, from) in next.iter_mut().zip(done) {
+                    *to = *from ^ bit;
                 }
             }
         }
-        Table {
-            tops,
-            bytes: low.div_ceil(8),
-            table,
-        }
+        Table { tops, bytes }
     }
 
-    /// Whether each column is even with all words, by the first N bytes.
-    fn is_even<const N: usize>(&self, columns: &[u64]) -> bool {
+    /// How many columns at the front are even with all words; the table has N bytes.
+    fn run<const N: usize>(&self, columns: &[u64]) -> usize {
+        let table: &[[u64; 256]; N] = self.bytes[..].try_into().expect("N bytes");
         let above = if N < 8 { u64::MAX << (8 * N) } else { 0 };
+        let tops = self.tops & above;
         let odd = |c: u64| {
-            let looked_up = (0..N).map(|i| self.table[i][(c >> (8 * i)) as usize % 256]);
-            looked_up.fold(c & self.tops & above, |a, entry| a ^ entry)
+            let looked_up = (0..N).map(|i| table[i][(c >> (8 * i)) as usize % 256]);
+            looked_up.fold(c & tops, |a, entry| a ^ entry)
         };
-        columns.iter().fold(0, |a, c| a | odd(*c)) == 0
+        even_run(columns, |block| {
+            block.iter().fold(0, |a, c| a | odd(*c)) == 0
+        })
     }
 }
 
