@@ -1276,7 +1276,7 @@ class Batch:
                 inversion = self.pick([self.bits(min(m, 64)), 1 << min(m, 63), self.bits(64)])
                 self.call("register::limits", [m, self.bits(min(m, 64)), self.pick(NUMBERS), self.pick(NUMBERS)])
                 self.call("register::fresh", [m, w, inversion])
-                self.call("chains::chosen_word", [ALL, self.pick([0, w, 1 << min(m, 63)]), self.pick([0, 1, 2])])
+                self.call("chains::chosen_word", [self.pick([0, 1, 2, ALL]), self.pick([0, w, 1 << min(m, 63)])])
                 spread = self.spread(max(1, min(m, 64)), max(1, n))
                 if self.random.random() < 0.4:
                     spread[self.random.randrange(len(spread))] = self.pick([0, ALL, 1 << min(m, 63)])
@@ -1305,6 +1305,9 @@ class Batch:
             words, row = self.junk_words(n), self.junk(self.pick([row_bytes(n), row_bytes(n), 0, max(0, row_bytes(n) - 1), row_bytes(n) + 9]))
             if self.random.random() < 0.5:
                 row = bytes(x & self.random.getrandbits(8) & self.random.getrandbits(8) for x in row)
+            elif self.random.random() < 0.5:
+                # 64 chains that are all marked, or none
+                row = b"".join(self.pick([bytes(8), b"\xff" * 8, row[8 * k:8 * k + 8]])[:len(row) - 8 * k] for k in range(-(-len(row) // 8)))
             marked = bin(int.from_bytes(row, "little") & low_row(n)).count("1")
             for room in {marked, max(0, marked - 1), marked + 3, marked // 2, 0}:
                 self.call("marked_words::list_row", v=words, a=row, u=self.junk_words(room))
@@ -1373,13 +1376,14 @@ class Batch:
         for _ in range(count):
             m, w = self.pick([self.random.randrange(67), self.pick(NUMBERS)]), self.pick([self.bits(64), self.pick(NUMBERS)])
             self.call("word::widths", [m, self.pick([w, 1 << min(m, 63), low(m), low(m) + 1 & ALL, 0])])
+            self.call("word::at_most_64", [self.pick([0, 63, 64, 65, m])])
             self.call("word::shared_parity", [w, self.bits(64)])
             self.call("word::word_at", [self.pick([0, 1, 4, 5, 6, self.pick(NUMBERS)])], v=self.junk_words(5))
             self.call("written_numbers::put_32", [self.pick([0, 1, 8]), self.pick([0, 1, 9])], a=self.junk(self.pick([31, 32, 41])), d=self.junk(self.pick([31, 32, 33, 40, 50])))
             self.call("sparse_columns::ones_pay", [self.pick([0, 1, 13, 14, 122, 123, 1006, 1023, 1024, self.pick(NUMBERS)]), self.pick([1, 8, 255, 256, 257, 65535]), self.pick([0, 1, 8, 64, 511, 512, 513])])
             self.call("word::double_entries", [self.pick([0, 1, 3]), self.pick([0, 1, 2, 4]), w], v=self.junk_words(self.pick([4, 8, 11, 12])))
             self.call("rows::pairs_share_a_bit", [self.pick([0, 1, 64]), self.pick([0, 1, 2, 3])],
-                      a=[x & self.pick([0, 0, 255, 1 << self.random.randrange(8)]) for x in self.junk(self.pick([64, 128, 193, 257]))])
+                      a=bytes(x & self.pick([0, 0, 255, 1 << self.random.randrange(8)]) for x in self.junk(self.pick([64, 128, 193, 257]))))
             self.call("word::xor_marked", [w], v=self.junk_words(self.pick([0, 1, 5, 63, 64, 65, 80])))
             self.call("word::word_parities", [w], v=self.junk_words(self.pick([0, 1, 5, 63, 64, 65, 80])))
             data = self.junk(self.pick([0, 1, 2, 3, 7, 8, 9, 10, 16, 17]))
