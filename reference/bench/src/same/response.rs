@@ -184,7 +184,7 @@ fn fill_sparse(marks: Marks, read: Read, spread: &[u64; 256], columns: &mut [u64
 
 /// Up to 512 columns are made one by one; for more, all the chains' words are advanced together.
 fn fill_columns(marks: Marks, read: Read, spread: &[u64; 256], columns: &mut [u64]) {
-    if columns.len() > 512 || bad_spread(read.m, &spread[..read.n]) {
+    if columns.len() > 512 || is_bad_spread(read.m, spread[..read.n].iter().copied()) {
         fill_swept(marks, read, spread, 0..read.s, columns);
     } else {
         fill_sparse(marks, read, spread, columns)

@@ -1,6 +1,6 @@
 //! The words of a set from portions of its columns, as many as a working list of 64 places takes, from the last column on.
 
-use super::elimination::{byte_table, put_words, reduce, skip_by_table, unit_words};
+use super::elimination::{byte_table, put_words, reduce, skip_by_table, skip_plainly, unit_words};
 use super::response::*;
 use super::set::Read;
 use super::ties::{count_flags, fill_symbols, opening_flags, unmark, Ties};
@@ -86,12 +86,6 @@ fn is_table_worth(at: Progress, words: usize) -> bool {
     2 <= words && at.calm && 256 <= at.more / 64 * words
 }
 
-/// How many columns at the front are even with every word.
-fn skip_plainly(words: &[u64], columns: &[u64]) -> usize {
-    let even = |column: &u64| words.iter().all(|w| (w & column).count_ones() % 2 == 0);
-    columns.iter().take_while(|c| even(c)).count()
-}
-
 /// The next portion: its columns through the elimination. With a table of the words, first all portions that leave them as they are.
 fn add_next(
     source: Source,
@@ -173,7 +167,7 @@ fn reduce_cells(
 ) -> usize {
     let mut all = *spread;
     let unknowns = marks.count(0..read.s);
-    let many = unknowns > 512 || bad_spread(read.m, &spread[..read.n]);
+    let many = unknowns > 512 || is_bad_spread(read.m, spread[..read.n].iter().copied());
     let table = (!many).then(|| powers(read));
     let source = Source {
         marks,
