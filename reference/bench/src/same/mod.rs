@@ -2,6 +2,7 @@
 //! Built for plain x86-64, as the library is. The files follow its crates, and a function that does what one of the library's does has
 //! its name.
 
+pub mod closed_words;
 pub mod cutting;
 pub mod elimination;
 pub mod plan;
