@@ -15,19 +15,18 @@ fn add_column(words: &mut [u64], column: u64) -> usize {
     words.len() - 1
 }
 
-/// The parities of every byte of a column with the words.
+/// Bit i of each word as one word, bit k for word k: the words' parities with that single bit.
+fn bit_parities(words: &[u64], i: usize) -> u64 {
+    let words = words.iter().rev();
+    words.fold(0, |bits, w| 2 * bits + (w >> i & 1))
+}
+
+/// The parities of every byte of a column with the words: bit i doubles the entries that its byte has so far.
 pub fn byte_table(words: &[u64]) -> [u64; 2048] {
-    let mut bits = [0; 64];
-    for (i, entry) in bits.iter_mut().enumerate() {
-        *entry = parities(words, 1 << i);
-    }
     let mut table = [0; 2048];
-    for e in 0..2048usize {
-        let byte = e % 256;
-        if byte != 0 {
-            let top = byte.ilog2() as usize;
-            table[e] = table[e - (1 << top)] ^ bits[8 * (e / 256) + top];
-        }
+    for i in 0..64 {
+        let entries = &mut table[256 * (i / 8)..];
+        double_entries(entries, 1 << (i % 8), bit_parities(words, i));
     }
     table
 }
@@ -44,6 +43,17 @@ pub fn skip_by_table(table: &[u64; 2048], columns: &[u64]) -> usize {
     first.unwrap_or(columns.len())
 }
 
+/// .. whose table is made for it.
+pub fn skip_even(words: &[u64], columns: &[u64]) -> usize {
+    skip_by_table(&byte_table(words), columns)
+}
+
+/// .. without a table.
+pub fn skip_plainly(words: &[u64], columns: &[u64]) -> usize {
+    let even = |column: &u64| words.iter().all(|w| (w & column).count_ones() % 2 == 0);
+    columns.iter().take_while(|c| even(c)).count()
+}
+
 /// The place of the column to take next: the table is made where the last column changed nothing and it pays.
 fn next_place(words: &[u64], before: usize, columns: &[u64], from: usize) -> usize {
     let count = words.len();
@@ -53,7 +63,7 @@ fn next_place(words: &[u64], before: usize, columns: &[u64], from: usize) -> usi
     if (columns.len() - from) / 64 * count < 256 {
         return from;
     }
-    from + skip_by_table(&byte_table(words), &columns[from..])
+    from + skip_even(words, &columns[from..])
 }
 
 /// How many words are left, at the front of `held`.

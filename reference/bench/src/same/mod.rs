@@ -2,6 +2,7 @@
 //! Built for plain x86-64, as the library is. The files follow its crates, and a function that does what one of the library's does has
 //! its name.
 
+pub mod closed_words;
 pub mod cutting;
 pub mod elimination;
 pub mod plan;
@@ -28,6 +29,15 @@ fn short_word(bytes: &[u8], at: usize) -> u64 {
     there.fold(0, |w, &b| w << 8 | u64::from(b))
 }
 
+/// The lowest bits 1, so many of them; all 64 where that is more.
+fn low_mask(bits: usize) -> u64 {
+    if bits < 64 {
+        (1 << bits) - 1
+    } else {
+        u64::MAX
+    }
+}
+
 fn beyond(m: u64, w: u64) -> bool {
     m < 64 && w >> m != 0
 }
@@ -36,11 +46,28 @@ fn odd(a: u64, b: u64) -> u64 {
     u64::from((a & b).count_ones() & 1)
 }
 
+/// The XOR of the words whose bit in `marks` is 1, from one such bit to the next.
+fn xor_marked(words: &[u64], marks: u64) -> u64 {
+    let mut left = marks & low_mask(words.len());
+    let mut sum = 0;
+    while left != 0 {
+        sum ^= words[left.trailing_zeros() as usize];
+        left &= left - 1;
+    }
+    sum
+}
+
 /// The XOR of the powers whose bit in w is 1.
 fn from_powers(powers: &[u64], w: u64) -> u64 {
-    let bit = |k: usize| (w >> k & 1).wrapping_neg();
-    let chosen = powers.iter().enumerate().map(|(k, p)| p & bit(k));
-    chosen.fold(0, |a, p| a ^ p)
+    xor_marked(powers, w)
+}
+
+/// The h entries behind the first h of a table: each of these with the word w XORed in.
+fn double_entries(table: &mut [u64], h: usize, w: u64) {
+    let (made, next) = table.split_at_mut(h);
+    for (to, from) in next.iter_mut().zip(made) {
+        *to = *from ^ w;
+    }
 }
 
 /// The parities of the words with y as one word, bit i for word i.
@@ -56,8 +83,11 @@ fn bad_inversion(m: u64, inversion: u64) -> bool {
     beyond(m, inversion)
 }
 
-fn bad_spread(m: u64, spread: &[u64]) -> bool {
-    spread.iter().any(|&w| w == 0 || beyond(m, w))
+/// Number 6, the words looked at together: one has a bit at or above m exactly when the OR of all has.
+fn is_bad_spread(m: u64, spread: impl Iterator<Item = u64>) -> bool {
+    let look = |(seen, none), w| (seen | w, none | (w == 0));
+    let (seen, none) = spread.fold((0, false), look);
+    none | beyond(m, seen)
 }
 
 /// Whether a row of n chains has a spare bit set, by one byte.

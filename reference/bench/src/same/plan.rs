@@ -7,25 +7,53 @@ pub fn is_bad_word_count(m: u64, q: usize) -> bool {
     q == 0 || q as u64 > m
 }
 
-/// Whether the words are a reduced list for m, by one pass.
+/// Whether the word w can be the next one of a reduced list, where `seen` holds the earlier words' highest bits.
+fn is_next(seen: u64, w: u64) -> bool {
+    seen < w && seen & w == 0
+}
+
+/// The bits `seen`, with w's highest bit.
+fn with_highest(seen: u64, w: u64) -> u64 {
+    seen | 1 << (63 - w.leading_zeros())
+}
+
+/// Whether the words are a reduced list for m, by one pass. They ascend, so only behind the last is it asked whether one goes beyond m.
 pub fn is_reduced(m: u64, words: impl Iterator<Item = u64>) -> bool {
-    let (mut last, mut seen) = (0, 0u64);
+    let mut seen = 0;
     for w in words {
-        if w <= last || beyond(m, w) || w & seen != 0 {
+        if !is_next(seen, w) {
             return false;
         }
-        seen |= 1 << (63 - w.leading_zeros());
-        last = w;
+        seen = with_highest(seen, w);
     }
-    true
+    !beyond(m, seen)
 }
 
-fn words_in(plan: &[u8], q: usize) -> impl DoubleEndedIterator<Item = u64> + '_ {
-    plan[4..4 + 8 * q].chunks_exact(8).map(|b| word(b, 0))
+/// m, and the words where they stand; none where the plan ends before its last word.
+fn words_in(plan: &[u8]) -> Option<(u64, impl ExactSizeIterator<Item = u64> + '_)> {
+    if plan.len() < 4 {
+        return None;
+    }
+    let words = plan.get(4..4 + 8 * count(plan, 2))?.chunks_exact(8);
+    Some((count(plan, 0) as u64, words.map(|b| word(b, 0))))
 }
 
-/// Numbers 19 to 22: m, q and the expected bits.
-fn check_plan(plan: &[u8]) -> Result<(u64, usize, u64), u64> {
+/// Number 21, for a plan that doesn't end before its last word.
+fn is_bad_word_list(plan: &[u8]) -> bool {
+    match words_in(plan) {
+        Some((m, words)) => !is_reduced(m, words),
+        None => true,
+    }
+}
+
+/// The expected bits of a plan of q words that has the exact length: they are the highest of its last 8 bytes.
+fn expected_bits(plan: &[u8], q: usize) -> u64 {
+    let others = 8 - q.div_ceil(8);
+    word(plan, plan.len() - 8) >> (8 * others)
+}
+
+/// Numbers 19 to 22, where `bad` says whether 21 applies: m, q and the expected bits.
+fn check_listed(plan: &[u8], bad: bool) -> Result<(u64, usize, u64), u64> {
     if plan.len() < 2 || !(1..=64).contains(&count(plan, 0)) {
         return Err(19);
     }
@@ -37,28 +65,55 @@ fn check_plan(plan: &[u8]) -> Result<(u64, usize, u64), u64> {
     if is_bad_word_count(m, q) || plan.len() < 4 + 8 * q {
         return Err(20);
     }
-    if !is_reduced(m, words_in(plan, q)) {
+    if bad {
         return Err(21);
     }
     let at = 6 + 8 * q;
     if plan.len() != at + q.div_ceil(8) || count(plan, 4 + 8 * q) != q {
         return Err(22);
     }
-    let expected = short_word(plan, at);
+    let expected = expected_bits(plan, q);
     if beyond(q as u64, expected) {
         return Err(22);
     }
     Ok((m, q, expected))
 }
 
+fn check_plan(plan: &[u8]) -> Result<(u64, usize, u64), u64> {
+    check_listed(plan, is_bad_word_list(plan))
+}
+
+/// One pass over at most 64 words: their highest bits, and their parities with a signature; none where they aren't a reduced list.
+fn pass_words(words: impl Iterator<Item = u64>, signature: u64) -> Option<(u64, u64)> {
+    let (mut tops, mut bits) = (0, 0);
+    for (i, w) in words.enumerate() {
+        if !is_next(tops, w) {
+            return None;
+        }
+        tops = with_highest(tops, w);
+        bits |= odd(w, signature) << i;
+    }
+    Some((tops, bits))
+}
+
+/// The cancelled bits, of a plan of at most 64 words that doesn't end before its last one; none where they aren't a reduced list.
+fn find_bits(plan: &[u8], signature: u64) -> Option<u64> {
+    let (m, words) = words_in(plan)?;
+    if words.len() > 64 {
+        return None;
+    }
+    let (tops, bits) = pass_words(words, signature)?;
+    (!beyond(m, tops)).then_some(bits)
+}
+
 /// Judging: the cancelled bits and the first word that disagrees.
 pub fn judge(plan: &[u8], signature: u64) -> Result<(u64, Option<u32>), u64> {
-    let (m, q, expected) = check_plan(plan)?;
+    let found = find_bits(plan, signature);
+    let (m, _, expected) = check_listed(plan, found.is_none())?;
+    let cancelled = found.unwrap_or(0);
     if beyond(m, signature) {
         return Err(23);
     }
-    let bits = words_in(plan, q).rev();
-    let cancelled = bits.fold(0, |bits, w| 2 * bits + odd(w, signature));
     let differing = cancelled ^ expected;
     let first = (differing != 0).then(|| differing.trailing_zeros());
     Ok((cancelled, first))
@@ -70,8 +125,8 @@ pub fn read_plan(plan: &[u8], words: &mut [u64]) -> Result<[u64; 3], u64> {
     if words.len() < q {
         return Err(18);
     }
-    for (w, from) in words.iter_mut().zip(words_in(plan, q)) {
-        *w = from;
+    for (to, from) in words.iter_mut().zip(plan[4..4 + 8 * q].chunks_exact(8)) {
+        *to = word(from, 0);
     }
     Ok([m, q as u64, expected])
 }

@@ -9,18 +9,36 @@ use super::words::fill_words;
 use super::*;
 use std::ops::Range;
 
-/// The XORs of the spread words of each half byte of a row.
+/// The XORs of the spread words of each half byte of a row: each word doubles the entries of its half byte.
 fn half_bytes(spread: &[u64]) -> [u64; 1024] {
     let mut table = [0; 1024];
-    for e in 0..16 * spread.len().div_ceil(4) {
-        let half = e % 16;
-        if half != 0 {
-            let top = half.ilog2() as usize;
-            let last = spread.get(4 * (e / 16) + top).copied();
-            table[e] = table[e - (1 << top)] ^ last.unwrap_or(0);
+    for (entries, words) in table.chunks_exact_mut(16).zip(spread.chunks(4)) {
+        for k in 0..4 {
+            let w = words.get(k).copied().unwrap_or(0);
+            double_entries(entries, 1 << k, w);
         }
     }
     table
+}
+
+/// The XOR of the table's entries for the half bytes of some bytes.
+fn looked_bytes(entries: &[u64], bytes: &[u8]) -> u64 {
+    let mut drive = 0;
+    for (half_pair, &byte) in entries.chunks_exact(32).zip(bytes) {
+        drive ^= half_pair[usize::from(byte % 16)] ^ half_pair[16 + usize::from(byte / 16)];
+    }
+    drive
+}
+
+/// .. of a row, eight bytes a turn.
+fn looked_up(table: &[u64; 1024], row: &[u8]) -> u64 {
+    let eights = row.chunks_exact(8);
+    let rest = &table[256 * eights.len()..];
+    let mut drive = looked_bytes(rest, eights.remainder());
+    for (entries, bytes) in table.chunks_exact(256).zip(eights) {
+        drive ^= looked_bytes(entries, bytes);
+    }
+    drive
 }
 
 /// The signature of the rows of b bytes that stand `stride` bytes apart.
@@ -29,11 +47,8 @@ fn run_rows(read: Read, spread: &[u64], bytes: &[u8], stride: usize, b: usize) -
     let mut state = 0;
     for t in 0..read.s {
         let row = &bytes[stride * t..stride * t + b];
-        let mut drive = 0;
-        for (half_pair, &byte) in table.chunks_exact(32).zip(row) {
-            drive ^= half_pair[usize::from(byte % 16)] ^ half_pair[16 + usize::from(byte / 16)];
-        }
-        state = next_state(read.m, read.taps, state) ^ drive ^ read.inversion;
+        let drive = looked_up(&table, row) ^ read.inversion;
+        state = next_state(read.m, read.taps, state) ^ drive;
     }
     state
 }
@@ -49,6 +64,23 @@ pub fn sign(set: &[u8], record: &[u8]) -> Result<u64, u64> {
         return Err(13);
     }
     Ok(run_rows(read, &spread[..read.n], record, b, b))
+}
+
+/// How many bits of four words are 1; where none is, it is known by one test.
+fn count_words([a, b, c, d]: [u64; 4]) -> usize {
+    if a | b | c | d == 0 {
+        return 0;
+    }
+    let ones = [a, b, c, d].map(|w| w.count_ones() as usize);
+    ones.iter().sum()
+}
+
+/// The marked cells of a row, by four words of 64 marks; those of a row of 32 bytes are all there.
+fn count_row(row: &[u8]) -> usize {
+    match <&[u8; 32]>::try_from(row) {
+        Ok(row) => count_words(std::array::from_fn(|i| word(row, 8 * i))),
+        Err(_) => count_words(std::array::from_fn(|i| word(row, 8 * i))),
+    }
 }
 
 /// Rows of marks: those of a set, or some that stand one after the other in a list of nothing else.
@@ -82,24 +114,21 @@ impl<'a> Marks<'a> {
         &self.list[self.stride * t..][..self.bytes]
     }
 
-    /// The marked cells of some slices, by four words of 64 marks for each row.
+    /// The marked cells of some slices.
     pub fn count(self, slices: Range<usize>) -> usize {
-        let mut found = 0;
-        for t in slices {
-            let row = self.row(t);
-            for i in 0..4 {
-                found += word(row, 8 * i).count_ones() as usize;
-            }
-        }
-        found
+        slices.map(|t| count_row(self.row(t))).sum()
+    }
+
+    /// How many of the first t rows there are up to the last marked one; 0 where none is marked.
+    pub fn marked_end(self, t: usize) -> usize {
+        let last = (0..t).rev().find(|&t| count_row(self.row(t)) != 0);
+        last.map_or(0, |t| t + 1)
     }
 }
 
 /// Marks 64 i to 64 i + 63 of a row, as far as there are chains.
 pub fn marks_at(row: &[u8], i: usize, chains: usize) -> u64 {
-    let left = chains - 64 * i;
-    let mask = if left < 64 { (1 << left) - 1 } else { u64::MAX };
-    word(row, 8 * i) & mask
+    word(row, 8 * i) & low_mask(chains - 64 * i)
 }
 
 /// The words of the marked chains over the end of the list; how many places stand before them. (The library has a second way here, for
@@ -109,6 +138,10 @@ pub fn list_word(columns: &mut [u64], words: &[u64], mut marks: u64) -> usize {
         return columns.len();
     }
     let place = columns.len() - marks.count_ones() as usize;
+    if marks == u64::MAX {
+        columns[place..].copy_from_slice(&words[..64]);
+        return place;
+    }
     for column in &mut columns[place..] {
         *column = words[marks.trailing_zeros() as usize];
         marks &= marks - 1;
@@ -116,8 +149,20 @@ pub fn list_word(columns: &mut [u64], words: &[u64], mut marks: u64) -> usize {
     place
 }
 
+/// .. of 256 chains, by a row with all their marks: no word of it is short, and none needs a mask.
+fn list_256(columns: &mut [u64], words: &[u64; 256], row: &[u8; 32]) -> usize {
+    let mut place = columns.len();
+    for i in (0..4).rev() {
+        place = list_word(&mut columns[..place], &words[64 * i..], word(row, 8 * i));
+    }
+    place
+}
+
 /// The words of a row's marked chains over the end of the list, by words of 64 marks; how many places stand before them.
 pub fn list_row(columns: &mut [u64], words: &[u64], row: &[u8]) -> usize {
+    if let (Ok(words), Ok(row)) = (words.try_into(), row.try_into()) {
+        return list_256(columns, words, row);
+    }
     let mut place = columns.len();
     for i in (0..words.len().div_ceil(64)).rev() {
         let marks = marks_at(row, i, words.len());
@@ -152,11 +197,11 @@ pub fn fill_swept(
     place
 }
 
-/// The word 1 after 0 to 575 clocks.
-pub fn powers(read: Read) -> [u64; 576] {
-    let mut table = [0u64; 576];
+/// The word 1 after 0 clocks, 1 and so on, so many of them.
+pub fn powers(read: Read, count: usize) -> [u64; 576] {
+    let mut table = [0; 576];
     let mut power = 1;
-    for entry in &mut table {
+    for entry in &mut table[..count] {
         *entry = power;
         power = next_state(read.m, read.taps, power);
     }
@@ -170,21 +215,35 @@ pub fn power_words(powers: &[u64], words: &mut [u64]) {
     }
 }
 
-/// Each column from the powers of the register: bit i of the spread word, j clocks later, is bit 0 after i + j clocks.
+/// Each column from the powers of the register: bit i of the spread word, j clocks later, is bit 0 after i + j clocks. Slices without a
+/// marked cell are passed over.
 fn fill_sparse(marks: Marks, read: Read, spread: &[u64; 256], columns: &mut [u64]) {
-    let table = powers(read);
+    let width = read.m as usize;
+    let table = powers(read, read.s + width);
     let mut place = columns.len();
-    for t in (0..read.s).rev() {
-        let start = list_row(&mut columns[..place], &spread[..read.n], marks.row(t));
-        let later = &table[read.s - 1 - t..][..read.m as usize];
+    let mut t = marks.marked_end(read.s);
+    while 0 < t {
+        let start = list_row(&mut columns[..place], &spread[..read.n], marks.row(t - 1));
+        let later = &table[read.s - t..][..width];
         power_words(later, &mut columns[start..place]);
         place = start;
+        t = marks.marked_end(t - 1);
     }
 }
 
-/// Up to 512 columns are made one by one; for more, all the chains' words are advanced together.
+/// Whether so many columns take less time made one by one than with all chains' words advanced together.
+fn ones_pay(count: usize, read: Read) -> bool {
+    count < 1024 && 128 * count + 4 * read.s + 256 < read.s * read.n
+}
+
+/// Whether so many columns are to be made with all chains' words advanced together.
+pub fn needs_sweep(read: Read, spread: &[u64; 256], count: usize) -> bool {
+    !ones_pay(count, read) || is_bad_spread(read.m, spread[..read.n].iter().copied())
+}
+
+/// A few columns are made one by one; for many, all the chains' words are advanced together.
 fn fill_columns(marks: Marks, read: Read, spread: &[u64; 256], columns: &mut [u64]) {
-    if columns.len() > 512 || bad_spread(read.m, &spread[..read.n]) {
+    if needs_sweep(read, spread, columns.len()) {
         fill_swept(marks, read, spread, 0..read.s, columns);
     } else {
         fill_sparse(marks, read, spread, columns)

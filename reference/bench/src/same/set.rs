@@ -40,7 +40,13 @@ fn bad_ties(set: &[u8], at: usize) -> bool {
     set.len() < at + 2 || count(set, at) > 256 || set.len() != at + 2 + 7 * count(set, at)
 }
 
-/// Numbers 1, 2, 3, 25, 4, 5 and 6, the spread words read where they stand.
+/// Number 6, the spread words read where they stand.
+fn has_bad_spread(set: &[u8], m: u64, n: usize) -> bool {
+    let words = set[SPREAD_AT..slices_at(n)].chunks_exact(8);
+    is_bad_spread(m, words.map(|b| word(b, 0)))
+}
+
+/// Numbers 1, 2, 3, 25, 4, 5 and 6.
 fn head_refusal(set: &[u8]) -> u64 {
     if set.len() < CHAINS_AT {
         return 1;
@@ -62,9 +68,7 @@ fn head_refusal(set: &[u8]) -> u64 {
     if set.len() < slices_at(n) {
         return 5;
     }
-    let words = set[SPREAD_AT..slices_at(n)].chunks_exact(8);
-    let mut words = words.map(|b| word(b, 0));
-    if words.any(|w| w == 0 || beyond(m, w)) {
+    if has_bad_spread(set, m, n) {
         return 6;
     }
     0
@@ -76,7 +80,32 @@ fn share_a_bit(values: &[u8], marks: &[u8]) -> bool {
     shared != 0
 }
 
-/// .. 7 to 10, and 29 to 31: 9 by one byte of each row, 10 by whole bytes.
+/// Of two rows of 32 bytes, one behind the other: what the words at place `at` share, and those 16 bytes after it.
+fn shared_words(pair: &[u8; 64], at: usize) -> u64 {
+    word(pair, at) & word(pair, at + 32) | word(pair, at + 16) & word(pair, at + 48)
+}
+
+/// Whether a pair of rows of 32 bytes has a bit in common, gathered in two words and asked about once, at the end.
+fn pairs_share_a_bit(rows: &[u8]) -> bool {
+    let (mut even, mut odd) = (0, 0);
+    for pair in rows.chunks_exact(64) {
+        let pair = pair.try_into().unwrap();
+        even |= shared_words(pair, 0);
+        odd |= shared_words(pair, 8);
+    }
+    even | odd != 0
+}
+
+/// Number 10: rows of 32 bytes by words, others by whole bytes.
+fn has_valued_unknown(rows: &[u8], b: usize) -> bool {
+    if b == 32 {
+        return pairs_share_a_bit(rows);
+    }
+    let mut pairs = rows.chunks_exact(2 * b);
+    pairs.any(|pair| share_a_bit(&pair[..b], &pair[b..]))
+}
+
+/// .. 7 to 10, and 29 to 31: 9 by one byte of each row.
 fn first_refusal(set: &[u8]) -> u64 {
     let number = head_refusal(set);
     if number != 0 {
@@ -94,10 +123,8 @@ fn first_refusal(set: &[u8]) -> u64 {
     if spare_row(n, rows) {
         return 9;
     }
-    for slice in rows.chunks_exact(2 * b) {
-        if share_a_bit(&slice[..b], &slice[b..]) {
-            return 10;
-        }
+    if has_valued_unknown(rows, b) {
+        return 10;
     }
     let ties = Ties::of_set(set, n, s);
     if ties.len() == 0 {
@@ -159,7 +186,7 @@ fn write_refusal(c: &Content, room: usize) -> u64 {
     if !(1..=256).contains(&n) {
         return 4;
     }
-    if bad_spread(c.m, &c.spread) {
+    if is_bad_spread(c.m, c.spread.iter().copied()) {
         return 6;
     }
     if c.s > 512 {
@@ -217,7 +244,15 @@ pub fn next_state(m: u64, taps: u64, state: u64) -> u64 {
     (state << 1 & (u64::MAX >> (64 - m))) ^ feedback
 }
 
-/// One clock with the cells of a row, cell by cell.
+/// The XOR of the spread words of the chains whose cell in the row is 1, by words of 64 cells.
+fn driven_word(spread: &[u64], row: &[u8]) -> u64 {
+    let words = spread.chunks(64).enumerate();
+    words.fold(0, |drive, (i, words)| {
+        drive ^ xor_marked(words, word(row, 8 * i))
+    })
+}
+
+/// One clock with the cells of a row.
 pub fn clock(
     m: u64,
     taps: u64,
@@ -239,7 +274,7 @@ pub fn clock(
     if !(1..=256).contains(&n) {
         return Err(4);
     }
-    if bad_spread(m, spread) {
+    if is_bad_spread(m, spread.iter().copied()) {
         return Err(6);
     }
     if row.len() != n.div_ceil(8) {
@@ -251,11 +286,5 @@ pub fn clock(
     if beyond(m, state) {
         return Err(23);
     }
-    let mut drive = 0;
-    for (c, &w) in spread.iter().enumerate() {
-        if row[c / 8] >> (c % 8) & 1 == 1 {
-            drive ^= w;
-        }
-    }
-    Ok(next_state(m, taps, state) ^ drive ^ inversion)
+    Ok(next_state(m, taps, state) ^ driven_word(spread, row) ^ inversion)
 }

@@ -102,7 +102,7 @@ impl<'a> Powered<'a> {
         Powered {
             read,
             spread,
-            powers: powers(read),
+            powers: powers(read, 576),
             ties,
         }
     }

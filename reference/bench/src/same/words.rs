@@ -1,10 +1,10 @@
 //! The words of a set from portions of its columns, as many as a working list of 64 places takes, from the last column on.
 
-use super::elimination::{byte_table, put_words, reduce, skip_by_table, unit_words};
+use super::closed_words::is_settled;
+use super::elimination::{byte_table, put_words, reduce, skip_by_table, skip_plainly, unit_words};
 use super::response::*;
 use super::set::Read;
 use super::ties::{count_flags, fill_symbols, opening_flags, unmark, Ties};
-use super::*;
 
 /// As much of a row as there is room for, over the end of the list: by words of 64 marks, up to the first that doesn't fit. How many
 /// places stand before it, and how many chains are left.
@@ -37,6 +37,16 @@ struct Source<'a> {
     powers: &'a [u64],
 }
 
+/// The last of the first t slices is done: how many are left. Without powers the chains' words are advanced for the slice before it; with
+/// them slices without a marked cell are passed over.
+fn go_down(source: Source, words: &mut [u64], t: usize) -> usize {
+    if !source.powers.is_empty() {
+        return source.marks.marked_end(t - 1);
+    }
+    advance_words(source.read, words);
+    t - 1
+}
+
 /// Fills a list from its end. `words` are those of the chains for the slice that comes next; with powers they stay the spread words.
 fn fill_portion(
     source: Source,
@@ -62,10 +72,7 @@ fn fill_portion(
         if 0 < chains {
             break;
         }
-        if powers.is_empty() {
-            advance_words(read, words);
-        }
-        t -= 1;
+        t = go_down(source, words, t);
         chains = words.len();
     }
     Portion { t, chains, place }
@@ -84,12 +91,6 @@ struct Progress {
 
 fn is_table_worth(at: Progress, words: usize) -> bool {
     2 <= words && at.calm && 256 <= at.more / 64 * words
-}
-
-/// How many columns at the front are even with every word.
-fn skip_plainly(words: &[u64], columns: &[u64]) -> usize {
-    let even = |column: &u64| words.iter().all(|w| (w & column).count_ones() % 2 == 0);
-    columns.iter().take_while(|c| even(c)).count()
 }
 
 /// The next portion: its columns through the elimination. With a table of the words, first all portions that leave them as they are.
@@ -121,7 +122,17 @@ fn add_next(
     at
 }
 
-/// How many words are left, at the front of `held`.
+/// Whether it is known that no column that is left changes the words held: asked where the last portion changed them and so many columns
+/// are left that asking is worth it.
+fn is_done(source: Source, words: &[u64], held: &[u64], before: usize, at: Progress) -> bool {
+    if held.len() == before || at.more < 64 {
+        return false;
+    }
+    is_settled(source.read, source.marks, at.t, words, held)
+}
+
+/// How many words are left, at the front of `held`. It stops where none is left, and where it is known that no column changes them any
+/// more.
 fn reduce_all(
     source: Source,
     words: &mut [u64],
@@ -136,10 +147,15 @@ fn reduce_all(
         more: unknowns,
         calm: false,
     };
+    let mut before = at.left;
     while 0 < at.t {
         if at.left == 0 {
             return 0;
         }
+        if is_done(source, words, &held[..at.left], before, at) {
+            return at.left;
+        }
+        before = at.left;
         at = add_next(source, words, working, &mut held[..at.left], at);
     }
     at.left
@@ -162,7 +178,7 @@ fn put_symbols(
     Ok(symbols)
 }
 
-/// The words of the cells that the rows mark: how many they are. Up to 512 columns are made one by one; for more, all the chains' words
+/// The words of the cells that the rows mark: how many they are. A few columns are made one by one; for many, all the chains' words
 /// are advanced together.
 fn reduce_cells(
     marks: Marks,
@@ -173,8 +189,8 @@ fn reduce_cells(
 ) -> usize {
     let mut all = *spread;
     let unknowns = marks.count(0..read.s);
-    let many = unknowns > 512 || bad_spread(read.m, &spread[..read.n]);
-    let table = (!many).then(|| powers(read));
+    let many = needs_sweep(read, spread, unknowns);
+    let table = (!many).then(|| powers(read, 576));
     let source = Source {
         marks,
         read,

@@ -1,0 +1,60 @@
+//! Words that no column which is left can change: the space of their XORs is closed under the clock, and they are even with every chain
+//! that is still marked.
+
+use super::elimination::{skip_even, skip_plainly};
+use super::response::{list_row, Marks};
+use super::set::Read;
+use super::*;
+
+/// The word whose parity with every x is that of w with x one clock later, with all cells 0 and no inversion.
+fn transposed(read: Read, w: u64) -> u64 {
+    let feedback = odd(w, read.taps) << (read.m - 1);
+    w >> 1 ^ feedback
+}
+
+/// What is left of w when each word whose highest bit is set in it was XORed in.
+fn residue(words: &[u64], w: u64) -> u64 {
+    words.iter().fold(w, |rest, word| {
+        let digit = rest >> (63 - word.leading_zeros()) & 1;
+        rest ^ (word & digit.wrapping_neg())
+    })
+}
+
+/// Whether what is even with all words is so one clock later too.
+fn is_closed(read: Read, words: &[u64]) -> bool {
+    let mut later = words.iter().map(|&w| transposed(read, w));
+    later.all(|w| residue(words, w) == 0)
+}
+
+/// The marks of the first t rows together.
+fn all_marks(marks: Marks, t: usize) -> [u8; 32] {
+    let mut all = [0; 32];
+    for t in 0..t {
+        for (to, from) in all.iter_mut().zip(marks.row(t)) {
+            *to |= from;
+        }
+    }
+    all
+}
+
+/// How many of the columns are even with all the words, up to the first that isn't: by a table where it pays.
+fn first_odd(words: &[u64], columns: &[u64]) -> usize {
+    if columns.len() / 64 * words.len() < 80 {
+        skip_plainly(words, columns)
+    } else {
+        skip_even(words, columns)
+    }
+}
+
+/// Whether the words of the marked chains of a row are even with all of the words held.
+fn are_even(held: &[u64], words: &[u64], row: &[u8; 32]) -> bool {
+    let mut columns = [0; 256];
+    let place = list_row(&mut columns, words, row);
+    let columns = &columns[place..];
+    first_odd(held, columns) == columns.len()
+}
+
+/// Whether it is known that the words held stay as they are, whatever columns the marked cells of the first t rows have.
+pub fn is_settled(read: Read, marks: Marks, t: usize, words: &[u64], held: &[u64]) -> bool {
+    is_closed(read, held) && are_even(held, words, &all_marks(marks, t))
+}
