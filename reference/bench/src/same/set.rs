@@ -55,7 +55,7 @@ fn head_refusal(set: &[u8]) -> u64 {
     if !(1..=64).contains(&m) {
         return 2;
     }
-    if bad_taps(m, word(set, TAPS_AT)) {
+    if is_bad_taps(m, word(set, TAPS_AT)) {
         return 3;
     }
     if bad_inversion(m, word(set, INVERSION_AT)) {
@@ -120,7 +120,7 @@ fn first_refusal(set: &[u8]) -> u64 {
         return 8;
     }
     let rows = &set[head_length(n)..ties_at(n, s)];
-    if spare_row(n, rows) {
+    if has_spare_row(n, rows) {
         return 9;
     }
     if has_valued_unknown(rows, b) {
@@ -176,7 +176,7 @@ fn write_refusal(c: &Content, room: usize) -> u64 {
     if !(1..=64).contains(&c.m) {
         return 2;
     }
-    if bad_taps(c.m, c.taps) {
+    if is_bad_taps(c.m, c.taps) {
         return 3;
     }
     if bad_inversion(c.m, c.inversion) {
@@ -197,7 +197,7 @@ fn write_refusal(c: &Content, room: usize) -> u64 {
     if c.values.len() != rows || c.marks.len() != rows || ties % 7 != 0 || ties > 7 * 256 {
         return 8;
     }
-    if spare_row(n, &c.values) || spare_row(n, &c.marks) {
+    if has_spare_row(n, &c.values) || has_spare_row(n, &c.marks) {
         return 9;
     }
     if share_a_bit(&c.values, &c.marks) {
@@ -264,7 +264,7 @@ pub fn clock(
     if !(1..=64).contains(&m) {
         return Err(2);
     }
-    if bad_taps(m, taps) {
+    if is_bad_taps(m, taps) {
         return Err(3);
     }
     if bad_inversion(m, inversion) {
@@ -280,10 +280,10 @@ pub fn clock(
     if row.len() != n.div_ceil(8) {
         return Err(8);
     }
-    if spare_bit(n, row) {
+    if has_spare_bit(n, row) {
         return Err(9);
     }
-    if beyond(m, state) {
+    if is_beyond(m, state) {
         return Err(23);
     }
     Ok(next_state(m, taps, state) ^ driven_word(spread, row) ^ inversion)
