@@ -209,6 +209,32 @@ fn write_refusal(c: &Content, room: usize) -> u64 {
     0
 }
 
+fn write_any_slices(out: &mut [u8], b: usize, values: &[u8], marks: &[u8]) {
+    let rows = values.chunks_exact(b).zip(marks.chunks_exact(b));
+    for (to, (values, marks)) in out.chunks_exact_mut(2 * b).zip(rows) {
+        to[..b].copy_from_slice(values);
+        to[b..].copy_from_slice(marks);
+    }
+}
+
+/// The same for rows of 32 bytes: of a known length they are copied without a call.
+fn write_wide_slices(out: &mut [u8], values: &[u8], marks: &[u8]) {
+    let rows = values.chunks_exact(32).zip(marks.chunks_exact(32));
+    for (to, (values, marks)) in out.chunks_exact_mut(64).zip(rows) {
+        to[..32].copy_from_slice(values);
+        to[32..].copy_from_slice(marks);
+    }
+}
+
+/// The value rows and mark rows of b bytes, in turn.
+fn write_slices(out: &mut [u8], b: usize, values: &[u8], marks: &[u8]) {
+    if b == 32 {
+        write_wide_slices(out, values, marks);
+    } else {
+        write_any_slices(out, b, values, marks);
+    }
+}
+
 /// The set writer.
 pub fn write_set(c: &Content, out: &mut [u8]) -> Result<usize, u64> {
     let number = write_refusal(c, out.len());
@@ -226,11 +252,7 @@ pub fn write_set(c: &Content, out: &mut [u8]) -> Result<usize, u64> {
     }
     let at = head_length(n);
     out[at - 2..at].copy_from_slice(&(c.s as u16).to_le_bytes());
-    let rows = c.values.chunks_exact(b).zip(c.marks.chunks_exact(b));
-    for (to, (values, marks)) in out[at..].chunks_exact_mut(2 * b).zip(rows) {
-        to[..b].copy_from_slice(values);
-        to[b..].copy_from_slice(marks);
-    }
+    write_slices(&mut out[at..], b, &c.values, &c.marks);
     let at = ties_at(n, c.s as usize);
     let (entries, end) = (at + 2, at + 2 + c.ties.len());
     out[at..entries].copy_from_slice(&(c.ties.len() as u16 / 7).to_le_bytes());
