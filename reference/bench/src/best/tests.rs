@@ -1,4 +1,4 @@
-//! The best ways beside the library, at the sizes where they change over, and on files that are refused.
+//! The best ways and the library's own in Rust beside the library, at the sizes where they change over, and on files that are refused.
 
 use super::*;
 use crate::{ours, same};
@@ -15,39 +15,40 @@ fn answer<T>(refusal: u64, numbers: impl FnOnce() -> T) -> Result<T, u64> {
 
 /// Listing, the words and planning.
 fn agree_on_columns(set: &[u8], size: &str) {
-    let [mut one, mut other] = [vec![0; 131_072], vec![0; 131_072]];
+    let mut one = vec![0; 131_072];
     let listed = ours::list_columns(set, &mut one);
     let want = answer(listed.refusal, || listed.count as usize);
-    assert_eq!(
-        columns::list_columns(set, &mut other),
-        want,
-        "listing {size}"
-    );
-    assert!(one == other, "columns of {size}");
-    let [mut one, mut other] = [[0; 64]; 2];
-    let p = ours::plan(set, &mut vec![0; 320], &mut one);
+    for list in [columns::list_columns, same::response::list_columns] {
+        let mut other = vec![0; 131_072];
+        assert_eq!(list(set, &mut other), want, "listing {size}");
+        assert!(one == other, "columns of {size}");
+    }
+    let (mut one, working) = ([0; 64], &mut vec![0; 320]);
+    let p = ours::plan(set, working, &mut one);
     let want = answer(p.refusal, || [p.m, p.q, p.expected]);
-    let working = &mut vec![0; 320];
-    assert_eq!(
-        words::plan(set, working, &mut other),
-        want,
-        "planning {size}"
-    );
-    assert_eq!(one, other, "words of {size}");
+    for plan in [words::plan, same::response::plan] {
+        let mut other = [0; 64];
+        assert_eq!(plan(set, working, &mut other), want, "planning {size}");
+        assert_eq!(one, other, "words of {size}");
+    }
     let want = answer(p.refusal, || [p.m, p.q]);
-    let got = words::plan_words(set, working, &mut other);
-    assert_eq!(got, want, "words of {size}");
+    for words in [words::plan_words, same::response::plan_words] {
+        let got = words(set, working, &mut [0; 64]);
+        assert_eq!(got, want, "words of {size}");
+    }
 }
 
 /// Cutting, with few and many words left.
 fn agree_on_cuts(set: &[u8], size: &str) {
     for k in [0, 1, 3, 8, 30] {
-        let [mut one, mut other] = [[0; 512]; 2];
+        let mut one = [0; 512];
         let c = ours::cut(set, k, &mut one);
         let want = answer(c.refusal, || [c.runs, c.bits]);
-        let got = cutting::cut(set, k, &mut other);
-        assert_eq!(got, want, "cutting {size}, k {k}");
-        assert_eq!(one, other, "cuts of {size}, k {k}");
+        for cut in [cutting::cut, same::cutting::cut] {
+            let mut other = [0; 512];
+            assert_eq!(cut(set, k, &mut other), want, "cutting {size}, k {k}");
+            assert_eq!(one, other, "cuts of {size}, k {k}");
+        }
     }
 }
 
@@ -58,17 +59,23 @@ fn agree_on_rows(set: &[u8], record: &[u8], size: &str) {
         let numbers = [read.m, read.taps, read.inversion, read.n, read.s];
         [&numbers[..], &read.spread[..read.n as usize]].concat()
     });
-    let got = set::read_set(set).map(|(r, spread)| {
-        let numbers = [r.m, r.taps, r.inversion, r.n as u64, r.s as u64];
-        [&numbers[..], &spread[..r.n]].concat()
-    });
-    assert_eq!(got, want, "reading {size}");
+    for read_set in [set::read_set, same::set::read_set] {
+        let got = read_set(set).map(|(r, spread)| {
+            let numbers = [r.m, r.taps, r.inversion, r.n as u64, r.s as u64];
+            [&numbers[..], &spread[..r.n]].concat()
+        });
+        assert_eq!(got, want, "reading {size}");
+    }
     let row = ours::mark_row(set, 2);
     let want = answer(row.refusal, || (row.start as usize, row.length as usize));
-    assert_eq!(set::mark_row(set, 2), want, "a row of {size}");
+    for mark_row in [set::mark_row, same::set::mark_row] {
+        assert_eq!(mark_row(set, 2), want, "a row of {size}");
+    }
     let signed = ours::sign(set, record);
     let want = answer(signed.refusal, || signed.signature);
-    assert_eq!(response::sign(set, record), want, "signature of {size}");
+    for sign in [response::sign, same::response::sign] {
+        assert_eq!(sign(set, record), want, "signature of {size}");
+    }
     for words in [
         &[][..],
         &[1],
@@ -78,21 +85,28 @@ fn agree_on_rows(set: &[u8], record: &[u8], size: &str) {
     ] {
         let e = ours::expect(set, words);
         let want = answer(e.refusal, || e.expected);
-        assert_eq!(response::expect(set, words), want, "{words:?} of {size}");
+        for expect in [response::expect, same::response::expect] {
+            assert_eq!(expect(set, words), want, "{words:?} of {size}");
+        }
     }
 }
 
 /// The writer, and one clock.
 fn agree_on_content(c: &Content, row: &[u8], size: &str) {
-    let [mut one, mut other] = [vec![0; 40_000], vec![0; 40_000]];
+    let mut one = vec![0; 40_000];
     let wrote = ours::write_set(c, &mut one);
     let want = answer(wrote.refusal, || wrote.length as usize);
-    assert_eq!(set::write_set(c, &mut other), want, "writing {size}");
-    assert!(one == other, "what is written of {size}");
+    for write_set in [set::write_set, same::set::write_set] {
+        let mut other = vec![0; 40_000];
+        assert_eq!(write_set(c, &mut other), want, "writing {size}");
+        assert!(one == other, "what is written of {size}");
+    }
     let clocked = ours::clock(c, 1, row);
     let want = answer(clocked.refusal, || clocked.state);
-    let got = set::clock(c.m, c.taps, c.inversion, 1, &c.spread, row);
-    assert_eq!(got, want, "a clock of {size}");
+    for clock in [set::clock, same::set::clock] {
+        let got = clock(c.m, c.taps, c.inversion, 1, &c.spread, row);
+        assert_eq!(got, want, "a clock of {size}");
+    }
 }
 
 fn agree(r: &mut Random, content: &Content, size: &str) {
@@ -195,16 +209,21 @@ fn the_best_ways_take_and_refuse_plans_as_the_library_does() {
         let y = r.within(m);
         let j = ours::judge(&file, y);
         let want = answer(j.refusal, || (j.cancelled, j.failed, j.index));
-        let got = plan::judge(&file, y).map(|(cancelled, first)| {
-            let failed = u64::from(first.is_some());
-            (cancelled, failed, first.unwrap_or(0).into())
-        });
-        assert_eq!(got, want, "judging by plan {i}");
-        let [mut one, mut other] = [[0; 64]; 2];
+        for judge in [plan::judge, same::plan::judge] {
+            let got = judge(&file, y).map(|(cancelled, first)| {
+                let failed = u64::from(first.is_some());
+                (cancelled, failed, first.unwrap_or(0).into())
+            });
+            assert_eq!(got, want, "judging by plan {i}");
+        }
+        let mut one = [0; 64];
         let p = ours::read_plan(&file, &mut one);
         let want = answer(p.refusal, || [p.m, p.q, p.expected]);
-        assert_eq!(plan::read_plan(&file, &mut other), want, "plan {i}");
-        assert_eq!(one, other, "words of plan {i}");
+        for read_plan in [plan::read_plan, same::plan::read_plan] {
+            let mut other = [0; 64];
+            assert_eq!(read_plan(&file, &mut other), want, "plan {i}");
+            assert_eq!(one, other, "words of plan {i}");
+        }
     }
 }
 

@@ -8,7 +8,7 @@ use super::*;
 
 /// The word whose parity with every x is that of w with x one clock later, with all cells 0 and no inversion.
 fn transposed(read: Read, w: u64) -> u64 {
-    let feedback = odd(w, read.taps) << (read.m - 1);
+    let feedback = shared_parity(w, read.taps) << (read.m - 1);
     w >> 1 ^ feedback
 }
 

@@ -4,13 +4,17 @@ use super::*;
 
 /// Takes a column into the words; how many are left.
 fn add_column(words: &mut [u64], column: u64) -> usize {
-    let Some(at) = words.iter().position(|&w| odd(w, column) == 1) else {
+    let Some(at) = words.iter().position(|&w| shared_parity(w, column) == 1) else {
         return words.len();
     };
     let pivot = words[at];
     for i in at + 1..words.len() {
         let w = words[i];
-        words[i - 1] = if odd(w, column) == 1 { w ^ pivot } else { w };
+        words[i - 1] = if shared_parity(w, column) == 1 {
+            w ^ pivot
+        } else {
+            w
+        };
     }
     words.len() - 1
 }
@@ -104,7 +108,7 @@ pub fn eliminate(m: u64, columns: &[u64], words: &mut [u64]) -> Result<(u64, usi
     if !(1..=64).contains(&m) {
         return Err(2);
     }
-    if m < 64 && beyond(m, columns.iter().fold(0, |a, c| a | c)) {
+    if m < 64 && is_beyond(m, columns.iter().fold(0, |a, c| a | c)) {
         return Err(15);
     }
     let mut held = unit_words();

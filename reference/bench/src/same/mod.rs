@@ -38,11 +38,11 @@ fn low_mask(bits: usize) -> u64 {
     }
 }
 
-fn beyond(m: u64, w: u64) -> bool {
+fn is_beyond(m: u64, w: u64) -> bool {
     m < 64 && w >> m != 0
 }
 
-fn odd(a: u64, b: u64) -> u64 {
+fn shared_parity(a: u64, b: u64) -> u64 {
     u64::from((a & b).count_ones() & 1)
 }
 
@@ -71,34 +71,37 @@ fn double_entries(table: &mut [u64], h: usize, w: u64) {
 }
 
 /// The parities of the words with y as one word, bit i for word i.
-fn parities(words: &[u64], y: u64) -> u64 {
-    words.iter().rev().fold(0, |bits, &w| 2 * bits + odd(w, y))
+fn word_parities(words: &[u64], y: u64) -> u64 {
+    words
+        .iter()
+        .rev()
+        .fold(0, |bits, &w| 2 * bits + shared_parity(w, y))
 }
 
-fn bad_taps(m: u64, taps: u64) -> bool {
-    taps & 1 == 0 || beyond(m, taps)
+fn is_bad_taps(m: u64, taps: u64) -> bool {
+    taps & 1 == 0 || is_beyond(m, taps)
 }
 
 fn bad_inversion(m: u64, inversion: u64) -> bool {
-    beyond(m, inversion)
+    is_beyond(m, inversion)
 }
 
 /// Number 6, the words looked at together: one has a bit at or above m exactly when the OR of all has.
 fn is_bad_spread(m: u64, spread: impl Iterator<Item = u64>) -> bool {
     let look = |(seen, none), w| (seen | w, none | (w == 0));
     let (seen, none) = spread.fold((0, false), look);
-    none | beyond(m, seen)
+    none | is_beyond(m, seen)
 }
 
 /// Whether a row of n chains has a spare bit set, by one byte.
-fn spare_bit(n: usize, row: &[u8]) -> bool {
+fn has_spare_bit(n: usize, row: &[u8]) -> bool {
     n % 8 != 0 && row[n / 8] >> (n % 8) != 0
 }
 
 /// .. one of some rows; rows of whole bytes have none.
-fn spare_row(n: usize, rows: &[u8]) -> bool {
+fn has_spare_row(n: usize, rows: &[u8]) -> bool {
     n % 8 != 0
         && rows
             .chunks_exact(n.div_ceil(8))
-            .any(|row| spare_bit(n, row))
+            .any(|row| has_spare_bit(n, row))
 }

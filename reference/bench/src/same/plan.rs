@@ -26,7 +26,7 @@ pub fn is_reduced(m: u64, words: impl Iterator<Item = u64>) -> bool {
         }
         seen = with_highest(seen, w);
     }
-    !beyond(m, seen)
+    !is_beyond(m, seen)
 }
 
 /// m, and the words where they stand; none where the plan ends before its last word.
@@ -73,7 +73,7 @@ fn check_listed(plan: &[u8], bad: bool) -> Result<(u64, usize, u64), u64> {
         return Err(22);
     }
     let expected = expected_bits(plan, q);
-    if beyond(q as u64, expected) {
+    if is_beyond(q as u64, expected) {
         return Err(22);
     }
     Ok((m, q, expected))
@@ -91,7 +91,7 @@ fn pass_words(words: impl Iterator<Item = u64>, signature: u64) -> Option<(u64, 
             return None;
         }
         tops = with_highest(tops, w);
-        bits |= odd(w, signature) << i;
+        bits |= shared_parity(w, signature) << i;
     }
     Some((tops, bits))
 }
@@ -103,7 +103,7 @@ fn find_bits(plan: &[u8], signature: u64) -> Option<u64> {
         return None;
     }
     let (tops, bits) = pass_words(words, signature)?;
-    (!beyond(m, tops)).then_some(bits)
+    (!is_beyond(m, tops)).then_some(bits)
 }
 
 /// Judging: the cancelled bits and the first word that disagrees.
@@ -111,7 +111,7 @@ pub fn judge(plan: &[u8], signature: u64) -> Result<(u64, Option<u32>), u64> {
     let found = find_bits(plan, signature);
     let (m, _, expected) = check_listed(plan, found.is_none())?;
     let cancelled = found.unwrap_or(0);
-    if beyond(m, signature) {
+    if is_beyond(m, signature) {
         return Err(23);
     }
     let differing = cancelled ^ expected;
@@ -143,7 +143,7 @@ pub fn write_plan(m: u64, words: &[u64], expected: u64, out: &mut [u8]) -> Resul
     if !is_reduced(m, words.iter().copied()) {
         return Err(21);
     }
-    if beyond(q as u64, expected) {
+    if is_beyond(q as u64, expected) {
         return Err(22);
     }
     let at = 6 + 8 * q;

@@ -60,7 +60,7 @@ pub fn sign(set: &[u8], record: &[u8]) -> Result<u64, u64> {
     if record.len() != b * read.s {
         return Err(12);
     }
-    if spare_row(read.n, record) {
+    if has_spare_row(read.n, record) {
         return Err(13);
     }
     Ok(run_rows(read, &spread[..read.n], record, b, b))
@@ -77,10 +77,14 @@ fn count_words([a, b, c, d]: [u64; 4]) -> usize {
 
 /// The marked cells of a row, by four words of 64 marks; those of a row of 32 bytes are all there.
 fn count_row(row: &[u8]) -> usize {
-    match <&[u8; 32]>::try_from(row) {
-        Ok(row) => count_words(std::array::from_fn(|i| word(row, 8 * i))),
+    match row.try_into() {
+        Ok(row) => count_32(row),
         Err(_) => count_words(std::array::from_fn(|i| word(row, 8 * i))),
     }
+}
+
+fn count_32(row: &[u8; 32]) -> usize {
+    count_words(std::array::from_fn(|i| word(row, 8 * i)))
 }
 
 /// Rows of marks: those of a set, or some that stand one after the other in a list of nothing else.
@@ -309,7 +313,7 @@ fn expected_bits(set: &[u8], read: Read, spread: &[u64; 256], words: &[u64]) -> 
     let rows = &set[head_length(read.n)..];
     let zero = run_rows(read, &spread[..read.n], rows, 2 * b, b);
     let ties = Ties::of_set(set, read.n, read.s);
-    parities(words, zero ^ side_columns(read, spread, ties))
+    word_parities(words, zero ^ side_columns(read, spread, ties))
 }
 
 fn worded(

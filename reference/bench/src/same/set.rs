@@ -55,7 +55,7 @@ fn head_refusal(set: &[u8]) -> u64 {
     if !(1..=64).contains(&m) {
         return 2;
     }
-    if bad_taps(m, word(set, TAPS_AT)) {
+    if is_bad_taps(m, word(set, TAPS_AT)) {
         return 3;
     }
     if bad_inversion(m, word(set, INVERSION_AT)) {
@@ -120,7 +120,7 @@ fn first_refusal(set: &[u8]) -> u64 {
         return 8;
     }
     let rows = &set[head_length(n)..ties_at(n, s)];
-    if spare_row(n, rows) {
+    if has_spare_row(n, rows) {
         return 9;
     }
     if has_valued_unknown(rows, b) {
@@ -176,7 +176,7 @@ fn write_refusal(c: &Content, room: usize) -> u64 {
     if !(1..=64).contains(&c.m) {
         return 2;
     }
-    if bad_taps(c.m, c.taps) {
+    if is_bad_taps(c.m, c.taps) {
         return 3;
     }
     if bad_inversion(c.m, c.inversion) {
@@ -197,7 +197,7 @@ fn write_refusal(c: &Content, room: usize) -> u64 {
     if c.values.len() != rows || c.marks.len() != rows || ties % 7 != 0 || ties > 7 * 256 {
         return 8;
     }
-    if spare_row(n, &c.values) || spare_row(n, &c.marks) {
+    if has_spare_row(n, &c.values) || has_spare_row(n, &c.marks) {
         return 9;
     }
     if share_a_bit(&c.values, &c.marks) {
@@ -207,6 +207,32 @@ fn write_refusal(c: &Content, room: usize) -> u64 {
         return 24;
     }
     0
+}
+
+fn write_any_slices(out: &mut [u8], b: usize, values: &[u8], marks: &[u8]) {
+    let rows = values.chunks_exact(b).zip(marks.chunks_exact(b));
+    for (to, (values, marks)) in out.chunks_exact_mut(2 * b).zip(rows) {
+        to[..b].copy_from_slice(values);
+        to[b..].copy_from_slice(marks);
+    }
+}
+
+/// The same for rows of 32 bytes: of a known length they are copied without a call.
+fn write_wide_slices(out: &mut [u8], values: &[u8], marks: &[u8]) {
+    let rows = values.chunks_exact(32).zip(marks.chunks_exact(32));
+    for (to, (values, marks)) in out.chunks_exact_mut(64).zip(rows) {
+        to[..32].copy_from_slice(values);
+        to[32..].copy_from_slice(marks);
+    }
+}
+
+/// The value rows and mark rows of b bytes, in turn.
+fn write_slices(out: &mut [u8], b: usize, values: &[u8], marks: &[u8]) {
+    if b == 32 {
+        write_wide_slices(out, values, marks);
+    } else {
+        write_any_slices(out, b, values, marks);
+    }
 }
 
 /// The set writer.
@@ -226,11 +252,7 @@ pub fn write_set(c: &Content, out: &mut [u8]) -> Result<usize, u64> {
     }
     let at = head_length(n);
     out[at - 2..at].copy_from_slice(&(c.s as u16).to_le_bytes());
-    let rows = c.values.chunks_exact(b).zip(c.marks.chunks_exact(b));
-    for (to, (values, marks)) in out[at..].chunks_exact_mut(2 * b).zip(rows) {
-        to[..b].copy_from_slice(values);
-        to[b..].copy_from_slice(marks);
-    }
+    write_slices(&mut out[at..], b, &c.values, &c.marks);
     let at = ties_at(n, c.s as usize);
     let (entries, end) = (at + 2, at + 2 + c.ties.len());
     out[at..entries].copy_from_slice(&(c.ties.len() as u16 / 7).to_le_bytes());
@@ -264,7 +286,7 @@ pub fn clock(
     if !(1..=64).contains(&m) {
         return Err(2);
     }
-    if bad_taps(m, taps) {
+    if is_bad_taps(m, taps) {
         return Err(3);
     }
     if bad_inversion(m, inversion) {
@@ -280,10 +302,10 @@ pub fn clock(
     if row.len() != n.div_ceil(8) {
         return Err(8);
     }
-    if spare_bit(n, row) {
+    if has_spare_bit(n, row) {
         return Err(9);
     }
-    if beyond(m, state) {
+    if is_beyond(m, state) {
         return Err(23);
     }
     Ok(next_state(m, taps, state) ^ driven_word(spread, row) ^ inversion)
