@@ -50,8 +50,8 @@ pub fn has_bad_word(taken: Taken) -> bool
     chains::is_bad_spread(register::width_limit(taken.register.m), &spread[..chains])
 }
 
-// What a column made by itself costs, a clock of the powers, and the table of them, where one word advanced by one clock costs 1: by the times
-// that both ways take where as many columns are made either way (docs/PERFORMANCE.md).
+// What a column made by itself costs, a clock of the powers, and the table of them, where one word advanced by one clock costs 1: estimates,
+// from the times of both ways on a busy machine (docs/PERFORMANCE.md).
 const COLUMN_COST: u64 = 128;
 
 const CLOCK_COST: u64 = 4;
