@@ -4,21 +4,27 @@ use mathlib.Core.Bool.{true}
 use mathlib.Core.Logic.{⊎-elim, dite}
 use mathlib.Core.List.{List, [], _∷_}
 use Prim.Native.Nat.{ℕ, zero, suc, _+_, _-_, _*_, _/_, _%_, _^_, _≤_, _<_, min}
-use native.Mathlib.Nat.{mod-eq-of-lt, lt-of-le-of-lt, mod-lt}
-use native.Mathlib.Decide.{decLt}
+use native.Mathlib.Nat.{mod-eq-of-lt, lt-of-le-of-lt, mod-lt, zero-mul, one-mul}
+use native.Mathlib.Decide.{decLt, ℕ-discrete}
 use native.Mathlib.Omega.{arith}
 use lib.Bits.{bitXor, bitAnd, and-step, and-comm, and-le-r, and-mod, and-mask}
 use lib.Count.{ones, ones-step}
-use lib.ListN.{length, getD}
+use lib.ListN.{length, getD, set, getD-replicate, List·getD-eq-default}
+use lib.Seq.{getD-set-same, getD-set-other}
 use lib.Pow.{pow-pos}
 use Rattle.word.specs.Word.{digit, lowMask, parity, highestBit}
+use Rattle.word.specs.Span.{xorBelow}
+use Rattle.word.specs.Marked.{xorMarked}
+use Rattle.word.specs.Zeros.{zeros}
+use Rattle.word.proofs.XorLaws.{xor-below-none, xor-below-suc}
+use Rattle.word.proofs.FrontLaws.{length-zeros}
 use Rattle.word.proofs.Laws.{bit-cases, mod2-lt, parity-lt, parity-cases, parity-comm, parity-zero, parity-xor, parity-xor-right, parity-pow}
 use Rattle.combinations.specs.Combination.{xFree}
 use Rattle.combinations.proofs.XFree.{x-free-cons, x-free-head, x-free-tail}
 use Rattle.chains.specs.Driven.{chosen}
 use Rattle.register.specs.Circuit.{circuit, advanced}
 use Rattle.signatures.specs.Later.{later}
-use Rattle.closed_words.specs.Closed.{ClosedUnder}
+use Rattle.closed_words.specs.Closed.{EvenAll, ClosedUnder}
 
 -- ---- the shift
 
@@ -118,18 +124,47 @@ highest-below w r e = omega arith
 abbrev pub Rested : List ℕ → ℕ → ℕ → Type 0
 Rested ws w rest = (x : ℕ) → xFree ws x ≡ true → parity rest x ≡ parity w x
 
-chosen-even : (d v x : ℕ) → parity x v ≡ 0 → parity (chosen d v) x ≡ 0
-chosen-even zero v x h = parity-zero x
-chosen-even (suc d) v x h = parity-comm v x ∙ h
-
 even-more : (p q r : ℕ) → p < 2 → q ≡ 0 → p ≡ r → (p + q) % 2 ≡ r
 even-more p q r l z e = omega arith
 
-pub rested-turn : (ws : List ℕ) (w rest i d v : ℕ) → Rested ws w rest → i < length ws → v ≡ chosen d (getD ws i 0) → Rested ws w (bitXor rest v)
-rested-turn ws w rest i d v so-far l e x h =
-    parity-xor rest v x
-    ∙ even-more (parity rest x) (parity v x) (parity w x) (parity-lt rest x)
-    (ap (λ (y : ℕ). parity y x) e ∙ chosen-even d (getD ws i 0) x (x-free-at ws x i h l)) (so-far x h)
+-- an XOR of words of which each is even with x
+marked-even : (n x : ℕ) (f : ℕ → ℕ) → ((i : ℕ) → parity (f i) x ≡ 0) → parity (xorBelow n f) x ≡ 0
+marked-even zero x f h = ap (λ (y : ℕ). parity y x) (xor-below-none f) ∙ parity-zero x
+marked-even (suc n) x f h =
+    ap (λ (y : ℕ). parity y x) (xor-below-suc n f) ∙ parity-xor (xorBelow n f) (f n) x
+    ∙ even-more (parity (xorBelow n f) x) (parity (f n) x) 0 (parity-lt (xorBelow n f) x) (h n) (marked-even n x f h)
+
+digit-even : (d v x : ℕ) → d < 2 → parity x v ≡ 0 → parity (d * v) x ≡ 0
+digit-even d v x l h =
+    ⊎-elim (λ (z : d ≡ 0). ap (λ (y : ℕ). parity (y * v) x) z ∙ ap (λ (y : ℕ). parity y x) (zero-mul v) ∙ parity-zero x)
+    (λ (o : d ≡ 1). ap (λ (y : ℕ). parity (y * v) x) o ∙ ap (λ (y : ℕ). parity y x) (one-mul v) ∙ parity-comm v x ∙ h) (bit-cases d l)
+
+pub rested-marked : (ws ts : List ℕ) (w v : ℕ) → EvenAll ws ts → v ≡ xorMarked ts w → Rested ws w (bitXor w v)
+unfolding xorMarked
+rested-marked ws ts w v all e x h =
+    parity-xor w v x
+    ∙ even-more (parity w x) (parity v x) (parity w x) (parity-lt w x)
+    (ap (λ (y : ℕ). parity y x) e
+    ∙ marked-even (length ts) x (λ i. digit i w * getD ts i 0) (λ i. digit-even (digit i w) (getD ts i 0) x (mod2-lt (w / 2 ^ i)) (all x h i)))
+    refl
+
+-- ---- a word for each highest bit
+
+zeros-at : (n i : ℕ) → getD (zeros n) i 0 ≡ 0
+zeros-at n i =
+    dite (decLt i n) (λ (l : i < n). getD-replicate n i 0 0 l)
+    (λ (l : i < n → ⊥). List·getD-eq-default (zeros n) 0 {n = i} (omega (arith, length-zeros n)))
+
+pub even-none : (ws ts : List ℕ) → ts ≡ zeros 64 → EvenAll ws ts
+even-none ws ts e x h i =
+    ap (λ (l : List ℕ). parity x (getD l i 0)) e ∙ ap (parity x) (zeros-at 64 i) ∙ parity-comm x 0 ∙ parity-zero x
+
+pub even-put : (ws ts : List ℕ) (at i : ℕ) → EvenAll ws ts → i < length ws → at < length ts → EvenAll ws (set ts at (getD ws i 0))
+even-put ws ts at i all l room x h j =
+    dite (ℕ-discrete j at)
+    (λ (e : j ≡ at).
+    ap (λ (k : ℕ). parity x (getD (set ts at (getD ws i 0)) k 0)) e ∙ ap (parity x) (getD-set-same ts at (getD ws i 0) 0 room) ∙ x-free-at ws x i h l)
+    (λ (n : j ≡ at → ⊥). ap (parity x) (getD-set-other ts at j (getD ws i 0) 0 n) ∙ all x h j)
 
 -- ---- the words one clock later
 

@@ -1,5 +1,6 @@
 -- Words that later columns leave as they are.
 --
+--   EvenAll ws ts                what is even with all of the words ws is so with each of the words ts
 --   ClosedUnder m taps ws        what is even with all of the words ws is so one clock later too, in a register of width m with this tap
 --                                word, with all cells 0 and no inversion
 --   EvenFor h ws x               the words of ws of the chains whose cell in x is marked are even with all of the words h
@@ -10,11 +11,15 @@ use mathlib.Core.Bool.{true}
 use mathlib.Core.List.{List}
 use Prim.Native.Nat.{ℕ, _<_}
 use lib.ListN.{length, getD}
+use Rattle.word.specs.Word.{parity}
 use Rattle.combinations.specs.Combination.{xFree}
 use Rattle.rows.specs.Row.{Cells}
 use Rattle.register.specs.Circuit.{circuit, advanced}
 use Rattle.signatures.specs.Signature.{Response}
 use Rattle.signatures.specs.Later.{later}
+
+abbrev pub EvenAll : List ℕ → List ℕ → Type 0
+EvenAll ws ts = (x : ℕ) → xFree ws x ≡ true → (i : ℕ) → parity x (getD ts i 0) ≡ 0
 
 abbrev pub ClosedUnder : ℕ → ℕ → List ℕ → Type 0
 ClosedUnder m taps ws = (x : ℕ) → xFree ws x ≡ true → xFree ws (advanced m taps x) ≡ true

@@ -2,16 +2,18 @@
 // is still marked. It sees a register, rows of marks and columns as words; it knows no portions.
 ghost use mathlib.Core.Path.{_≡_};
 ghost use mathlib.Core.Bool.{true};
+ghost use mathlib.Core.List.{List};
 ghost use Prim.Native.Nat.{ℕ, _+_, _*_, _≤_, _<_, min};
 ghost use lib.Bits.{bitOr};
 ghost use lib.ListN.{length, getD, drop};
 ghost use Rattle.word.specs.Word.{parity};
+ghost use Rattle.word.specs.Zeros.{zeros};
 ghost use Rattle.combinations.specs.Combination.{xFree};
 ghost use Rattle.parity_table.specs.Table.{evenRun};
 ghost use Rattle.rows.specs.Row.{cell};
 ghost use Rattle.rows.specs.Lists.{cellsOf};
 ghost use Rattle.register.specs.Circuit.{advanced};
-ghost use Rattle.closed_words.specs.Closed.{ClosedUnder, EvenFor, Unchanging};
+ghost use Rattle.closed_words.specs.Closed.{EvenAll, ClosedUnder, EvenFor, Unchanging};
 use register::Register;
 use rows::Rows;
 
@@ -26,30 +28,44 @@ fn transposed(register: Register, w: u64) -> u64
     ((w & mask) / 2) ^ feedback
 }
 
-// What is left of w when each word whose highest bit is set in it was XORed in. Only words of the list were, so whatever is even with all
-// of them has the same parity with what is left. That nothing is left of an XOR of the words of a reduced list is why it is done, and isn't
-// proved: nothing rests on it.
-fn residue(words: &[u64], w: u64) -> u64
-    ensures { λ r. ⌜ ((x : ℕ) → xFree (now (words .entry)) x ≡ true → parity r x ≡ parity w x) ⌝ }
+fn no_tops() -> [u64; 64]
+    ensures { λ r. ⌜ r ≡ zeros 64 ⌝ }
 {
-    let mut rest = w;
+    [0u64; 64]
+}
+
+// For each bit a word whose highest bit it is, and 0 where there is none: each is even with whatever is even with all words.
+fn by_highest(words: &[u64]) -> [u64; 64]
+    ensures { λ r. ⌜ EvenAll (now (words .entry)) r ⌝ }
+{
+    let mut tops = no_tops();
     let mut i: usize = 0;
     while i < words.len() {
         let word = words[i];
-        let digit = (rest >> word::highest_bit(word)) % 2;
-        rest = rest ^ chains::chosen_word(digit, word);
+        let at = word::highest_bit(word) as usize;
+        tops[at] = word;
         i += 1;
     }
-    rest
+    tops
+}
+
+// What is left of w when for each of its bits the word with that highest bit was XORed in. Only words of the list were, so whatever is even
+// with all of them has the same parity with what is left. That nothing is left of an XOR of the words of a reduced list is why it is done,
+// and isn't proved: nothing rests on it.
+fn residue(tops: &[u64], w: u64) -> u64
+    ensures { λ r. ⌜ ((ws : List ℕ) → EvenAll ws (now (tops .entry)) → (x : ℕ) → xFree ws x ≡ true → parity r x ≡ parity w x) ⌝ }
+{
+    w ^ word::xor_marked(tops, w)
 }
 
 // Whether it is known that what is even with all words is so one clock later too.
 fn is_closed(register: Register, words: &[u64]) -> bool
     ensures { λ r. ⌜ (r ≡ true → ClosedUnder (min (register .m) 64) (register .taps) (now (words .entry))) ⌝ }
 {
+    let tops = by_highest(words);
     let mut i: usize = 0;
     while i < words.len() {
-        if residue(words, transposed(register, words[i])) != 0 {
+        if residue(&tops, transposed(register, words[i])) != 0 {
             return false;
         }
         i += 1;

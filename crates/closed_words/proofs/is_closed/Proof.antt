@@ -10,21 +10,21 @@ use Rattle.closed_words.proofs.is_closed.Statement.{statement}
 use Rattle.closed_words.proofs.is_closed.Tie as tie
 
 abbrev Inv-loop : tie.InvT-loop
-Inv-loop register words i₀ i = (i ≤ length words) × Closing (min (register .m) 64) (register .taps) words i
+Inv-loop register words tops i₀ i = (i ≤ length words) × Closing (min (register .m) 64) (register .taps) words i
 
 abbrev μ-loop : tie.MeasureT-loop
-μ-loop register words i₀ i = length words - i
+μ-loop register words tops i₀ i = length words - i
 
 loop-holds : tie.Need-loop-holds Inv-loop μ-loop
 loop-holds c = (search needs, closing-start _ _ _)
 
 loop-again : tie.Need-loop-again Inv-loop μ-loop
 loop-again c =
-    let at = c .before .before .before .before .before .loop in
-    let args = c .before .before .before .before .before .before .before .args in (
+    let at = c .before .before .before .before .before .before .loop in
+    let args = c .before .before .before .before .before .before .before .before .before .args in (
       search needs,
       closing-turn (min (args .register .m) 64) (args .register .taps) (args .words .now) (at .i) _ _ (at .inv .1) (c .before .before .transposed .ensures)
-          (c .before .residue .ensures) (search needs),
+          (c .before .residue .ensures (args .words .now) (c .before .before .before .before .before .before .before .by-highest .ensures)) (search needs),
     )
 
 returns : tie.Need-returns Inv-loop μ-loop
@@ -32,7 +32,7 @@ returns c = λ e. absurd (true-not-false false e refl)
 
 returns-2 : tie.Need-returns-2 Inv-loop μ-loop
 returns-2 c =
-    let args = c .before .before .before .args in
+    let args = c .before .before .before .before .args in
     λ e. closing-end (min (args .register .m) 64) (args .register .taps) (args .words .now) (c .before .loop .i) (c .before .loop .inv .1) (search needs)
 
 pub is-closed-spec : {M : Type 1} → statement M
@@ -41,7 +41,9 @@ is-closed-spec =
     (tie.spec
     Inv-loop
     μ-loop
+    (λ c κs. search needs)
     loop-holds
+    (λ c. search needs)
     (λ c. search needs)
     (λ c. search needs)
     (λ c κs. search needs)
