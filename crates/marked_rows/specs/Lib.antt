@@ -1,2 +1,3 @@
 -- The definitions of the marked rows.
 pub mod Last
+pub mod Estimate

@@ -9,6 +9,7 @@ ghost use Rattle.rows.specs.Row.{cell};
 ghost use Rattle.rows.specs.Lists.{cellsOf};
 ghost use Rattle.rows.specs.Marks.{total};
 ghost use Rattle.marked_rows.specs.Last.{lastMarked, lastCount};
+ghost use Rattle.marked_rows.specs.Estimate.{estimate};
 use rows::Rows;
 
 // The last marked row among some: how many rows there are up to it and with it, 0 where none is marked, and how many cells it marks.
@@ -158,4 +159,21 @@ pub fn count_marks(list: &[u8], rows: Rows, s: u16) -> u64
         return count_of_32(list, rows, s);
     }
     count_of_any(list, rows, s)
+}
+
+// About how many cells among the first 256 of each of s rows are marked: from 64 rows on every eighth row is counted for eight. It is for
+// choosing between ways that answer alike.
+pub fn estimate_marks(list: &[u8], rows: Rows, s: u16) -> u64
+    ensures { λ r. ⌜ r ≡ estimate (now (list .entry)) rows s ⌝ }
+{
+    let stride = rows.stride;
+    if (s < 64) | (65536 <= stride) {
+        return count_marks(list, rows, s);
+    }
+    let eighth = Rows {
+        at: rows.at,
+        stride: 8 * stride,
+        bytes: rows.bytes,
+    };
+    8 * count_marks(list, eighth, s / 8)
 }

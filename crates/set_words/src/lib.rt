@@ -215,7 +215,8 @@ fn reduce_all(
 }
 
 // The words of the marked cells' columns, from the words of single bits on. A few columns are made one by one, by the powers of the
-// register, where the spread words are a taken set's; for many, all the chains' words are advanced together.
+// register, where the spread words are a taken set's; for many, all the chains' words are advanced together. About how many there are
+// decides only that.
 fn reduce_marked(
     taken: Taken,
     list: &[u8],
@@ -232,7 +233,7 @@ fn reduce_marked(
     let chains = register::chain_limit(taken.n);
     let spread = taken.spread;
     let mut words = chains::all_words(spread);
-    let unknowns = marked_rows::count_marks(list, marks, s);
+    let unknowns = marked_rows::estimate_marks(list, marks, s);
     let source = Source { register, marks, s };
     let count = unknowns as usize;
     if sparse_columns::needs_sweep(taken, count) {
