@@ -8,19 +8,16 @@ use Rattle.parity_table.proofs.byte_table.Statement.{statement}
 use Rattle.parity_table.proofs.byte_table.Tie as tie
 
 abbrev Inv-loop : tie.InvT-loop
-Inv-loop words table₀ i₀ table i = (i ≤ 64) × (length table ≡ 2048) × Made (take 64 words) table (entriesAt i)
+Inv-loop words bits table₀ i₀ table i = (i ≤ 64) × (length table ≡ 2048) × Made (take 64 words) table (entriesAt i)
 
 abbrev μ-loop : tie.MeasureT-loop
-μ-loop words table₀ i₀ table i = 64 - i
+μ-loop words bits table₀ i₀ table i = 64 - i
 
 no-entries-requires : tie.Need-no-entries-requires Inv-loop μ-loop
 no-entries-requires c κs = search needs
 
 loop-holds : tie.Need-loop-holds Inv-loop μ-loop
-loop-holds c = let k = bits-start (take 64 (c .before .before .args .words .now)) _ (c .no-entries .ensures) in (search needs, k .long, k)
-
-bit-parities-requires : tie.Need-bit-parities-requires Inv-loop μ-loop
-bit-parities-requires c κs = search needs
+loop-holds c = let k = bits-start (take 64 (c .before .before .before .args .words .now)) _ (c .no-entries .ensures) in (search needs, k .long, k)
 
 slice-aggregate-double-entries : tie.Need-slice-aggregate-double-entries Inv-loop μ-loop
 slice-aggregate-double-entries c = search needs
@@ -32,7 +29,7 @@ shl-double-entries : tie.Need-shl-double-entries Inv-loop μ-loop
 shl-double-entries c = search needs
 
 double-entries-requires : tie.Need-double-entries-requires Inv-loop μ-loop
-double-entries-requires c κs = bits-room (c .before .before .before .loop .table) (c .before .before .before .loop .i) (search needs) (c .before .before .before .loop .inv .1)
+double-entries-requires c κs = bits-room (c .before .before .loop .table) (c .before .before .loop .i) (search needs) (c .before .before .loop .inv .1)
 
 add-i : tie.Need-add-i Inv-loop μ-loop
 add-i c = search needs
@@ -40,11 +37,14 @@ add-i c = search needs
 loop-less : tie.Need-loop-less Inv-loop μ-loop
 loop-less c = search needs
 
+array-read-bit : tie.Need-array-read-bit Inv-loop μ-loop
+array-read-bit c = search needs
+
 loop-again : tie.Need-loop-again Inv-loop μ-loop
 loop-again c =
-    let made = c .before .before .before .before .before .loop .inv .2 in
-    let bit = c .before .before .before .bit-parities .ensures in
-    let k = bits-turn _ _ _ (c .before .before .before .before .before .loop .i) _ (search needs) made bit (c .before .double-entries .ensures) in
+    let at = c .before .before .before .before .loop in
+    let bit = c .before .before .before .before .before .before .bit-table .ensures .1 (at .i) (search needs) in
+    let k = bits-turn _ _ _ (at .i) _ (search needs) (at .inv .2) bit (c .before .double-entries .ensures) in
     (search needs, k .long, k)
 
 returns : tie.Need-returns Inv-loop μ-loop
@@ -56,9 +56,11 @@ byte-table-spec =
     (tie.spec
     Inv-loop
     μ-loop
+    (λ c κs. search needs)
     no-entries-requires
     loop-holds
-    bit-parities-requires
+    (λ c. search needs)
+    array-read-bit
     slice-aggregate-double-entries
     mul-double-entries
     shl-double-entries
