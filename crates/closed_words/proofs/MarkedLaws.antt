@@ -3,92 +3,30 @@ use mathlib.Core.Path.{_≡_, refl, sym, ap, _∙_, subst}
 use mathlib.Core.Bool.{Bool, true, false, cond, _&&_}
 use mathlib.Core.Logic.{dite}
 use mathlib.Core.List.{List, [], _∷_, _++_}
-use Prim.Native.Nat.{ℕ, zero, suc, _+_, _-_, _/_, _%_, _^_, _≤_, _<_, min, max}
+use Prim.Native.Nat.{ℕ, zero, suc, _+_, _-_, _≤_, _<_}
 use native.Mathlib.Decide.{decLt}
 use native.Mathlib.Omega.{arith}
 use borrow.Author.Tests.{leb-true}
 use lib.Dec.{leb}
-use lib.Bits.{bitOr, or-step, or-shr, or-zero-r}
-use lib.ListN.{length, getD, take, drop, set, length-append, length-set, List·getD-eq-default}
-use lib.Seq.{drop-at, length-take-le, getD-set-same, getD-set-other}
-use Rattle.word.specs.Word.{digit}
+use lib.ListN.{length, getD, take, drop, length-append}
+use lib.Seq.{drop-at, length-take-le}
 use Rattle.word.specs.Some.{allOf}
 use Rattle.word.proofs.BoolLaws.{and-left, and-right}
 use Rattle.combinations.specs.Combination.{xFree}
 use Rattle.parity_table.specs.Table.{runOf, evenRun}
 use Rattle.numbers.specs.Joined.{joined}
 use Rattle.rows.specs.Row.{Cells, cell}
-use Rattle.rows.specs.Lists.{rowOf, cellsOf}
+use Rattle.rows.specs.Lists.{cellsOf}
 use Rattle.rows.specs.Marks.{listed, markedWords}
 use Rattle.rows.specs.declared.Rows.{Rows}
 use Rattle.rows.proofs.CellLaws.{cell-lt}
 use Rattle.rows.proofs.MarkLaws.{length-listed}
+use Rattle.joint_marks.specs.Joint.{jointMarks}
+use Rattle.joint_marks.proofs.JointLaws.{marks-joint}
 use Rattle.marked_words.specs.Back.{back}
 use Rattle.marked_words.proofs.BackLaws.{back-fits}
 use Rattle.closed_words.specs.Closed.{ClosedUnder, EvenFor, Unchanging}
 use Rattle.closed_words.proofs.ClosedLaws.{closed-later}
-
--- ---- a row's marks put to others
-
-digit-or : (i a b : ℕ) → digit i (bitOr a b) ≡ max (digit i a) (digit i b)
-digit-or i a b = ap (λ (x : ℕ). x % 2) (or-shr a b i) ∙ omega (arith, or-step (a / 2 ^ i) (b / 2 ^ i))
-
--- the bytes before place i have the row's marks too, and the others are as they were
-pub record Adding (l row l′ : List ℕ) (i : ℕ) : Type 0 where
-  pub long : length l′ ≡ length l
-  pub done : (j : ℕ) → j < i → getD l′ j 0 ≡ bitOr (getD l j 0) (getD row j 0)
-  pub rest : (j : ℕ) → i ≤ j → getD l′ j 0 ≡ getD l j 0
-
-pub adding-start : (l row : List ℕ) → Adding l row l 0
-adding-start l row = record { long = refl; done = λ j h. (let no : ⊥ = omega arith in absurd no); rest = λ j h. refl }
-
-pub adding-turn : (l row l′ : List ℕ) (i : ℕ) → Adding l row l′ i → i < length l → Adding l row (set l′ i (bitOr (getD l′ i 0) (getD row i 0))) (i + 1)
-adding-turn l row l′ i a h = record {
-  long = length-set l′ i (bitOr (getD l′ i 0) (getD row i 0)) ∙ a .long;
-  done = λ j b. dite (decLt j i)
-      (λ (below : j < i). getD-set-other l′ i j (bitOr (getD l′ i 0) (getD row i 0)) 0 (λ (e : j ≡ i). omega arith) ∙ a .done j below)
-      (λ (n : j < i → ⊥).
-      let same : j ≡ i = omega arith in
-      ap (λ (k : ℕ). getD (set l′ i (bitOr (getD l′ i 0) (getD row i 0))) k 0) same
-      ∙ getD-set-same l′ i (bitOr (getD l′ i 0) (getD row i 0)) 0 (omega (arith, a .long))
-      ∙ ap (λ (x : ℕ). bitOr x (getD row i 0)) (a .rest i (omega arith))
-      ∙ ap (λ (k : ℕ). bitOr (getD l k 0) (getD row k 0)) (sym same));
-  rest = λ j b. getD-set-other l′ i j (bitOr (getD l′ i 0) (getD row i 0)) 0 (λ (e : j ≡ i). omega arith) ∙ a .rest j (omega arith);
-}
-
-pub adding-end : (l row l′ : List ℕ) (i n : ℕ) → Adding l row l′ i → n ≡ min (length l) (length row) → n ≤ i
-    → (j : ℕ) → j < length l → getD l′ j 0 ≡ bitOr (getD l j 0) (getD row j 0)
-adding-end l row l′ i n a e past j h = dite (decLt j i) (a .done j) beyond
-  where
-    beyond : (j < i → ⊥) → getD l′ j 0 ≡ bitOr (getD l j 0) (getD row j 0)
-    beyond b =
-        let none : getD row j 0 ≡ 0 = List·getD-eq-default row 0 (omega arith) in
-        a .rest j (omega arith) ∙ sym (or-zero-r (getD l j 0)) ∙ ap (bitOr (getD l j 0)) (sym none)
-
--- ---- the marks of the rows together
-
--- the marks of the rows before j stand in `all`
-pub record Gathered (l : List ℕ) (r : Rows) (j : ℕ) (all : List ℕ) : Type 0 where
-  pub within : (i c : ℕ) → i < j → c < 256 → cellsOf l r i c ≤ cell all c
-
-pub gathered-start : (l : List ℕ) (r : Rows) (all : List ℕ) → Gathered l r 0 all
-gathered-start l r all = record { within = λ i c h b. (let no : ⊥ = omega arith in absurd no) }
-
-pub gathered-turn : (l : List ℕ) (r : Rows) (j : ℕ) (all row all′ : List ℕ) → Gathered l r j all → length all ≡ 32 → row ≡ rowOf l r j
-    → ((i : ℕ) → i < length all → getD all′ i 0 ≡ bitOr (getD all i 0) (getD row i 0)) → Gathered l r (j + 1) all′
-gathered-turn l r j all row all′ so-far long er e = record { within = λ i c h b. dite (decLt i j) (earlier i c b) (here i c h b) }
-  where
-    both : (c : ℕ) → c < 256 → cell all′ c ≡ max (cell all c) (cell row c)
-    both c b = ap (digit (c % 8)) (e (c / 8) (omega arith)) ∙ digit-or (c % 8) (getD all (c / 8) 0) (getD row (c / 8) 0)
-
-    earlier : (i c : ℕ) → c < 256 → i < j → cellsOf l r i c ≤ cell all′ c
-    earlier i c b before = omega (arith, so-far .within i c before b, both c b)
-
-    here : (i c : ℕ) → i < j + 1 → c < 256 → (i < j → ⊥) → cellsOf l r i c ≤ cell all′ c
-    here i c h b n =
-        let same : i ≡ j = omega arith in
-        let there : cellsOf l r i c ≡ cell row c = ap (λ (k : ℕ). cellsOf l r k c) same ∙ ap (λ (x : List ℕ). cell x c) (sym er) in
-        omega (arith, there, both c b)
 
 -- ---- the words of marked chains
 
@@ -157,7 +95,7 @@ row-even h ws l columns row place odd long ep ec eo past few c b m = marked-all 
 -- ---- both
 
 pub settled : (m taps : ℕ) (l : List ℕ) (r : Rows) (t : ℕ) (ws h all : List ℕ) → ClosedUnder m taps h
-    → ((j c : ℕ) → j < t → c < 256 → cellsOf l r j c ≤ cell all c) → EvenFor h ws (cell all)
+    → ((c : ℕ) → c < 256 → cell all c ≡ jointMarks l r t c) → EvenFor h ws (cell all)
     → length ws ≤ 256 → Unchanging m taps (cellsOf l r) t ws h
 settled m taps l r t ws h all closed gathered even few i j c v spread hj hc hm =
-    closed-later m taps v spread h closed i (getD ws c 0) (even c hc (omega (arith, gathered j c hj (omega arith), hm)))
+    closed-later m taps v spread h closed i (getD ws c 0) (even c hc (omega (arith, gathered c (omega arith), marks-joint l r t j c hj, hm)))

@@ -3,9 +3,8 @@
 ghost use mathlib.Core.Path.{_≡_};
 ghost use mathlib.Core.Bool.{true};
 ghost use mathlib.Core.List.{List};
-ghost use Prim.Native.Nat.{ℕ, _+_, _*_, _≤_, _<_, min};
-ghost use lib.Bits.{bitOr};
-ghost use lib.ListN.{length, getD, drop};
+ghost use Prim.Native.Nat.{ℕ, _+_, _≤_, min};
+ghost use lib.ListN.{length, drop};
 ghost use Rattle.word.specs.Word.{parity};
 ghost use Rattle.word.specs.Zeros.{zeros};
 ghost use Rattle.combinations.specs.Combination.{xFree};
@@ -73,41 +72,10 @@ fn is_closed(register: Register, words: &[u64]) -> bool
     true
 }
 
-fn no_marks() -> [u8; 32]
-    ensures { λ r. ⌜ length r ≡ 32 ⌝ }
-{
-    [0u8; 32]
-}
-
 fn no_words() -> [u64; 256]
     ensures { λ r. ⌜ length r ≡ 256 ⌝ }
 {
     [0u64; 256]
-}
-
-// Puts the marks of a row to those that are there, as far as there is room.
-fn add_marks(all: &mut [u8], row: &[u8])
-    ensures { λ _. ⌜ ((i : ℕ) → i < length (now (all .entry)) → getD (now (all .exit)) i 0 ≡ bitOr (getD (now (all .entry)) i 0) (getD (now (row .entry)) i 0)) ⌝ }
-{
-    let common = numbers::shorter(all.len(), row.len());
-    let mut i: usize = 0;
-    while i < common {
-        all[i] = all[i] | row[i];
-        i += 1;
-    }
-}
-
-// The marks of the first t rows together, of 256 chains: a cell that isn't marked here is marked in none of them.
-fn all_marks(list: &[u8], marks: Rows, t: u16) -> [u8; 32]
-    ensures { λ r. ⌜ ((j c : ℕ) → j < t → c < 256 → cellsOf (now (list .entry)) marks j c ≤ cell r c) ⌝ }
-{
-    let mut all = no_marks();
-    let mut j: u16 = 0;
-    while j < t {
-        add_marks(&mut all, rows::row_of(list, marks, j));
-        j += 1;
-    }
-    all
 }
 
 // The place of the first column, from place `from` on, that is odd with one of the words; the end where none is. By a table where so many
@@ -152,6 +120,6 @@ pub fn is_settled(
     if !is_closed(register, held) {
         return false;
     }
-    let all = all_marks(list, marks, t);
+    let all = joint_marks::joint_marks(list, marks, t);
     are_even(held, words, &all)
 }

@@ -95,7 +95,7 @@ fn last_of_32(list: &[u8], rows: Rows, t: u16) -> Marked
 }
 
 // Whether the first t rows are of 32 bytes and all there.
-fn are_whole_32(list: &[u8], rows: Rows, t: u16) -> bool
+pub fn are_whole_32(list: &[u8], rows: Rows, t: u16) -> bool
     ensures { λ r. ⌜ (r ≡ true → (rows .bytes ≡ 32) × (rows .at + rows .stride * t + 32 ≤ length (now (list .entry)) + rows .stride)) ⌝ }
 {
     let stride = rows.stride as usize;

@@ -2,19 +2,18 @@
 use mathlib.Core.Path.{_≡_, refl, sym, ap, ap₂, _∙_, subst}
 use mathlib.Core.Logic.{dite}
 use mathlib.Core.List.{List, [], _∷_}
-use Prim.Native.Nat.{ℕ, zero, suc, _+_, _-_, _*_, _/_, _%_, _^_, _≤_, _<_, min}
-use native.Mathlib.Nat.{add-comm, one-mul, zero-mul, le-of-suc-le-suc, lt-of-lt-of-le, pow-suc, mul-comm, mul-assoc}
+use Prim.Native.Nat.{ℕ, zero, suc, _+_, _-_, _*_, _^_, _≤_, _<_, min}
+use native.Mathlib.Nat.{one-mul, zero-mul, le-of-suc-le-suc, pow-suc, mul-comm, mul-assoc}
 use native.Mathlib.Numerals.{add-one}
 use native.Mathlib.Decide.{decLt, ℕ-discrete}
 use native.Mathlib.Omega.{arith}
 use lib.Bits.{bitXor, bitAnd, xor-comm, xor-shifted, xor-zero-r}
-use lib.ListN.{length, getD, take, set, getD-replicate, length-set, List·getD-eq-default}
+use lib.ListN.{length, getD, take, set, getD-replicate, length-set}
 use lib.Seq.{getD-set-same, getD-set-other, length-take-le, take-all}
-use lib.Pow.{pow-pos, pow-mono}
 use Rattle.word.specs.Word.{digit, parity}
 use Rattle.word.specs.Parities.{parities}
 use Rattle.word.specs.Zeros.{zeros}
-use Rattle.word.proofs.Laws.{parity-pow, parity-comm, parity-cases, parities-lt, xor-assoc}
+use Rattle.word.proofs.Laws.{parity-pow, parity-comm, parities-lt}
 use Rattle.word.proofs.LowestLaws.{Lowest, below-lowest, above-lowest, lowest-gone, digit-past}
 use Rattle.word.proofs.FrontLaws.{length-zeros}
 

@@ -14,7 +14,7 @@ returns c = λ e. absurd (true-not-false false e refl)
 returns-2 : tie.Need-returns-2
 returns-2 c =
     let args = c .before .before .before .before .before .before .before .before .args in
-    λ e few. settled _ _ (args .list .now) (args .marks) (args .t) (args .words .now) (args .held .now) (c .before .before .all-marks .result) (c .before .before .before .before .is-closed .ensures (not-false _ (c .before .before .before .if1 .left))) (c .before .before .all-marks .ensures) (c .are-even .ensures e few) few
+    λ e few. settled _ _ (args .list .now) (args .marks) (args .t) (args .words .now) (args .held .now) (c .before .before .joint-marks .result) (c .before .before .before .before .is-closed .ensures (not-false _ (c .before .before .before .if1 .left))) (c .before .before .joint-marks .ensures) (c .are-even .ensures e few) few
 
 pub is-settled-spec : {M : Type 1} → statement M
 is-settled-spec =

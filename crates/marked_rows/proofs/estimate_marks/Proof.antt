@@ -1,9 +1,8 @@
 -- `estimate_marks` meets its contract.
-use mathlib.Core.Path.{_≡_, ap, _∙_}
-use mathlib.Core.Bool.{_||_}
+use mathlib.Core.Path.{ap}
 use Prim.Native.Nat.{ℕ, _*_, _/_}
 use native.Mathlib.Omega.{arith}
-use lib.Dec.{leb, ltb}
+use lib.Dec.{ltb}
 use borrow.Author.Tests.{leb-false}
 use borrow.Author.Needs.{needs}
 use Rattle.word.proofs.BoolLaws.{or-false-right}

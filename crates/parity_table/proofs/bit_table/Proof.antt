@@ -1,6 +1,6 @@
 -- `bit_table` meets its contract. The loop's invariant: the entries have the bits of the words before place `k`.
 use mathlib.Core.Path.{_≡_, refl, sym}
-use Prim.Native.Nat.{_≤_, _<_, _-_, min}
+use Prim.Native.Nat.{_≤_, _-_, min}
 use native.Mathlib.Omega.{arith}
 use lib.ListN.{length}
 use borrow.Author.Needs.{needs}

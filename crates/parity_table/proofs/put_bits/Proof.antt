@@ -3,7 +3,6 @@ use mathlib.Core.Path.{_≡_, refl, sym, _∙_}
 use Prim.Native.Nat.{_^_, _<_}
 use native.Mathlib.Omega.{arith}
 use lib.Count.{trailingZeros, trailing-le}
-use lib.ListN.{length}
 use borrow.Author.Needs.{needs}
 use Rattle.word.proofs.LowestLaws.{Lowest, trailing-lowest, lowest-less}
 use Rattle.combinations.proofs.Units.{one-bit}

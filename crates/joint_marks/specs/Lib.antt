@@ -1,0 +1,2 @@
+-- The definitions of the joint marks.
+pub mod Joint

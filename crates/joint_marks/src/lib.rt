@@ -1,0 +1,72 @@
+// Joint marks: the marks of some rows together, as one row of 256 cells. It sees numbers and rows; it knows no register and no file. Every
+// function is total.
+ghost use mathlib.Core.Path.{_≡_};
+ghost use Prim.Native.Nat.{ℕ, _+_, _*_, _≤_, _<_};
+ghost use lib.Bits.{bitOr};
+ghost use lib.ListN.{length, getD};
+ghost use Rattle.rows.specs.Row.{cell};
+ghost use Rattle.word.specs.Zeros.{zeros};
+ghost use Rattle.joint_marks.specs.Joint.{jointMarks};
+use rows::Rows;
+
+fn no_marks() -> [u8; 32]
+    ensures { λ r. ⌜ r ≡ zeros 32 ⌝ }
+{
+    [0u8; 32]
+}
+
+// Puts the marks of the first `count` bytes of a row to those that are there.
+fn add_front(all: &mut [u8], row: &[u8], count: usize)
+    requires { ⌜ (count ≤ length (now all)) × (count ≤ length (now row)) ⌝ }
+    ensures { λ _. ⌜ ((i : ℕ) → i < count → getD (now (all .exit)) i 0 ≡ bitOr (getD (now (all .entry)) i 0) (getD (now (row .entry)) i 0)) ⌝ }
+    ensures { λ _. ⌜ ((i : ℕ) → count ≤ i → getD (now (all .exit)) i 0 ≡ getD (now (all .entry)) i 0) ⌝ }
+{
+    let mut i: usize = 0;
+    while i < count {
+        all[i] = all[i] | row[i];
+        i += 1;
+    }
+}
+
+// The marks of the first t rows together, by each row's part of the list.
+fn joint_of_any(list: &[u8], rows: Rows, t: u16) -> [u8; 32]
+    ensures { λ r. ⌜ ((c : ℕ) → c < 256 → cell r c ≡ jointMarks (now (list .entry)) rows t c) ⌝ }
+{
+    let mut all = no_marks();
+    let mut j: u16 = 0;
+    while j < t {
+        let row = rows::row_of(list, rows, j);
+        let count = numbers::shorter(32, row.len());
+        add_front(&mut all, row, count);
+        j += 1;
+    }
+    all
+}
+
+// The same for rows of 32 bytes that are all there.
+fn joint_of_32(list: &[u8], rows: Rows, t: u16) -> [u8; 32]
+    requires { ⌜ (rows .bytes ≡ 32) × (rows .at + rows .stride * t + 32 ≤ length (now list) + rows .stride) ⌝ }
+    ensures { λ r. ⌜ ((c : ℕ) → c < 256 → cell r c ≡ jointMarks (now (list .entry)) rows t c) ⌝ }
+{
+    let first = rows.at as usize;
+    let stride = rows.stride as usize;
+    let mut all = no_marks();
+    let mut j: u16 = 0;
+    while j < t {
+        let at = first + stride * (j as usize);
+        let end = at + 32;
+        add_front(&mut all, &list[at..end], 32);
+        j += 1;
+    }
+    all
+}
+
+// The marks of the first t rows together, of 256 chains. A row past the end has no mark.
+pub fn joint_marks(list: &[u8], rows: Rows, t: u16) -> [u8; 32]
+    ensures { λ r. ⌜ ((c : ℕ) → c < 256 → cell r c ≡ jointMarks (now (list .entry)) rows t c) ⌝ }
+{
+    if marked_rows::are_whole_32(list, rows, t) {
+        return joint_of_32(list, rows, t);
+    }
+    joint_of_any(list, rows, t)
+}
