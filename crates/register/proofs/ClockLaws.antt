@@ -2,18 +2,16 @@
 use mathlib.Core.Path.{_≡_, sym, ap, ap₂, _∙_}
 use mathlib.Core.Bool.{false}
 use mathlib.Core.List.{List}
-use Prim.Native.Nat.{ℕ, _+_, _-_, _*_, _%_, _^_, _<_, min}
+use Prim.Native.Nat.{ℕ, _+_, _-_, _*_, _%_, _^_, min}
 use native.Mathlib.Omega.{arith}
 use lib.Bits.{bitAnd, bitXor, and-mask}
-use lib.ListN.{length, getD, take}
+use lib.ListN.{length}
 use lib.Pow.{mod-mod-pow}
 use Rattle.word.specs.Word.{digit, lowMask, badWidth}
 use Rattle.word.specs.Reply.{answer, refusal, replied, firstOf}
-use Rattle.rows.specs.Row.{cell}
+use Rattle.rows.specs.Row.{Cells, cell}
 use Rattle.register.specs.Circuit.{circuit, advanced, clocked}
 use Rattle.chains.specs.Driven.{chosen, driven}
-use Rattle.chains.specs.Table.{HalfBytes, lookedUp}
-use Rattle.chains.proofs.TableLaws.{table-drives}
 use Rattle.register.specs.Clock.{registered, clockTests, clockReply}
 use Rattle.register.specs.declared.Register.{Register}
 use Rattle.word.proofs.Laws.{xor-assoc}
@@ -37,17 +35,16 @@ advanced-in-word m t s drive mask top feedback next em et ef en =
     ∙ ap (λ (x : ℕ). bitXor x drive)
     (ap₂ bitXor (ap (bitAnd (s * 2 % 2 ^ 64)) em ∙ shifted-in-word m s) (ef ∙ ap (λ (i : ℕ). chosen (digit i s) t) et))
 
--- ---- a clock by the table of half bytes
+-- ---- a clock with what the chains drive
 
-module _ (m t v s drive next : ℕ) (table row : List ℕ) (ed : drive ≡ lookedUp table row (min (length row) 32))
-    (es : next ≡ bitXor (advanced m t s) (bitXor drive v)) where
-  pub by-table : next ≡ bitXor (bitXor (advanced m t s) (lookedUp table row (min (length row) 32))) v
-  by-table = es ∙ sym (xor-assoc (advanced m t s) drive v) ∙ ap (λ (d : ℕ). bitXor (bitXor (advanced m t s) d) v) ed
+pub driven-in : (m t v s drive next : ℕ) → next ≡ bitXor (advanced m t s) (bitXor drive v) → next ≡ bitXor (bitXor (advanced m t s) drive) v
+driven-in m t v s drive next e = e ∙ sym (xor-assoc (advanced m t s) drive v)
 
-  pub clocked-by-table : ((i : ℕ) → getD row i 0 < 256) → (ws : List ℕ) → HalfBytes ws table
-      → next ≡ clocked (circuit m t v (take 256 ws)) (cell row) s
-  unfolding clocked
-  clocked-by-table byte ws right = by-table ∙ ap (λ (d : ℕ). bitXor (bitXor (advanced m t s) d) v) (table-drives ws table row right byte)
+-- it is a clock with the cells that drive it
+pub clocked-driven : (m t v s drive next : ℕ) (ws : List ℕ) (x : Cells) → drive ≡ driven ws x (length ws)
+    → next ≡ bitXor (bitXor (advanced m t s) drive) v → next ≡ clocked (circuit m t v ws) x s
+unfolding clocked
+clocked-driven m t v s drive next ws x ed es = es ∙ ap (λ (d : ℕ). bitXor (bitXor (advanced m t s) d) v) ed
 
 -- ---- the clock's reply
 
@@ -68,12 +65,12 @@ module _ (r : Register) (ws x : List ℕ) where
       ∙ replied-refusal n (clocked (registered r ws) (cell x) (r .state)) h
 
   pub clock-done : (d s : ℕ) → firstOf (clockTests r ws x) ≡ 0 → d ≡ driven ws (cell x) (length ws)
-      → s ≡ bitXor (advanced (min (r .m) 64) (r .taps) (r .state)) (bitXor d (r .inversion)) → clockReply r ws x ≡ answer s
+      → s ≡ bitXor (bitXor (advanced (min (r .m) 64) (r .taps) (r .state)) d) (r .inversion) → clockReply r ws x ≡ answer s
   unfolding clocked
   clock-done d s h ed es =
       let width : min (r .m) 64 ≡ r .m = omega (arith, good-width (r .m) (clock-width h) .1) in
       clock-answers h
       ∙ ap answer
       (sym
-      (es ∙ sym (xor-assoc (advanced (min (r .m) 64) (r .taps) (r .state)) d (r .inversion))
+      (es
       ∙ ap₂ (λ (k y : ℕ). bitXor (bitXor (advanced k (r .taps) (r .state)) y) (r .inversion)) width ed))

@@ -1,15 +1,13 @@
-// The signature register of document 01 and its clock, cell by cell and by a table. It sees rows and chains; it knows no file.
+// The signature register of document 01 and its clock, with the cells of a row or with what they drive. It sees rows and chains; it knows no file.
 ghost use mathlib.Core.Path.{_≡_};
 ghost use mathlib.Core.Bool.{not};
-ghost use mathlib.Core.List.{List};
-ghost use Prim.Native.Nat.{ℕ, min, _-_};
+ghost use Prim.Native.Nat.{min, _-_};
 ghost use lib.Bits.{bitXor};
 ghost use lib.Dec.{eqb};
-ghost use lib.ListN.{length, take};
+ghost use lib.ListN.{length};
 ghost use Rattle.word.specs.Reply.{firstOf};
 ghost use Rattle.rows.specs.Row.{cell, rowBytes};
-ghost use Rattle.chains.specs.Table.{HalfBytes, lookedUp};
-ghost use Rattle.register.specs.Circuit.{circuit, advanced, clocked, badTaps, badChains, tooManySlices};
+ghost use Rattle.register.specs.Circuit.{advanced, badTaps, badChains, tooManySlices};
 ghost use Rattle.register.specs.Clock.{clockTests, clockReply, said, stateAfter};
 
 // The register: its width m, its tap word, its inversion word and its state.
@@ -181,6 +179,14 @@ impl Register {
         self.holding(shifted ^ feedback ^ drive)
     }
 
+    // One clock in which the chains drive this word: the register with its next state. It meets no number: a width above 64 counts as
+    // 64.
+    pub fn clock_driven(self, drive: u64) -> Register
+        ensures { λ r. ⌜ (r .m ≡ self .m) × (r .taps ≡ self .taps) × (r .inversion ≡ self .inversion) × (r .state ≡ bitXor (bitXor (advanced (min (self .m) 64) (self .taps) (self .state)) drive) (self .inversion)) ⌝ }
+    {
+        self.advance(drive ^ self.inversion)
+    }
+
     // One clock with the cells of one row: the register with its next state. It meets 2, 3, 25, 4, 6, 8 (a row not of B
     // bytes), 9 and 23 (the state), in that order; a refusal hands the register back as it came.
     pub fn clock(self, spread: &[u64], row: &[u8]) -> Clocked
@@ -196,18 +202,7 @@ impl Register {
         }
         Clocked {
             answer: Clocking::Done,
-            register: self.advance(chains::driven_word(spread, row) ^ self.inversion),
+            register: self.clock_driven(chains::driven_word(spread, row)),
         }
-    }
-
-    // One clock with the cells of one row, a part of a set file or a record as it stands there, by the table of half bytes of the
-    // chains' spread words (`chains::half_bytes`): the register with its next state, the same as by the clock for the first 256
-    // chains. It meets no number: a width above 64 counts as 64, and a cell past the row's end is 0.
-    pub fn clock_by_table(self, table: &[u64; 1024], row: &[u8]) -> Register
-        ensures kept { λ r. ⌜ (r .m ≡ self .m) × (r .taps ≡ self .taps) × (r .inversion ≡ self .inversion) ⌝ }
-        ensures drive { λ r. ⌜ r .state ≡ bitXor (bitXor (advanced (min (self .m) 64) (self .taps) (self .state)) (lookedUp (now (table .entry)) (now (row .entry)) (min (length (now (row .entry))) 32))) (self .inversion) ⌝ }
-        ensures clocks { λ r. ⌜ ((ws : List ℕ) → HalfBytes ws (now (table .entry)) → r .state ≡ clocked (circuit (min (self .m) 64) (self .taps) (self .inversion) (take 256 ws)) (cell (now (row .entry))) (self .state)) ⌝ }
-    {
-        self.advance(chains::looked_up(table, row) ^ self.inversion)
     }
 }

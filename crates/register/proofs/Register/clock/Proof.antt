@@ -21,25 +21,25 @@ returns c =
 driven-word-requires : tie.Need-driven-word-requires
 driven-word-requires c κs = search needs
 
-advance-requires : tie.Need-advance-requires
-advance-requires c κs = search needs
+clock-driven-requires : tie.Need-clock-driven-requires
+clock-driven-requires c κs = search needs
 
 returns-2 : tie.Need-returns-2
 returns-2 c =
-    let e = clock-done (c .before .before .before .before .before .before .before .args .self)
-    (c .before .before .before .before .before .before .before .args .spread .now)
-    (c .before .before .before .before .before .before .before .args .row .now) (c .before .before .driven-word .result) (c .advance .result .state)
-    (cc) (c .before .before .driven-word .ensures) (c .advance .ensures .3) in (
+    let e = clock-done (c .before .before .before .before .before .before .args .self)
+    (c .before .before .before .before .before .before .args .spread .now)
+    (c .before .before .before .before .before .before .args .row .now) (c .before .driven-word .result) (c .clock-driven .result .state)
+    (cc) (c .before .driven-word .ensures) (c .clock-driven .ensures .3) in (
       sym e,
       (
-        c .advance .ensures .0,
-        c .advance .ensures .1,
-        c .advance .ensures .2,
-        sym (ap (λ (q : Reply ℕ). stateAfter q (c .before .before .before .before .before .before .before .args .self .state)) e),
+        c .clock-driven .ensures .0,
+        c .clock-driven .ensures .1,
+        c .clock-driven .ensures .2,
+        sym (ap (λ (q : Reply ℕ). stateAfter q (c .before .before .before .before .before .before .args .self .state)) e),
       ),
     )
 
 pub clock-spec : {M : Type 1} → statement M
 clock-spec =
     tie.close
-    (tie.spec first-refusal-requires returns driven-word-requires advance-requires returns-2)
+    (tie.spec first-refusal-requires returns driven-word-requires clock-driven-requires returns-2)

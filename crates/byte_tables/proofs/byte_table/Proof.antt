@@ -1,0 +1,71 @@
+-- `byte_table` meets its contract. The loop's invariant: the entries that have no bit from `i` on are right, and the others are 0.
+use mathlib.Core.Path.{_≡_, sym, _∙_}
+use Prim.Native.Nat.{_≤_, _-_}
+use lib.ListN.{length}
+use Rattle.byte_tables.proofs.TableLaws.{Made, entriesAt, bits-start, bits-room, bits-turn, bits-end, marked-linear}
+use Rattle.byte_tables.proofs.MarkLaws.{marked-one}
+use Rattle.word.specs.Marked.{xorMarked}
+use borrow.Author.Needs.{needs}
+use Rattle.byte_tables.proofs.byte_table.Statement.{statement}
+use Rattle.byte_tables.proofs.byte_table.Tie as tie
+
+abbrev Inv-loop : tie.InvT-loop
+Inv-loop words table₀ i₀ table i = (i ≤ 64) × (length table ≡ 2048) × Made (xorMarked words) table (entriesAt i)
+
+abbrev μ-loop : tie.MeasureT-loop
+μ-loop words table₀ i₀ table i = 64 - i
+
+no-entries-requires : tie.Need-no-entries-requires Inv-loop μ-loop
+no-entries-requires c κs = search needs
+
+loop-holds : tie.Need-loop-holds Inv-loop μ-loop
+loop-holds c = let k = bits-start _ (marked-linear (c .before .before .args .words .now)) _ (c .no-entries .ensures) in (search needs, k .long, k)
+
+word-at-requires : tie.Need-word-at-requires Inv-loop μ-loop
+word-at-requires c κs = search needs
+
+slice-aggregate-double-entries : tie.Need-slice-aggregate-double-entries Inv-loop μ-loop
+slice-aggregate-double-entries c = search needs
+
+mul-double-entries : tie.Need-mul-double-entries Inv-loop μ-loop
+mul-double-entries c = search needs
+
+shl-double-entries : tie.Need-shl-double-entries Inv-loop μ-loop
+shl-double-entries c = search needs
+
+double-entries-requires : tie.Need-double-entries-requires Inv-loop μ-loop
+double-entries-requires c κs = bits-room (c .before .before .before .loop .table) (c .before .before .before .loop .i) (search needs) (c .before .before .before .loop .inv .1)
+
+add-i : tie.Need-add-i Inv-loop μ-loop
+add-i c = search needs
+
+loop-less : tie.Need-loop-less Inv-loop μ-loop
+loop-less c = search needs
+
+loop-again : tie.Need-loop-again Inv-loop μ-loop
+loop-again c =
+    let made = c .before .before .before .before .before .loop .inv .2 in
+    let bit = c .before .before .before .word-at .ensures ∙ sym (marked-one _ _) in
+    let k = bits-turn _ (marked-linear _) _ _ (c .before .before .before .before .before .loop .i) _ (search needs) made bit (c .before .double-entries .ensures) in
+    (search needs, k .long, k)
+
+returns : tie.Need-returns Inv-loop μ-loop
+returns c = bits-end _ (marked-linear _) _ _ (search needs) (c .before .loop .inv .0) (c .before .loop .inv .2)
+
+pub byte-table-spec : {M : Type 1} → statement M
+byte-table-spec =
+    tie.close
+    (tie.spec
+    Inv-loop
+    μ-loop
+    no-entries-requires
+    loop-holds
+    word-at-requires
+    slice-aggregate-double-entries
+    mul-double-entries
+    shl-double-entries
+    double-entries-requires
+    add-i
+    loop-less
+    loop-again
+    returns)

@@ -1,0 +1,59 @@
+-- `add_group` meets its contract, for rows that are all there and for any: what is looked up is the XOR of the words marked.
+use native.Mathlib.Omega.{arith}
+use Rattle.drives.proofs.DriveLaws.{any-marked, whole-marked}
+use borrow.Author.Needs.{needs}
+use Rattle.drives.proofs.add_group.Statement.{statement}
+use Rattle.drives.proofs.add_group.Tie as tie
+
+byte-table-requires : tie.Need-byte-table-requires
+byte-table-requires c κs = search needs
+
+are-whole-requires : tie.Need-are-whole-requires
+are-whole-requires c κs = search needs
+
+cast-add-of-whole : tie.Need-cast-add-of-whole
+cast-add-of-whole c = search needs
+
+add-add-of-whole : tie.Need-add-add-of-whole
+add-add-of-whole c = record { fits = omega (arith, c .before .before .before .before .are-whole .ensures (c .before .before .before .if1 .taken) .0) }
+
+add-of-whole-requires : tie.Need-add-of-whole-requires
+add-of-whole-requires c κs = (search needs, c .before .before .before .before .are-whole .ensures (c .before .before .before .if1 .taken) .1)
+
+same-length : tie.Need-same-length
+same-length c = search needs
+
+returns : tie.Need-returns
+returns c =
+    let args = c .before .before .before .before .before .before .before .before .before .before .before .before .args in
+    let bytes = c .before .before .before .before .before .before .before .before .before .shared-slice-known2 .given in
+    whole-marked (args .list .now) (λ i. bytes i .fits) (args .rows) (args .words .now) _ _ _ (args .from) (args .s) (c .before .before .before .before .before .before .before .before .byte-table .ensures)
+    (c .before .before .before .before .before .before .before .are-whole .ensures (c .before .before .before .before .before .before .if1 .taken) .0) (c .before .before .add-of-whole .ensures)
+
+add-of-any-requires : tie.Need-add-of-any-requires
+add-of-any-requires c κs = search needs
+
+same-length-2 : tie.Need-same-length-2
+same-length-2 c = search needs
+
+returns-2 : tie.Need-returns-2
+returns-2 c =
+    let args = c .before .before .before .before .before .before .before .before .before .before .before .args in
+    let bytes = c .before .before .before .before .before .before .before .before .shared-slice-known2 .given in
+    any-marked (args .list .now) (λ i. bytes i .fits) (args .rows) (args .words .now) _ _ _ (args .from) (args .s) (c .before .before .before .before .before .before .before .byte-table .ensures)
+    (c .before .before .add-of-any .ensures)
+
+pub add-group-spec : {M : Type 1} → statement M
+add-group-spec =
+    tie.close
+    (tie.spec
+    byte-table-requires
+    are-whole-requires
+    cast-add-of-whole
+    add-add-of-whole
+    add-of-whole-requires
+    same-length
+    returns
+    add-of-any-requires
+    same-length-2
+    returns-2)
