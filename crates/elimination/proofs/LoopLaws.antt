@@ -139,13 +139,6 @@ reduced-end cs l ws left i r h =
 
 -- ---- the first columns by turned words, and the others
 
-pub turned-none : (cs l : List ℕ) → length cs ≡ 0 → (length l ≡ length (steps cs l)) × (take (length l) l ≡ steps cs l)
-unfolding steps
-turned-none cs l h =
-    let none : cs ≡ [] = drop-of-length-le cs {i = 0} (omega arith) in
-    let same : l ≡ steps cs l = ap (λ (x : List ℕ). steps x l) (sym none) in
-    (ap length same, take-length l ∙ same)
-
 -- the first `count` columns are taken: `left` words are left, at the front of `last`
 pub record Begun (cs l last : List ℕ) (count left : ℕ) : Type 0 where
   pub inside : count ≤ length cs

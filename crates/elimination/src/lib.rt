@@ -1,6 +1,6 @@
 // The elimination: a width and columns in, the rank and the reduced X-free list out. It knows nothing of registers, sets or files.
 ghost use mathlib.Core.Path.{_≡_};
-ghost use Prim.Native.Nat.{_≤_, _<_};
+ghost use Prim.Native.Nat.{_≤_};
 ghost use lib.ListN.{length, take, drop};
 ghost use Rattle.word.specs.Word.{beyond};
 ghost use Rattle.word.specs.Some.{anyOf};
@@ -42,8 +42,8 @@ fn next_place(words: &[u64], before: usize, columns: &[u64], from: usize) -> usi
     parity_table::skip_even(words, columns, from)
 }
 
-// The columns one after the other, with a parity for each word: answers with how many words are left, which stand at the front of `held`. Columns that leave
-// the words as they are can be passed over. An empty list stays empty, so what is left of the columns is not looked at.
+// The columns one after the other, with a parity for each word: answers with how many words are left, which stand at the front of
+// `held`. Columns that leave the words as they are can be passed over. An empty list stays empty, so what is left of the columns is not looked at.
 fn reduce_plainly(held: &mut [u64], columns: &[u64]) -> usize
     ensures { λ r. ⌜ (r ≡ length (steps (now (columns .entry)) (now (held .entry)))) × (take r (now (held .exit)) ≡ steps (now (columns .entry)) (now (held .entry))) ⌝ }
 {
@@ -60,50 +60,13 @@ fn reduce_plainly(held: &mut [u64], columns: &[u64]) -> usize
     left
 }
 
-// By turned words a column takes less time, but turning them in takes some. These are estimates: with how many words and for how many
-// columns it pays, and for how many of the columns. Behind these most of the rank is found, and a table passes over columns faster.
-const FEWEST_TURNED_WORDS: usize = 8;
-
-const FEWEST_TURNED_COLUMNS: usize = 16;
-
-const MOST_TURNED_COLUMNS: usize = 128;
-
-// How many of the columns, from the first on, are taken by turned words. More than 64 words can't be turned.
-fn turned_count(words: usize, columns: usize) -> usize
-    ensures { λ r. ⌜ (r ≤ columns) × (0 < r → words ≤ 64) ⌝ }
-{
-    if 64 < words {
-        return 0;
-    }
-    if words < FEWEST_TURNED_WORDS {
-        return 0;
-    }
-    if columns < FEWEST_TURNED_COLUMNS {
-        return 0;
-    }
-    if columns < MOST_TURNED_COLUMNS {
-        columns
-    } else {
-        MOST_TURNED_COLUMNS
-    }
-}
-
-// The columns one after the other by turned words, for at most 64 words; without a column nothing is turned.
-fn reduce_turned(held: &mut [u64], columns: &[u64]) -> usize
-    ensures { λ r. ⌜ ((0 < length (now (columns .entry)) → length (now (held .entry)) ≤ 64) → (r ≡ length (steps (now (columns .entry)) (now (held .entry)))) × (take r (now (held .exit)) ≡ steps (now (columns .entry)) (now (held .entry)))) ⌝ }
-{
-    if columns.len() == 0 {
-        return held.len();
-    }
-    turned_words::add_turned_columns(held, columns)
-}
-
-// The columns one after the other: answers with how many words are left, which stand at the front of `held`.
+// The columns one after the other, the first of them by turned words where that pays: answers with how many words are left, which stand at
+// the front of `held`.
 fn reduce(held: &mut [u64], columns: &[u64]) -> usize
     ensures { λ r. ⌜ (r ≡ length (steps (now (columns .entry)) (now (held .entry)))) × (take r (now (held .exit)) ≡ steps (now (columns .entry)) (now (held .entry))) ⌝ }
 {
-    let count = turned_count(held.len(), columns.len());
-    let left = reduce_turned(held, &columns[..count]);
+    let count = turned_words::turned_count(held.len(), columns.len());
+    let left = turned_words::add_turned_columns(held, &columns[..count]);
     reduce_plainly(&mut held[..left], &columns[count..])
 }
 

@@ -10,7 +10,7 @@ use native.Mathlib.Omega.{arith}
 use lib.Bits.{bitXor, bitAnd, and-mask, xor-zero-r}
 use lib.ListN.{length, getD, take, drop, set, length-set, drop-of-length-le}
 use lib.Pow.{pow-pos}
-use lib.Seq.{drop-cons, take-suc-set, take-set-le, drop-set-lt, append-snoc, length-take-le, getD-set-same, getD-set-other}
+use lib.Seq.{drop-cons, take-suc-set, take-set-le, drop-set-lt, append-snoc, length-take-le, take-length, getD-set-same, getD-set-other}
 use Rattle.word.specs.Word.{digit, lowMask}
 use Rattle.word.proofs.Laws.{bit-cases, mod2-lt}
 use Rattle.word.proofs.LowestLaws.{Lowest, digit-mod, digit-past, below-lowest, above-lowest, lowest-gone, lowest-less}
@@ -182,3 +182,11 @@ pub columns-taken : (cs ws ws′ last rows rows′ : List ℕ) (dead r : ℕ) �
 columns-taken cs ws ws′ last rows rows′ dead r few small t f k =
     let held : kept dead ws′ ≡ steps cs ws = f (turned-start ws rows few small t) .held in
     (k .0 ∙ ap length held, k .1 ∙ held)
+
+-- no column: the words as they are
+pub turned-none : (cs l : List ℕ) → length cs ≡ 0 → (length l ≡ length (steps cs l)) × (take (length l) l ≡ steps cs l)
+unfolding steps
+turned-none cs l h =
+    let none : cs ≡ [] = drop-of-length-le cs {i = 0} (omega arith) in
+    let same : l ≡ steps cs l = ap (λ (x : List ℕ). steps x l) (sym none) in
+    (ap length same, take-length l ∙ same)

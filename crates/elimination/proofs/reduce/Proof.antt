@@ -9,16 +9,16 @@ use Rattle.elimination.proofs.reduce.Tie as tie
 turned-count-requires : tie.Need-turned-count-requires
 turned-count-requires c κs = search needs
 
-slice-aggregate-reduce-turned : tie.Need-slice-aggregate-reduce-turned
-slice-aggregate-reduce-turned c = sym (length-take-le _ _ (search needs))
+slice-aggregate-add-turned-columns : tie.Need-slice-aggregate-add-turned-columns
+slice-aggregate-add-turned-columns c = sym (length-take-le _ _ (search needs))
 
-reduce-turned-requires : tie.Need-reduce-turned-requires
-reduce-turned-requires c κs = search needs
+add-turned-columns-requires : tie.Need-add-turned-columns-requires
+add-turned-columns-requires c κs = search needs
 
 -- what the first columns left
-first : (c : tie.After-slice-known2) → Begun (c .before .before .before .before .before .before .before .before .args .columns .now) (c .before .before .before .before .before .before .before .before .args .held .now) (c .before .before .reduce-turned .last .0) (c .before .before .before .before .before .turned-count .result) (c .before .before .reduce-turned .result)
+first : (c : tie.After-slice-known2) → Begun (c .before .before .before .before .before .before .before .before .args .columns .now) (c .before .before .before .before .before .before .before .before .args .held .now) (c .before .before .add-turned-columns .last .0) (c .before .before .before .before .before .turned-count .result) (c .before .before .add-turned-columns .result)
 first c =
-    let turned = c .before .before .reduce-turned in
+    let turned = c .before .before .add-turned-columns in
     begun _ _ _ _ _ (turned .kept .0) (c .before .before .before .before .before .turned-count .ensures) (turned .ensures)
 
 slice-relend-prefix-reduce-plainly : tie.Need-slice-relend-prefix-reduce-plainly
@@ -54,8 +54,8 @@ reduce-spec =
     tie.close
     (tie.spec
     turned-count-requires
-    slice-aggregate-reduce-turned
-    reduce-turned-requires
+    slice-aggregate-add-turned-columns
+    add-turned-columns-requires
     slice-relend-prefix-reduce-plainly
     slice-aggregate-reduce-plainly
     mul-reduce-plainly
