@@ -9,7 +9,7 @@ use native.Mathlib.Omega.{arith}
 use borrow.Author.Tests.{lt-leb, leb-false, le-leb, leb-true}
 use lib.Bits.{bitOr, or-lt, or-add-and, and-le-l, and-le-r}
 use lib.Dec.{leb}
-use lib.ListN.{length, getD, take, drop, set, length-append, length-drop, drop-of-length-le}
+use lib.ListN.{length, getD, take, drop, set, length-append, length-drop, drop-of-length-le, take-append-drop}
 use lib.Pow.{pow-pos, pow-mono}
 use lib.Seq.{drop-cons, take-all, take-length, take-append-le, take-append-seam, length-take-le}
 use Rattle.word.specs.Word.{beyond}
@@ -20,7 +20,7 @@ use Rattle.word.proofs.SomeLaws.{any-of-below, any-of-none}
 use Rattle.word.proofs.WordLaws.{not-beyond}
 use Rattle.combinations.specs.Step.{step, steps, units}
 use Rattle.elimination.specs.Code.{orBelow}
-use Rattle.combinations.proofs.StepLaws.{steps-none}
+use Rattle.combinations.proofs.StepLaws.{steps-none, steps-append}
 use Rattle.combinations.proofs.Portions.{steps-most}
 use Rattle.combinations.proofs.Units.{one-bit, next-taken}
 
@@ -136,6 +136,33 @@ unfolding steps
 reduced-end cs l ws left i r h =
     let all : take left ws ≡ steps cs l = ap (λ (x : List ℕ). steps x (take left ws)) (sym (drop-of-length-le cs h)) ∙ r .done in
     (sym (length-take-le left ws (r .left-long)) ∙ ap length all, all)
+
+-- ---- the first columns by turned words, and the others
+
+-- the first `count` columns are taken: `left` words are left, at the front of `last`
+pub record Begun (cs l last : List ℕ) (count left : ℕ) : Type 0 where
+  pub inside : count ≤ length cs
+  pub left-long : left ≤ length last
+  pub done : take left last ≡ steps (take count cs) l
+
+pub begun : (cs l last : List ℕ) (count left : ℕ) → length last ≡ length l → (count ≤ length cs) × (0 < count → length l ≤ 64)
+    → ((0 < length (take count cs) → length l ≤ 64) → (left ≡ length (steps (take count cs) l)) × (take left last ≡ steps (take count cs) l))
+    → Begun cs l last count left
+begun cs l last count left same counted taken =
+    let t = taken (λ p. counted .1 (omega (arith, length-take-le count cs (counted .0)))) in
+    record { inside = counted .0; left-long = omega (arith, t .0, steps-most (take count cs) l); done = t .1 }
+
+-- `part` is what the other columns left where these words were lent
+pub begun-end : (cs l last part : List ℕ) (count left r : ℕ) → Begun cs l last count left → length part ≡ length (take left last)
+    → (r ≡ length (steps (take (length cs - count) (drop count cs)) (take left last))) × (take r part ≡ steps (take (length cs - count) (drop count cs)) (take left last))
+    → (r ≡ length (steps cs l)) × (take r (part ++ drop left last) ≡ steps cs l)
+begun-end cs l last part count left r b long e =
+    let rest = take (length cs - count) (drop count cs) in
+    let all : rest ≡ drop count cs = take-all (length cs - count) (drop count cs) (omega (arith, length-drop count cs)) in
+    let whole : steps rest (take left last) ≡ steps cs l =
+    ap₂ steps all (b .done) ∙ sym (steps-append (take count cs) (drop count cs) l) ∙ ap (λ (x : List ℕ). steps x l) (take-append-drop count cs) in
+    let short : r ≤ length part = omega (arith, e .0, long, steps-most rest (take left last)) in
+    (e .0 ∙ ap length whole, take-append-le r part (drop left last) short ∙ e .1 ∙ whole)
 
 -- ---- a portion: the places behind the words are cleared
 

@@ -42,9 +42,9 @@ fn next_place(words: &[u64], before: usize, columns: &[u64], from: usize) -> usi
     parity_table::skip_even(words, columns, from)
 }
 
-// The columns one after the other: answers with how many words are left, which stand at the front of `held`. Columns that leave
-// the words as they are can be passed over. An empty list stays empty, so what is left of the columns is not looked at.
-fn reduce(held: &mut [u64], columns: &[u64]) -> usize
+// The columns one after the other, with a parity for each word: answers with how many words are left, which stand at the front of
+// `held`. Columns that leave the words as they are can be passed over. An empty list stays empty, so what is left of the columns is not looked at.
+fn reduce_plainly(held: &mut [u64], columns: &[u64]) -> usize
     ensures { λ r. ⌜ (r ≡ length (steps (now (columns .entry)) (now (held .entry)))) × (take r (now (held .exit)) ≡ steps (now (columns .entry)) (now (held .entry))) ⌝ }
 {
     let mut left = held.len();
@@ -58,6 +58,16 @@ fn reduce(held: &mut [u64], columns: &[u64]) -> usize
         i = next_place(&held[..left], before, columns, i + 1);
     }
     left
+}
+
+// The columns one after the other, the first of them by turned words where that pays: answers with how many words are left, which stand at
+// the front of `held`.
+fn reduce(held: &mut [u64], columns: &[u64]) -> usize
+    ensures { λ r. ⌜ (r ≡ length (steps (now (columns .entry)) (now (held .entry)))) × (take r (now (held .exit)) ≡ steps (now (columns .entry)) (now (held .entry))) ⌝ }
+{
+    let count = turned_words::turned_count(held.len(), columns.len());
+    let left = turned_words::add_turned_columns(held, &columns[..count]);
+    reduce_plainly(&mut held[..left], &columns[count..])
 }
 
 // A portion of columns: a list of words that are X-free for some columns becomes the list for those and these. Answers with the number of

@@ -1,0 +1,3 @@
+pub mod KeptLaws
+pub mod TurnedLaws
+pub mod LoopLaws

@@ -1,0 +1,132 @@
+// The elimination of many columns without a parity for each word. Beside the words, which stand in slots, it keeps them turned: row b has
+// bit b of every word. A column's parities with all words are then the XOR of the rows of its bits, and a step's two halves, the words and
+// the rows, go from one bit that is 1 to the next. A word that is dropped leaves its slot dead. It sees words and combinations.
+ghost use mathlib.Core.Path.{_≡_};
+ghost use mathlib.Core.List.{List};
+ghost use Prim.Native.Nat.{ℕ, _≤_, _<_};
+ghost use lib.ListN.{length, take};
+ghost use Rattle.word.specs.Zeros.{zeros};
+ghost use Rattle.combinations.specs.Step.{step, steps};
+ghost use Rattle.turned_words.specs.Turned.{kept, Turns, Turned, XoredInto};
+
+// XORs x into the words whose bit in `marks` is 1, bit i for word i. It goes from one such bit to the next.
+fn xor_into(words: &mut [u64], marks: u64, x: u64)
+    ensures { λ _. ⌜ XoredInto (now (words .entry)) (now (words .exit)) marks x ⌝ }
+{
+    let mut left = marks & word::low_mask(words.len() as u64);
+    while left != 0 {
+        let low = u64::trailing_zeros(left) as usize;
+        words[low] = words[low] ^ x;
+        left = left & (left - 1);
+    }
+}
+
+fn no_rows() -> [u64; 64]
+    ensures { λ r. ⌜ r ≡ zeros 64 ⌝ }
+{
+    [0u64; 64]
+}
+
+// The rows of the first 64 words.
+fn turn(words: &[u64]) -> [u64; 64]
+    ensures { λ r. ⌜ Turns (take 64 (now (words .entry))) r ⌝ }
+{
+    let count = word::at_most_64(words.len());
+    let mut rows = no_rows();
+    let mut i: usize = 0;
+    while i < count {
+        xor_into(&mut rows[..], words[i], 1u64 << i);
+        i += 1;
+    }
+    rows
+}
+
+// One column more. Answers with the slots that are dead then: where a word is odd with the column, that of the first such word too.
+fn add_turned(words: &mut [u64], rows: &mut [u64], dead: u64, column: u64) -> u64
+    ensures { λ r. ⌜ ((l : List ℕ) → Turned (now (words .entry)) l (now (rows .entry)) dead → Turned (now (words .exit)) (step column l) (now (rows .exit)) r) ⌝ }
+{
+    let odd = word::xor_marked(rows, column);
+    if odd == 0 {
+        return dead;
+    }
+    let k = u64::trailing_zeros(odd) as usize;
+    let pivot = word::word_at(words, k);
+    xor_into(words, odd, pivot);
+    xor_into(rows, pivot, odd);
+    dead ^ (1u64 << k)
+}
+
+// The columns one after the other, until every slot is dead. Answers with the slots that are.
+fn take_columns(words: &mut [u64], rows: &mut [u64], columns: &[u64]) -> u64
+    ensures { λ r. ⌜ (Turned (now (words .entry)) (now (words .entry)) (now (rows .entry)) 0 → Turned (now (words .exit)) (steps (now (columns .entry)) (now (words .entry))) (now (rows .exit)) r) ⌝ }
+{
+    let all = word::low_mask(words.len() as u64);
+    let mut dead: u64 = 0;
+    let mut i: usize = 0;
+    while i < columns.len() {
+        if dead == all {
+            return dead;
+        }
+        dead = add_turned(words, rows, dead, columns[i]);
+        i += 1;
+    }
+    dead
+}
+
+// Moves the words of the slots that aren't dead to the front; answers with how many they are.
+fn keep_alive(words: &mut [u64], dead: u64) -> usize
+    ensures { λ r. ⌜ (r ≡ length (kept dead (now (words .entry)))) × (take r (now (words .exit)) ≡ kept dead (now (words .entry))) ⌝ }
+{
+    let mut rest = dead;
+    let mut at: usize = 0;
+    let mut k: usize = 0;
+    while k < words.len() {
+        let w = words[k];
+        words[at] = w;
+        at += 1 - (rest % 2) as usize;
+        rest = rest / 2;
+        k += 1;
+    }
+    at
+}
+
+// By turned words a column takes less time, but turning them in takes some. These are estimates: with how many words and for how many
+// columns it pays, and for how many of the columns. Behind these most of the rank is found, and a table passes over columns faster.
+const FEWEST_TURNED_WORDS: usize = 8;
+
+const FEWEST_TURNED_COLUMNS: usize = 16;
+
+const MOST_TURNED_COLUMNS: usize = 128;
+
+// How many of the columns, from the first on, are taken by turned words. More than 64 words can't be turned.
+pub fn turned_count(words: usize, columns: usize) -> usize
+    ensures { λ r. ⌜ (r ≤ columns) × (0 < r → words ≤ 64) ⌝ }
+{
+    if 64 < words {
+        return 0;
+    }
+    if words < FEWEST_TURNED_WORDS {
+        return 0;
+    }
+    if columns < FEWEST_TURNED_COLUMNS {
+        return 0;
+    }
+    if columns < MOST_TURNED_COLUMNS {
+        columns
+    } else {
+        MOST_TURNED_COLUMNS
+    }
+}
+
+// The columns one after the other, for a list of at most 64 words: answers with how many words are left, which stand at the front of
+// `words`. Without a column nothing is turned, and the list may have any length; of a longer list with columns nothing is promised.
+pub fn add_turned_columns(words: &mut [u64], columns: &[u64]) -> usize
+    ensures { λ r. ⌜ ((0 < length (now (columns .entry)) → length (now (words .entry)) ≤ 64) → (r ≡ length (steps (now (columns .entry)) (now (words .entry)))) × (take r (now (words .exit)) ≡ steps (now (columns .entry)) (now (words .entry)))) ⌝ }
+{
+    if columns.len() == 0 {
+        return words.len();
+    }
+    let mut rows = turn(words);
+    let dead = take_columns(words, &mut rows[..], columns);
+    keep_alive(words, dead)
+}
