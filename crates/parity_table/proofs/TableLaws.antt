@@ -11,21 +11,14 @@ use native.Mathlib.Omega.{arith}
 use lib.Bits.{bitXor, xor-comm, xor-shifted}
 use lib.ListN.{length, getD, getD-replicate, List·getD-eq-default}
 use lib.Pow.{pow-add, pow-pos, pow-mono, shr-shr, mod-pow-add}
-use Rattle.word.specs.Word.{parity}
 use Rattle.word.specs.Parities.{parities}
 use Rattle.word.specs.Zeros.{zeros}
 use Rattle.word.specs.Doubled.{Doubled}
-use Rattle.word.proofs.Laws.{parity-pow, parity-comm, parities-zero, parities-xor}
+use Rattle.word.proofs.Laws.{parities-zero, parities-xor}
 use Rattle.word.proofs.WordLaws.{xor-scaled}
 use Rattle.word.proofs.FrontLaws.{length-zeros}
 use Rattle.parity_table.specs.Table.{byteParities, lookedParities}
 use Rattle.combinations.proofs.Units.{one-bit}
-
--- ---- the parities with a single bit
-
--- a word's parity with bit i is that bit of it
-pub bit-parity : (w i : ℕ) → w / 2 ^ i % 2 ≡ parity w (2 ^ i)
-bit-parity w i = sym (parity-comm w (2 ^ i) ∙ parity-pow i w)
 
 -- ---- how many entries a byte has before one of its bits
 

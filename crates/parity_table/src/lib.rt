@@ -1,11 +1,8 @@
 // A table of the parities of some words with every byte of a column, by which columns that are even with all of the words are
-// passed over. It sees words and combinations, and knows nothing of the elimination that uses it.
+// passed over. It sees words, turned words and combinations, and knows nothing of the elimination that uses it.
 ghost use mathlib.Core.Path.{_≡_};
-ghost use Prim.Native.Nat.{ℕ, _+_, _*_, _^_, _<_};
-ghost use lib.Bits.{bitXor};
-ghost use lib.ListN.{length, getD, take, drop};
-ghost use Rattle.word.specs.Word.{digit};
-ghost use Rattle.word.specs.Parities.{parities};
+ghost use Prim.Native.Nat.{_+_, _*_, _^_, _<_};
+ghost use lib.ListN.{take, drop};
 ghost use Rattle.word.specs.Zeros.{zeros};
 ghost use Rattle.combinations.specs.Combination.{xFree};
 ghost use Rattle.parity_table.specs.Table.{ParityTable, lookedParities, evenRun, tableRun};
@@ -16,47 +13,12 @@ fn no_entries() -> [u64; 2048]
     [0u64; 2048]
 }
 
-fn no_bits() -> [u64; 64]
-    ensures { λ r. ⌜ r ≡ zeros 64 ⌝ }
-{
-    [0u64; 64]
-}
-
-// Turns bit k in the entries of those bits of w that are 1. It goes from one such bit to the next.
-fn put_bits(bits: &mut [u64], w: u64, k: usize)
-    requires { ⌜ (length (now bits) ≡ 64) × (k < 64) ⌝ }
-    ensures { λ _. ⌜ (length (now (bits .exit)) ≡ 64) × ((b : ℕ) → b < 64 → getD (now (bits .exit)) b 0 ≡ bitXor (getD (now (bits .entry)) b 0) (digit b w * 2 ^ k)) ⌝ }
-{
-    let bit = 1u64 << k;
-    let mut left = w;
-    while left != 0 {
-        let low = u64::trailing_zeros(left) as usize;
-        bits[low] = bits[low] ^ bit;
-        left = left & (left - 1);
-    }
-}
-
-// For each bit i of a column bit i of each of the first 64 words as one word, bit k for word k: the parities of these words with the single
-// bit i.
-fn bit_table(words: &[u64]) -> [u64; 64]
-    ensures { λ r. ⌜ (length r ≡ 64) × ((i : ℕ) → i < 64 → getD r i 0 ≡ parities (take 64 (now (words .entry))) (2 ^ i)) ⌝ }
-{
-    let mut bits = no_bits();
-    let count = word::at_most_64(words.len());
-    let mut k: usize = 0;
-    while k < count {
-        put_bits(&mut bits, words[k], k);
-        k += 1;
-    }
-    bits
-}
-
 // The table of bytes: for each of the eight bytes of a column and each value of it, its parities with the first 64 words. Bit i doubles
 // the entries that its byte has so far. It takes about as long to make as five hundred parities.
 pub fn byte_table(words: &[u64]) -> [u64; 2048]
     ensures { λ r. ⌜ ParityTable (take 64 (now (words .entry))) r ⌝ }
 {
-    let bits = bit_table(words);
+    let bits = turned_words::turn(words);
     let mut table = no_entries();
     let mut i: usize = 0;
     while i < 64 {

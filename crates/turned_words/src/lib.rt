@@ -27,8 +27,8 @@ fn no_rows() -> [u64; 64]
     [0u64; 64]
 }
 
-// The rows of the first 64 words.
-fn turn(words: &[u64]) -> [u64; 64]
+// The rows of the first 64 words: for each bit that bit of every word, which is its parity with the single bit.
+pub fn turn(words: &[u64]) -> [u64; 64]
     ensures { λ r. ⌜ Turns (take 64 (now (words .entry))) r ⌝ }
 {
     let count = word::at_most_64(words.len());

@@ -43,7 +43,7 @@ array-read-bit c = search needs
 loop-again : tie.Need-loop-again Inv-loop μ-loop
 loop-again c =
     let at = c .before .before .before .before .loop in
-    let bit = c .before .before .before .before .before .before .bit-table .ensures .1 (at .i) (search needs) in
+    let bit = c .before .before .before .before .before .before .turn .ensures .each (at .i) (search needs) in
     let k = bits-turn _ _ _ (at .i) _ (search needs) (at .inv .2) bit (c .before .double-entries .ensures) in
     (search needs, k .long, k)
 
