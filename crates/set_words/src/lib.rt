@@ -136,8 +136,7 @@ fn add_next(
     let portion = portions::fill_portion(source, list, powers, words, working, from);
     let place = portion.place;
     let count = working.len() - place;
-    let odd = parity_table::skip_plainly(held, working, place);
-    let left = elimination::add_columns(held, &working[odd..]);
+    let left = elimination::add_columns(held, &working[place..]);
     Progress {
         t: portion.t,
         chains: portion.chains,
