@@ -24,7 +24,7 @@ use Rattle.word.proofs.FrontLaws.{length-zeros}
 use Rattle.chains.specs.Driven.{chosen}
 use Rattle.register.specs.Circuit.{Circuit, circuit, advanced}
 use Rattle.signatures.specs.Later.{later}
-use Rattle.powers.proofs.PowerLaws.{later-zero, later-xor, later-add, later-suc}
+use Rattle.powers.proofs.PowerLaws.{later-zero, later-xor, later-add, later-same}
 use Rattle.eight_clocks.specs.Eight.{EightOn, lookedOn}
 
 -- ---- one clock: bits that stay only move up, bits at or above the width are gone, and the highest bit alone is the tap word
@@ -127,6 +127,10 @@ module _ (k : Circuit) (wide : 8 ≤ k .width) where
   pub looked-all : (l : List ℕ) → EightOn k l → (j : ℕ) → j ≤ 8 → (ws : List ℕ) → map (lookedOn (k .width) l j) ws ≡ map (later k j) ws
   looked-all l right j hj [] = refl
   looked-all l right j hj (w ∷ ws) = ap₂ _∷_ (looked-later l right j w hj) (looked-all l right j hj ws)
+
+-- neither the inversion word nor the spread words matter to the table
+pub eight-on-same : (m t v : ℕ) (ws l : List ℕ) → EightOn (circuit m t 0 []) l → EightOn (circuit m t v ws) l
+eight-on-same m t v ws l right x h = right x h ∙ later-same m t v ws 8 (x * 2 ^ (m - 8))
 
 -- ---- what a turn of the loops over the words stores
 
