@@ -51,7 +51,7 @@ BELOW = {
     "canceller_read_plan": ["plan_file::read_plan", "plan_file::check_plan"],
     "canceller_judge": ["judge::judge"],
 }
-FILLERS = ["columns::fill_columns", "sparse_columns::fill_few", "swept_columns::fill_swept"]
+FILLERS = ["columns::fill_columns", "sparse_columns::fill_few", "eighth_columns::fill_by_eights", "swept_columns::fill_swept"]
 
 
 class Call:
@@ -919,6 +919,7 @@ class Batch:
             self.call("register::clock_by_table", register, u=self.junk_words(1024), a=self.pick([row, self.junk(32), self.junk(33)]))
             self.call("powers::powers", register + [self.pick([0, 1, 65, 575, 576, 577, self.pick(NUMBERS)])], v=self.junk_words(576))
             self.call("powers::advance_words", register, v=self.junk_words(self.pick([0, 1, 3, 20])))
+            self.call("powers::next_state", register + [self.pick([self.bits(m), self.bits(64)])])
 
     # ---- the elimination
 
@@ -1223,6 +1224,18 @@ class Batch:
             self.call("unclocking::unclock_eight", u=self.junk_words(256), v=words)
         self.call("unclocking::unclock_eight", u=self.junk_words(256), v=self.lowest_bytes())
 
+    def eight_clocks(self, count):
+        """Words up to 8 clocks later by a table: every byte is the highest one of some word, and words have bits above the width."""
+        for m in [0, 1, 7, 8, 9, 64, 65] + [self.pick(WIDTHS, WIDTHS, NUMBERS) for _ in range(count)]:
+            width = max(1, min(m, 64))
+            for taps in (self.taps(width), self.bits(64)):
+                self.call("eight_clocks::eight_on", [m, taps, self.inversion(width), self.bits(64)], v=self.junk_words(256))
+            bytes_up = [byte << max(0, width - 8) | self.bits(max(0, width - 8)) for byte in self.random.sample(range(256), 256)]
+            for words in ([], bytes_up, self.junk_words(self.pick([1, 3, 17, 600])), [self.word(width) for _ in range(20)]):
+                self.call("eight_clocks::advance_eight", [m], u=self.junk_words(256), v=words)
+                for clocks in {0, self.pick(range(8)), self.pick([8, 9, 15, 255, 65535])}:
+                    self.call("eight_clocks::advance_few", [m, clocks], u=self.junk_words(256), v=words)
+
     def next_columns(self, count):
         """The columns of one slice after the other and the words for the next: all slices of a set, and one past the last; then any words,
         tables and rows, and numbers above the limits."""
@@ -1381,6 +1394,9 @@ class Batch:
             self.call("word::word_at", [self.pick([0, 1, 4, 5, 6, self.pick(NUMBERS)])], v=self.junk_words(5))
             self.call("written_numbers::put_32", [self.pick([0, 1, 8]), self.pick([0, 1, 9])], a=self.junk(self.pick([31, 32, 41])), d=self.junk(self.pick([31, 32, 33, 40, 50])))
             self.call("sparse_columns::ones_pay", [self.pick([0, 1, 13, 14, 122, 123, 1006, 1023, 1024, self.pick(NUMBERS)]), self.pick([1, 8, 255, 256, 257, 65535]), self.pick([0, 1, 8, 64, 511, 512, 513])])
+            self.call("eighth_columns::eights_pay", [self.pick([0, 7, 8, 64, 65, self.pick(NUMBERS)]),
+                                                     self.pick([0, 1, 3, 4, 5, 258, 259, 260, 447, 448, 48063, 48064, 65535, 65536, self.pick(NUMBERS)]),
+                                                     self.pick([1, 8, 16, 255, 256, 257, 65535]), self.pick([0, 1, 8, 64, 128, 511, 512, 513])])
             self.call("word::double_entries", [self.pick([0, 1, 3]), self.pick([0, 1, 2, 4]), w], v=self.junk_words(self.pick([4, 8, 11, 12])))
             self.call("rows::pairs_share_a_bit", [self.pick([0, 1, 64]), self.pick([0, 1, 2, 3])],
                       a=bytes(x & self.pick([0, 0, 255, 1 << self.random.randrange(8)]) for x in self.junk(self.pick([64, 128, 193, 257]))))
@@ -1746,5 +1762,6 @@ def calls_of(number):
     batch.two_calls(25)
     batch.cuttings(30)
     batch.unclockings(30)
+    batch.eight_clocks(30)
     batch.next_columns(12)
     return batch.calls

@@ -1,4 +1,4 @@
-// Columns: those of marked cells, from rows of marks that stand in a list of bytes, or those of a set file's symbols. It sees the two ways to
+// Columns: those of marked cells, from rows of marks that stand in a list of bytes, or those of a set file's symbols. It sees the three ways to
 // make them, the columns of named symbols in a list, and the set file. Every function is total.
 ghost use mathlib.Core.Path.{_≡_};
 ghost use Prim.Native.Nat.{min};
@@ -25,12 +25,18 @@ pub enum Listed {
 }
 
 // Writes the columns of the marked cells over the end of the list, by slice and then by chain, for a register and chains as a taken
-// set has them. A few columns are made one by one; for many, all the chains' words are advanced together. It meets no number: a
-// width counts as at most 64, the slices as at most 512, and a row past the end has no mark. Where the list is shorter than the
-// columns, the first of them are lost.
+// set has them. There are three ways, and the one that costs least is taken: a few columns are made one by one, by the powers of the
+// register; more of them by all the chains' words advanced by 8 clocks for every eighth slice, and those of marked cells by the clocks
+// between; and where most cells are marked, all the chains' words are advanced by one clock for each slice. It meets no number: a width
+// counts as at most 64, the slices as at most 512, and a row past the end has no mark. Where the list is shorter than the columns, the
+// first of them are lost.
 pub fn fill_columns(taken: Taken, list: &[u8], marks: Rows, columns: &mut [u64])
     ensures { λ _. ⌜ now (columns .exit) ≡ back (columnsBelow (takenCircuit taken) (min (taken .s) 512) (cellsOf (now (list .entry)) marks) (min (taken .s) 512)) (now (columns .entry)) ⌝ }
 {
+    if eighth_columns::eights_pay(taken.register.m, columns.len(), taken.n, taken.s) {
+        eighth_columns::fill_by_eights(taken, list, marks, columns);
+        return;
+    }
     if sparse_columns::ones_pay(columns.len(), taken.n, taken.s) {
         sparse_columns::fill_few(taken, list, marks, columns);
         return;

@@ -11,7 +11,7 @@ ghost use Rattle.powers.specs.Powers.{fromPowers};
 use register::Register;
 
 // The state after this one, by a clock with all cells 0 and no inversion.
-fn next_state(register: Register, state: u64) -> u64
+pub fn next_state(register: Register, state: u64) -> u64
     ensures { λ r. ⌜ r ≡ advanced (min (register .m) 64) (register .taps) state ⌝ }
 {
     let drive = 0;

@@ -18,7 +18,7 @@ use Rattle.marked_words.specs.Back.{back}
 use Rattle.marked_words.proofs.BackLaws.{back-fits, back-length}
 use Rattle.unclocking.specs.Unclocked.{earlier}
 use Rattle.unclocking.proofs.UnclockLaws.{earlier-add, earlier-zero}
-use Rattle.sparse_columns.proofs.SparseLaws.{map-chosen, back-changed}
+use Rattle.sparse_columns.proofs.SparseLaws.{map-chosen}
 use Rattle.slice_columns.specs.Frame.{eights, markedEarlier}
 
 -- every word j clocks earlier
@@ -108,14 +108,3 @@ module _ (k : Circuit) (t : ℕ) (ws row l l′ vs : List ℕ) (place : ℕ) (fi
       drop-at (take place l′) (vs ++ drop (n - place) (drop place l′)) place (length-take-le place l′ (omega arith))
       ∙ ap (λ (x : List ℕ). vs ++ x) (drop-of-length-le (drop place l′) past) ∙ append-nil vs
       ∙ ev ∙ ap (map (earlier k (t % 8))) (all ∙ tail ∙ own) ∙ since-eight k t (cell row)
-
--- .. the list, whatever its length
-pub slice-back : (f : ℕ → ℕ) (us l l′ vs : List ℕ) (place n : ℕ) → place ≡ length l - length us → l′ ≡ back us l → n ≡ length l′
-    → vs ≡ map f (take (n - place) (drop place l′)) → take place l′ ++ (vs ++ drop (n - place) (drop place l′)) ≡ back (map f us) l
-slice-back f us l l′ vs place n ep el en ev =
-    let past : length (drop place l′) ≤ n - place = omega (arith, length-drop place l′) in
-    let all : take (n - place) (drop place l′) ≡ drop place l′ = take-all (n - place) (drop place l′) past in
-    ap (λ (x : List ℕ). take place l′ ++ (vs ++ x)) (drop-of-length-le (drop place l′) past)
-    ∙ ap (λ (x : List ℕ). take place l′ ++ x) (append-nil vs ∙ ev ∙ ap (map f) all)
-    ∙ ap (λ (x : List ℕ). take place x ++ map f (drop place x)) el
-    ∙ back-changed f us l place ep

@@ -2,14 +2,14 @@
 -- then advanced where they stand. Assumes nothing.
 use mathlib.Core.Path.{_≡_, refl, sym, ap, ap₂, _∙_}
 use mathlib.Core.Bool.{false}
-use mathlib.Core.List.{List, [], _∷_, _++_, map, map-append, append-assoc}
+use mathlib.Core.List.{List, [], _∷_, _++_, map, map-append, append-assoc, append-nil}
 use Prim.Native.Nat.{ℕ, zero, suc, _+_, _-_, _*_, _≤_, _<_, min}
 use native.Mathlib.Nat.{mul-le-mul-left, mul-le-mul-right}
 use native.Mathlib.Omega.{arith}
 use borrow.Author.Tests.{le-ltb}
 use lib.Dec.{ltb}
-use lib.ListN.{length, take, drop, getD, length-map, length-drop, length-take}
-use lib.Seq.{drop-drop, take-at, drop-at, take-append-le, drop-append-le, length-take-le}
+use lib.ListN.{length, take, drop, getD, length-map, length-drop, length-take, drop-of-length-le}
+use lib.Seq.{take-all, drop-drop, take-at, drop-at, take-append-le, drop-append-le, length-take-le}
 use Rattle.numbers.specs.Joined.{joined}
 use Rattle.rows.specs.Row.{cell}
 use Rattle.rows.specs.Lists.{cellsOf}
@@ -71,6 +71,17 @@ module _ (f : ℕ → ℕ) (us l : List ℕ) (start : ℕ) (e : start ≡ length
       ap₂ (λ (x y : List ℕ). x ++ y) back-kept (ap (map f) back-written ∙ map-drop f (length us - length l) us)
       ∙ ap₂ (λ (i j : ℕ). take i l ++ drop j (map f us)) (e ∙ ap (λ (i : ℕ). length l - i) (sym (length-map us f)))
       (ap (λ (i : ℕ). i - length l) (sym (length-map us f)))
+
+-- .. as a part from `place` on is lent, to be changed, of a list of length n
+pub end-changed : (f : ℕ → ℕ) (us l l′ vs : List ℕ) (place n : ℕ) → place ≡ length l - length us → l′ ≡ back us l → n ≡ length l′
+    → vs ≡ map f (take (n - place) (drop place l′)) → take place l′ ++ (vs ++ drop (n - place) (drop place l′)) ≡ back (map f us) l
+end-changed f us l l′ vs place n ep el en ev =
+    let past : length (drop place l′) ≤ n - place = omega (arith, length-drop place l′) in
+    let all : take (n - place) (drop place l′) ≡ drop place l′ = take-all (n - place) (drop place l′) past in
+    ap (λ (x : List ℕ). take place l′ ++ (vs ++ x)) (drop-of-length-le (drop place l′) past)
+    ∙ ap (λ (x : List ℕ). take place l′ ++ x) (append-nil vs ∙ ev ∙ ap (map f) all)
+    ∙ ap (λ (x : List ℕ). take place x ++ map f (drop place x)) el
+    ∙ back-changed f us l place ep
 
 -- .. where l is the first part of a list
 module _ (f : ℕ → ℕ) (us l : List ℕ) (place start : ℕ) (h : place ≤ length l) (e : start ≡ length (take place l) - length us) where

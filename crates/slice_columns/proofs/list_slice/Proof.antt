@@ -6,7 +6,8 @@ use lib.ListN.{length, take, drop}
 use borrow.Rule.Slice.PartMut.{same-len-mid}
 use Rattle.register.specs.Circuit.{circuit}
 use Rattle.unclocking.proofs.UnclockLaws.{earlier-words-same}
-use Rattle.slice_columns.proofs.FrameLaws.{slice-listed, slice-back}
+use Rattle.sparse_columns.proofs.SparseLaws.{end-changed}
+use Rattle.slice_columns.proofs.FrameLaws.{slice-listed}
 use borrow.Author.Needs.{needs}
 use Rattle.slice_columns.proofs.list_slice.Statement.{statement}
 use Rattle.slice_columns.proofs.list_slice.Tie as tie
@@ -35,7 +36,7 @@ returns c =
     let unclocked = c .before .before .unclock-words in (
       list .ensures .0,
       (
-        slice-back _ _ (args .columns .now) (list .last .0) _ (list .result) (length (list .last .0)) (list .ensures .0) (list .ensures .1) refl (unclocked .ensures),
+        end-changed _ _ (args .columns .now) (list .last .0) _ (list .result) (length (list .last .0)) (list .ensures .0) (list .ensures .1) refl (unclocked .ensures),
         (λ v spread fits e.
             slice-listed (circuit (min (args .register .m) 64) (args .register .taps) v spread) (args .t) (args .words .now) (args .row .now) (args .columns .now) (list .last .0) _ (list .result) fits (list .ensures .0) (list .ensures .1) (length (list .last .0)) refl e
             (unclocked .ensures ∙ earlier-words-same _ _ v spread _ (take (length (list .last .0) - list .result) (drop (list .result) (list .last .0))))),

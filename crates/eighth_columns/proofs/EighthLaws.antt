@@ -1,0 +1,151 @@
+-- The columns of all slices by eights of clocks, written from the end: the start, the turn and the end of the loop over the slices. Assumes nothing.
+use mathlib.Core.Path.{_≡_, refl, sym, ap, ap₂, _∙_}
+use mathlib.Core.Bool.{Bool, true, false, cond, _&&_}
+use mathlib.Core.List.{List, [], _∷_, _++_, map}
+use Prim.Native.Nat.{ℕ, suc, _+_, _-_, _*_, _/_, _%_, _≤_, _<_, min}
+use native.Mathlib.Omega.{arith}
+use borrow.Author.Tests.{eqb-true, eqb-false, eq-eqb, ne-eqb, le-ltb, le-leb, lt-leb}
+use lib.Dec.{eqb, ltb, leb}
+use lib.ListN.{length, take, drop, getD, length-map, length-append, length-drop}
+use lib.Seq.{take-at, length-take-le}
+use Rattle.rows.specs.Row.{cell}
+use Rattle.rows.specs.Marks.{markedWords}
+use Rattle.register.specs.Circuit.{Circuit, chains}
+use Rattle.signatures.specs.Signature.{Response}
+use Rattle.signatures.specs.Later.{later}
+use Rattle.signatures.specs.Columns.{columnsBelow}
+use Rattle.marked_words.specs.Back.{back}
+use Rattle.powers.proofs.PowerLaws.{later-add}
+use Rattle.eight_clocks.specs.Eight.{EightOn, lookedOn}
+use Rattle.eight_clocks.proofs.EightLaws.{looked-later, looked-all}
+use Rattle.swept_columns.proofs.FillLaws.{laterWords, later-words, later-words-none, later-words-get, later-words-length, later-words-suc, Filled, filled-inside, filled-room, filled-starts, filled-down, filled-ends}
+use Rattle.sparse_columns.specs.Cost.{onesCost}
+use Rattle.sparse_columns.proofs.SparseLaws.{map-chosen, cells-most}
+use Rattle.word.proofs.BoolLaws.{and-none}
+use Rattle.eighth_columns.specs.Cost.{eightsCost, eightsPay}
+
+-- so many clocks in whole eights
+abbrev eights : ℕ → ℕ
+eights n = 8 * (n / 8)
+
+later-words-add : (k : Circuit) (i j : ℕ) (ws : List ℕ) → map (later k j) (laterWords k i ws) ≡ laterWords k (i + j) ws
+later-words-add k i j ws = ap (map (later k j)) (later-words k i ws) ∙ all ws ∙ sym (later-words k (i + j) ws)
+  where
+    all : (l : List ℕ) → map (later k j) (map (later k i) l) ≡ map (later k (i + j)) l
+    all [] = refl
+    all (w ∷ l) = ap₂ _∷_ (sym (later-add k i j w)) (all l)
+
+module _ (k : Circuit) (s : ℕ) (u : Response) where
+  -- what the loop knows: the columns of the slices from t on stand at the list's end, `place` places stand before them, and the words are the
+  -- spread words after the whole eights of the clocks that are left of the slice before t
+  pub Eighth : List ℕ → List ℕ → ℕ → ℕ → List ℕ → Type 0
+  Eighth l₀ l place t ws = Filled k s u l₀ l place t (laterWords k (s - t) (k .spread)) × (ws ≡ laterWords k (eights (s - t)) (k .spread))
+
+  pub eighth-room : (l₀ l ws : List ℕ) (place t : ℕ) → Eighth l₀ l place t ws → (length l ≡ length l₀) × (place ≤ length l)
+  unfolding Eighth
+  eighth-room l₀ l ws place t f =
+      let room = filled-room k s u l₀ l (laterWords k (s - t) (k .spread)) place t (f .0) in (room .0, room .1)
+
+  pub eighth-starts : (l ws : List ℕ) (t : ℕ) → t ≡ s → ws ≡ k .spread → Eighth l l (length l) t ws
+  unfolding Eighth
+  eighth-starts l ws t e ew =
+      let none : s - t ≡ 0 = omega arith in
+      let none-yet : eights (s - t) ≡ 0 = omega arith in (
+        filled-starts k s u l (laterWords k (s - t) (k .spread)) t e
+            (ap (λ (j : ℕ). laterWords k j (k .spread)) none ∙ later-words-none k (k .spread)),
+        ew ∙ sym (ap (λ (j : ℕ). laterWords k j (k .spread)) none-yet ∙ later-words-none k (k .spread)),
+      )
+
+  pub eighth-ends : (l₀ l ws : List ℕ) (place t : ℕ) → Eighth l₀ l place t ws → t ≡ 0 → l ≡ back (columnsBelow k s u s) l₀
+  unfolding Eighth
+  eighth-ends l₀ l ws place t f e = filled-ends k s u l₀ l (laterWords k (s - t) (k .spread)) place t (f .0) e
+
+  module _ (table : List ℕ) (wide : 8 ≤ k .width) (right : EightOn k table) where
+    -- the words for the slice before
+    passed : (n : ℕ) (ws ws′ : List ℕ) → ws ≡ laterWords k (eights n) (k .spread)
+        → ws′ ≡ cond (eqb (n % 8) 7) (map (lookedOn (k .width) table 8) ws) ws → ws′ ≡ laterWords k (eights (suc n)) (k .spread)
+    passed n ws ws′ ew e = go (eqb (n % 8) 7) refl
+      where
+        go : (b : Bool) → eqb (n % 8) 7 ≡ b → ws′ ≡ laterWords k (eights (suc n)) (k .spread)
+        go true h =
+            let last : n % 8 ≡ 7 = eqb-true (n % 8) 7 h in
+            let more : eights n + 8 ≡ eights (suc n) = omega arith in
+            e ∙ ap (λ (b : Bool). cond b (map (lookedOn (k .width) table 8) ws) ws) h ∙ looked-all k wide table right 8 (omega arith) ws
+            ∙ ap (map (later k 8)) ew ∙ later-words-add k (eights n) 8 (k .spread) ∙ ap (λ (j : ℕ). laterWords k j (k .spread)) more
+        go false h =
+            let other : n % 8 ≡ 7 → ⊥ = eqb-false (n % 8) 7 h in
+            let same : eights n ≡ eights (suc n) = omega (arith, other) in
+            e ∙ ap (λ (b : Bool). cond b (map (lookedOn (k .width) table 8) ws) ws) h ∙ ew ∙ ap (λ (j : ℕ). laterWords k j (k .spread)) same
+
+    -- the words of marked cells, for the clocks between
+    between : (n : ℕ) (ws : List ℕ) (x : ℕ → ℕ) → ws ≡ laterWords k (eights n) (k .spread)
+        → map (lookedOn (k .width) table (n % 8)) (markedWords ws x (length ws)) ≡ markedWords (laterWords k n (k .spread)) x (length (laterWords k n (k .spread)))
+    between n ws x ew =
+        let sum : eights n + n % 8 ≡ n = omega arith in
+        let long : length ws ≡ length (laterWords k n (k .spread)) =
+        ap length ew ∙ later-words-length k (eights n) (k .spread) ∙ sym (later-words-length k n (k .spread)) in
+        map-chosen (lookedOn (k .width) table (n % 8)) ws (laterWords k n (k .spread)) x (length ws)
+        (λ c l.
+        looked-later k wide table right (n % 8) (getD ws c 0) (omega arith)
+        ∙ ap (later k (n % 8)) (ap (λ (v : List ℕ). getD v c 0) ew ∙ later-words-get k (eights n) (k .spread) c)
+        ∙ sym (later-add k (eights n) (n % 8) (getD (k .spread) c 0)) ∙ ap (λ (j : ℕ). later k j (getD (k .spread) c 0)) sum
+        ∙ sym (later-words-get k n (k .spread) c))
+        ∙ ap (markedWords (laterWords k n (k .spread)) x) long
+
+    pub eighth-turns : (l₀ l l′ ws ws′ row : List ℕ) (place place′ t : ℕ) → 0 < t → Eighth l₀ l place t ws → cell row ≡ u (t - 1)
+        → place′ ≡ length (take place l) - length (markedWords ws (cell row) (length ws))
+        → l′ ≡ back (map (lookedOn (k .width) table ((s - t) % 8)) (markedWords ws (cell row) (length ws))) (take place l) ++ drop place l
+        → ws′ ≡ cond (eqb ((s - t) % 8) 7) (map (lookedOn (k .width) table 8) ws) ws → Eighth l₀ l′ place′ (t - 1) ws′
+    unfolding Eighth
+    eighth-turns l₀ l l′ ws ws′ row place place′ t h f er ep el ew = (
+      filled-down k s u l₀ l l′ (laterWords k (s - t) (k .spread)) (laterWords k (s - (t - 1)) (k .spread)) row place place′ t h (f .0) er
+          (ep
+          ∙ ap (λ (x : ℕ). length (take place l) - x)
+          (sym (length-map (markedWords ws (cell row) (length ws)) (lookedOn (k .width) table ((s - t) % 8))) ∙ ap length same))
+          (el ∙ ap (λ (x : List ℕ). back x (take place l) ++ drop place l) same)
+          (ap (λ (i : ℕ). laterWords k i (k .spread)) more ∙ sym (later-words-suc k (s - t) (k .spread))),
+      passed (s - t) ws ws′ (f .1) ew ∙ ap (λ (i : ℕ). laterWords k (eights i) (k .spread)) (sym more),
+    )
+      where
+        more : s - (t - 1) ≡ suc (s - t)
+        more = omega (arith, filled-inside k s u l₀ l _ place t (f .0))
+
+        same : map (lookedOn (k .width) table ((s - t) % 8)) (markedWords ws (cell row) (length ws))
+            ≡ markedWords (laterWords k (s - t) (k .spread)) (cell row) (length (laterWords k (s - t) (k .spread)))
+        same = between (s - t) ws (cell row) (f .1)
+
+-- the first n words of a list, changed in place
+module _ (vs ws : List ℕ) (n : ℕ) (h : n ≤ length ws) (e : length vs ≡ length (take n ws)) where
+  pub first-changed : take n (vs ++ drop n ws) ≡ vs
+  first-changed = take-at vs (drop n ws) n (e ∙ length-take-le n ws h)
+
+  pub first-changed-length : length (vs ++ drop n ws) ≡ length ws
+  first-changed-length = length-append vs (drop n ws) ∙ omega (arith, e, length-take-le n ws h, length-drop n ws)
+
+-- the test for the last of eight slices
+pub looked-up : (t : ℕ) (vs ws : List ℕ) → t % 8 ≡ 7 → vs ≡ cond (eqb (t % 8) 7) vs ws
+looked-up t vs ws h = sym (ap (λ (b : Bool). cond b vs ws) (eq-eqb (t % 8) 7 h))
+
+pub left-alone : (t : ℕ) (vs ws : List ℕ) → (t % 8 ≡ 7 → ⊥) → ws ≡ cond (eqb (t % 8) 7) vs ws
+left-alone t vs ws h = sym (ap (λ (b : Bool). cond b vs ws) (ne-eqb (t % 8) 7 h))
+
+-- ---- where it pays
+
+pub narrow-never : (m k n s : ℕ) → m < 8 → false ≡ eightsPay m k n s
+unfolding eightsPay
+narrow-never m k n s h =
+    sym (ap (λ (b : Bool). b && (ltb (eightsCost k n s) (min s 512 * min n 256) && ltb (eightsCost k n s) (onesCost k s))) (lt-leb 8 m h))
+
+pub many-never : (m k n s : ℕ) → 65536 ≤ k → false ≡ eightsPay m k n s
+unfolding eightsPay
+many-never m k n s h =
+    let over : ltb (eightsCost k n s) (min s 512 * min n 256) ≡ false =
+    le-ltb (eightsCost k n s) (min s 512 * min n 256) (omega (arith, cells-most (min s 512) (min n 256) (omega arith) (omega arith))) in
+    sym (ap (λ (b : Bool). leb 8 m && (b && ltb (eightsCost k n s) (onesCost k s))) over ∙ and-none (leb 8 m))
+
+pub pays-exactly : (m k n s slices cells : ℕ) → 8 ≤ m → slices ≡ min s 512 → cells ≡ min s 512 * min n 256
+    → (ltb (cells / 4 + 4 * slices + 2 * k + 128) cells && ltb (cells / 4 + 4 * slices + 2 * k + 128) (128 * k + 4 * slices + 256)) ≡ eightsPay m k n s
+unfolding eightsPay
+pays-exactly m k n s slices cells h es ec =
+    ap₂ (λ (x y : ℕ). ltb (y / 4 + 4 * x + 2 * k + 128) y && ltb (y / 4 + 4 * x + 2 * k + 128) (128 * k + 4 * x + 256)) es ec
+    ∙ sym (ap (λ (b : Bool). b && (ltb (eightsCost k n s) (min s 512 * min n 256) && ltb (eightsCost k n s) (onesCost k s))) (le-leb 8 m h))
