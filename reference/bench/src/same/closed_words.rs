@@ -12,26 +12,42 @@ fn transposed(read: Read, w: u64) -> u64 {
     w >> 1 ^ feedback
 }
 
-/// What is left of w when each word whose highest bit is set in it was XORed in.
-fn residue(words: &[u64], w: u64) -> u64 {
-    words.iter().fold(w, |rest, word| {
-        let digit = rest >> (63 - word.leading_zeros()) & 1;
-        rest ^ (word & digit.wrapping_neg())
-    })
+/// For each bit a word whose highest bit it is, and 0 where there is none.
+fn by_highest(words: &[u64]) -> [u64; 64] {
+    let mut tops = [0; 64];
+    for w in words {
+        tops[w.ilog2() as usize] = *w;
+    }
+    tops
+}
+
+/// What is left of w when for each of its bits the word with that highest bit was XORed in.
+fn residue(tops: &[u64; 64], w: u64) -> u64 {
+    w ^ xor_marked(tops, w)
 }
 
 /// Whether what is even with all words is so one clock later too.
 fn is_closed(read: Read, words: &[u64]) -> bool {
+    let tops = by_highest(words);
     let mut later = words.iter().map(|&w| transposed(read, w));
-    later.all(|w| residue(words, w) == 0)
+    later.all(|w| residue(&tops, w) == 0)
+}
+
+/// Puts the marks of a row to those that are there.
+#[inline]
+fn add_front(all: &mut [u8; 32], row: &[u8]) {
+    for (to, from) in all.iter_mut().zip(row) {
+        *to |= from;
+    }
 }
 
 /// The marks of the first t rows together.
-fn all_marks(marks: Marks, t: usize) -> [u8; 32] {
+fn joint_marks(marks: Marks, t: usize) -> [u8; 32] {
     let mut all = [0; 32];
     for t in 0..t {
-        for (to, from) in all.iter_mut().zip(marks.row(t)) {
-            *to |= from;
+        match <&[u8; 32]>::try_from(marks.row(t)) {
+            Ok(row) => add_front(&mut all, row),
+            Err(_) => add_front(&mut all, marks.row(t)),
         }
     }
     all
@@ -56,5 +72,5 @@ fn are_even(held: &[u64], words: &[u64], row: &[u8; 32]) -> bool {
 
 /// Whether it is known that the words held stay as they are, whatever columns the marked cells of the first t rows have.
 pub fn is_settled(read: Read, marks: Marks, t: usize, words: &[u64], held: &[u64]) -> bool {
-    is_closed(read, held) && are_even(held, words, &all_marks(marks, t))
+    is_closed(read, held) && are_even(held, words, &joint_marks(marks, t))
 }

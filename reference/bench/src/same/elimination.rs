@@ -1,4 +1,5 @@
-//! The elimination: it keeps the word list itself, and passes over columns that change nothing by a table of parities of bytes.
+//! The elimination: it keeps the word list itself, takes the first columns by turned words, and passes over columns that change nothing by a
+//! table of parities of bytes.
 
 use super::*;
 
@@ -19,26 +20,82 @@ fn add_column(words: &mut [u64], column: u64) -> usize {
     words.len() - 1
 }
 
-/// Bit i of each word as one word, bit k for word k: the words' parities with that single bit.
-fn bit_parities(words: &[u64], i: usize) -> u64 {
-    let words = words.iter().rev();
-    words.fold(0, |bits, w| 2 * bits + (w >> i & 1))
+/// XORs x into the words whose bit in `marks` is 1, from one such bit to the next.
+fn xor_into(words: &mut [u64], marks: u64, x: u64) {
+    let mut left = marks & low_mask(words.len());
+    while left != 0 {
+        words[left.trailing_zeros() as usize] ^= x;
+        left &= left - 1;
+    }
+}
+
+/// The words' rows: for each bit that bit of every word, bit k for word k.
+fn turn(words: &[u64]) -> [u64; 64] {
+    let mut rows = [0; 64];
+    for (k, w) in words.iter().enumerate() {
+        xor_into(&mut rows, *w, 1 << k);
+    }
+    rows
+}
+
+/// Takes a column into the words and their rows: the slots that are dead then.
+fn add_turned(words: &mut [u64], rows: &mut [u64; 64], dead: u64, column: u64) -> u64 {
+    let odd = xor_marked(rows, column);
+    if odd == 0 {
+        return dead;
+    }
+    let k = odd.trailing_zeros() as usize;
+    let pivot = words[k];
+    xor_into(words, odd, pivot);
+    xor_into(rows, pivot, odd);
+    dead ^ 1 << k
+}
+
+/// The columns one after the other, until every slot is dead.
+fn take_columns(words: &mut [u64], rows: &mut [u64; 64], columns: &[u64]) -> u64 {
+    let all = low_mask(words.len());
+    let mut dead = 0;
+    for column in columns {
+        if dead == all {
+            break;
+        }
+        dead = add_turned(words, rows, dead, *column);
+    }
+    dead
+}
+
+/// Moves the words of the slots that aren't dead to the front; how many they are.
+fn keep_alive(words: &mut [u64], dead: u64) -> usize {
+    let mut at = 0;
+    for k in 0..words.len() {
+        words[at] = words[k];
+        at += 1 - (dead >> k & 1) as usize;
+    }
+    at
+}
+
+/// How many of the columns, from the first on, are taken by turned words.
+fn turned_count(words: usize, columns: usize) -> usize {
+    if words < 8 || columns < 16 {
+        0
+    } else {
+        columns.min(128)
+    }
+}
+
+/// How many words are left, at the front of the list.
+fn add_turned_columns(words: &mut [u64], columns: &[u64]) -> usize {
+    if columns.is_empty() {
+        return words.len();
+    }
+    let mut rows = turn(words);
+    let dead = take_columns(words, &mut rows, columns);
+    keep_alive(words, dead)
 }
 
 /// The parities of every byte of a column with the words: bit i doubles the entries that its byte has so far.
 pub fn byte_table(words: &[u64]) -> [u64; 2048] {
-    let mut table = [0; 2048];
-    for i in 0..64 {
-        let entries = &mut table[256 * (i / 8)..];
-        double_entries(entries, 1 << (i % 8), bit_parities(words, i));
-    }
-    table
-}
-
-fn looked_up(table: &[u64; 2048], column: u64) -> u64 {
-    let bytes = column.to_le_bytes();
-    let entries = table.chunks_exact(256).zip(bytes);
-    entries.fold(0, |all, (entry, byte)| all ^ entry[usize::from(byte)])
+    xor_table(&turn(words))
 }
 
 /// How many of the columns are even with all the words whose table it is, up to the first that isn't.
@@ -70,8 +127,8 @@ fn next_place(words: &[u64], before: usize, columns: &[u64], from: usize) -> usi
     from + skip_even(words, &columns[from..])
 }
 
-/// How many words are left, at the front of `held`.
-pub fn reduce(held: &mut [u64], columns: &[u64]) -> usize {
+/// How many words are left, at the front of `held`, with a parity for each word.
+fn reduce_plainly(held: &mut [u64], columns: &[u64]) -> usize {
     let mut left = held.len();
     let mut i = 0;
     while i < columns.len() {
@@ -83,6 +140,13 @@ pub fn reduce(held: &mut [u64], columns: &[u64]) -> usize {
         i = next_place(&held[..left], before, columns, i + 1);
     }
     left
+}
+
+/// How many words are left, at the front of `held`: the first columns by turned words where that pays.
+pub fn reduce(held: &mut [u64], columns: &[u64]) -> usize {
+    let (first, rest) = columns.split_at(turned_count(held.len(), columns.len()));
+    let left = add_turned_columns(held, first);
+    reduce_plainly(&mut held[..left], rest)
 }
 
 /// The words of the 64 single bits.

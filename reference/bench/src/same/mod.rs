@@ -70,6 +70,22 @@ fn double_entries(table: &mut [u64], h: usize, w: u64) {
     }
 }
 
+/// The XORs of the words of each byte of 64 marks: word i doubles the entries that its byte has so far.
+fn xor_table(words: &[u64]) -> [u64; 2048] {
+    let mut table = [0; 2048];
+    for i in 0..64 {
+        let w = words.get(i).copied().unwrap_or(0);
+        double_entries(&mut table[256 * (i / 8)..], 1 << (i % 8), w);
+    }
+    table
+}
+
+/// The XOR of the table's entries for the eight bytes of a word.
+fn looked_up(table: &[u64; 2048], x: u64) -> u64 {
+    let entries = table.chunks_exact(256).zip(x.to_le_bytes());
+    entries.fold(0, |all, (entry, byte)| all ^ entry[usize::from(byte)])
+}
+
 /// The parities of the words with y as one word, bit i for word i.
 fn word_parities(words: &[u64], y: u64) -> u64 {
     words

@@ -9,48 +9,44 @@ use super::words::fill_words;
 use super::*;
 use std::ops::Range;
 
-/// The XORs of the spread words of each half byte of a row: each word doubles the entries of its half byte.
-fn half_bytes(spread: &[u64]) -> [u64; 1024] {
-    let mut table = [0; 1024];
-    for (entries, words) in table.chunks_exact_mut(16).zip(spread.chunks(4)) {
-        for k in 0..4 {
-            let w = words.get(k).copied().unwrap_or(0);
-            double_entries(entries, 1 << k, w);
+/// What the chains drive in each slice: 64 chains at a time, by a table of what their cells' bytes drive.
+fn slice_drives(
+    read: Read,
+    spread: &[u64],
+    row: impl Fn(usize) -> Range<usize>,
+    bytes: &[u8],
+) -> [u64; 512] {
+    let mut drives = [0; 512];
+    for (g, words) in spread.chunks(64).enumerate() {
+        let table = xor_table(words);
+        for (t, drive) in drives[..read.s].iter_mut().enumerate() {
+            *drive ^= looked_up(&table, word(&bytes[row(t)], 8 * g));
         }
     }
-    table
+    drives
 }
 
-/// The XOR of the table's entries for the half bytes of some bytes.
-fn looked_bytes(entries: &[u64], bytes: &[u8]) -> u64 {
-    let mut drive = 0;
-    for (half_pair, &byte) in entries.chunks_exact(32).zip(bytes) {
-        drive ^= half_pair[usize::from(byte % 16)] ^ half_pair[16 + usize::from(byte / 16)];
-    }
-    drive
+/// The XOR of the spread words of the cells of a row that are 1.
+fn driven_word(spread: &[u64], row: &[u8]) -> u64 {
+    let words = spread.chunks(64).enumerate();
+    words.fold(0, |drive, (i, words)| {
+        drive ^ xor_marked(words, word(row, 8 * i))
+    })
 }
 
-/// .. of a row, eight bytes a turn.
-fn looked_up(table: &[u64; 1024], row: &[u8]) -> u64 {
-    let eights = row.chunks_exact(8);
-    let rest = &table[256 * eights.len()..];
-    let mut drive = looked_bytes(rest, eights.remainder());
-    for (entries, bytes) in table.chunks_exact(256).zip(eights) {
-        drive ^= looked_bytes(entries, bytes);
-    }
-    drive
-}
+/// From so many slices on the drives are made by tables.
+const MANY_SLICES: usize = 24;
 
 /// The signature of the rows of b bytes that stand `stride` bytes apart.
 fn run_rows(read: Read, spread: &[u64], bytes: &[u8], stride: usize, b: usize) -> u64 {
-    let table = half_bytes(spread);
-    let mut state = 0;
-    for t in 0..read.s {
-        let row = &bytes[stride * t..stride * t + b];
-        let drive = looked_up(&table, row) ^ read.inversion;
-        state = next_state(read.m, read.taps, state) ^ drive;
+    let row = |t: usize| stride * t..stride * t + b;
+    let clocked = |state, drive| next_state(read.m, read.taps, state) ^ drive ^ read.inversion;
+    if read.s < MANY_SLICES {
+        let drives = (0..read.s).map(|t| driven_word(spread, &bytes[row(t)]));
+        return drives.fold(0, clocked);
     }
-    state
+    let drives = slice_drives(read, spread, row, bytes);
+    drives[..read.s].iter().copied().fold(0, clocked)
 }
 
 /// A record's signature.
@@ -121,6 +117,15 @@ impl<'a> Marks<'a> {
     /// The marked cells of some slices.
     pub fn count(self, slices: Range<usize>) -> usize {
         slices.map(|t| count_row(self.row(t))).sum()
+    }
+
+    /// About how many cells of s rows are marked: from 64 rows on every eighth row is counted for eight.
+    pub fn estimate(self, s: usize) -> usize {
+        if s < 64 {
+            return self.count(0..s);
+        }
+        let rows = (0..s / 8).map(|t| count_row(self.row(8 * t)));
+        8 * rows.sum::<usize>()
     }
 
     /// How many of the first t rows there are up to the last marked one; 0 where none is marked.
@@ -235,9 +240,63 @@ fn fill_sparse(marks: Marks, read: Read, spread: &[u64; 256], columns: &mut [u64
     }
 }
 
+/// For each byte what it is 8 clocks later, where it stands at the top of the register.
+fn eight_on(read: Read) -> [u64; 256] {
+    let mut table = [0; 256];
+    let mut bit = read.taps;
+    for i in 0..8 {
+        double_entries(&mut table, 1 << i, bit);
+        bit = next_state(read.m, read.taps, bit);
+    }
+    table
+}
+
+/// Puts for each word what it is so many clocks later, 1 to 8.
+fn advance_few(m: u64, table: &[u64; 256], clocks: u64, words: &mut [u64]) {
+    let (mask, out, down) = (low_mask(m as usize), low_mask(clocks as usize), m - clocks);
+    for w in words {
+        *w = (*w << clocks & mask) ^ table[(*w >> down & out) as usize];
+    }
+}
+
+/// All chains' words advanced by eight clocks for every eighth slice, and those of marked cells by the clocks between.
+fn fill_by_eights(marks: Marks, read: Read, spread: &[u64; 256], columns: &mut [u64]) {
+    let table = eight_on(read);
+    let mut all = *spread;
+    let words = &mut all[..read.n];
+    let mut place = columns.len();
+    for (clocks, t) in (0..read.s).rev().enumerate() {
+        let start = list_row(&mut columns[..place], words, marks.row(t));
+        if clocks % 8 != 0 {
+            advance_few(
+                read.m,
+                &table,
+                clocks as u64 % 8,
+                &mut columns[start..place],
+            );
+        }
+        place = start;
+        if clocks % 8 == 7 {
+            advance_few(read.m, &table, 8, words);
+        }
+    }
+}
+
+/// What so many columns cost made one by one, where one word advanced by one clock costs 1.
+fn ones_cost(count: usize, read: Read) -> usize {
+    128 * count + 4 * read.s + 256
+}
+
 /// Whether so many columns take less time made one by one than with all chains' words advanced together.
 fn ones_pay(count: usize, read: Read) -> bool {
-    count < 1024 && 128 * count + 4 * read.s + 256 < read.s * read.n
+    count < 1024 && ones_cost(count, read) < read.s * read.n
+}
+
+/// Whether so many columns take less time made by eights of clocks than by a sweep and than one by one.
+fn eights_pay(count: usize, read: Read) -> bool {
+    let cells = read.s * read.n;
+    let eights = cells / 4 + 4 * read.s + 2 * count + 128;
+    8 <= read.m && count < 65_536 && eights < cells && eights < ones_cost(count, read)
 }
 
 /// Whether so many columns are to be made with all chains' words advanced together.
@@ -245,9 +304,11 @@ pub fn needs_sweep(read: Read, spread: &[u64; 256], count: usize) -> bool {
     !ones_pay(count, read) || is_bad_spread(read.m, spread[..read.n].iter().copied())
 }
 
-/// A few columns are made one by one; for many, all the chains' words are advanced together.
+/// A few columns are made one by one; for many, all the chains' words are advanced together, by eights of clocks or by one for each slice.
 fn fill_columns(marks: Marks, read: Read, spread: &[u64; 256], columns: &mut [u64]) {
-    if needs_sweep(read, spread, columns.len()) {
+    if eights_pay(columns.len(), read) {
+        fill_by_eights(marks, read, spread, columns);
+    } else if needs_sweep(read, spread, columns.len()) {
         fill_swept(marks, read, spread, 0..read.s, columns);
     } else {
         fill_sparse(marks, read, spread, columns)

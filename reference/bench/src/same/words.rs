@@ -1,7 +1,7 @@
 //! The words of a set from portions of its columns, as many as a working list of 64 places takes, from the last column on.
 
 use super::closed_words::is_settled;
-use super::elimination::{byte_table, put_words, reduce, skip_by_table, skip_plainly, unit_words};
+use super::elimination::{byte_table, put_words, reduce, skip_by_table, unit_words};
 use super::response::*;
 use super::set::Read;
 use super::ties::{count_flags, fill_symbols, opening_flags, unmark, Ties};
@@ -111,7 +111,7 @@ fn add_next(
         at.calm = true;
         let even = match &table {
             Some(table) => skip_by_table(table, columns),
-            None => skip_plainly(held, columns),
+            None => 0,
         };
         if even < columns.len() || table.is_none() {
             at.left = reduce(held, &columns[even..]);
@@ -188,7 +188,7 @@ fn reduce_cells(
     held: &mut [u64],
 ) -> usize {
     let mut all = *spread;
-    let unknowns = marks.count(0..read.s);
+    let unknowns = marks.estimate(read.s);
     let many = needs_sweep(read, spread, unknowns);
     let table = (!many).then(|| powers(read, 576));
     let source = Source {
