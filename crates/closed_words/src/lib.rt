@@ -83,14 +83,10 @@ fn no_words() -> [u64; 256]
 fn first_odd(words: &[u64], columns: &[u64], from: usize) -> usize
     ensures { λ r. ⌜ r ≡ from + evenRun (now (words .entry)) (drop from (now (columns .entry))) ⌝ }
 {
-    let count = words.len();
-    if 64 < count {
-        return parity_table::skip_plainly(words, columns, from);
-    }
     if columns.len() <= from {
         return parity_table::skip_plainly(words, columns, from);
     }
-    if (columns.len() - from) / 64 * count < 80 {
+    if !parity_table::pays(words.len(), columns.len() - from) {
         return parity_table::skip_plainly(words, columns, from);
     }
     parity_table::skip_even(words, columns, from)

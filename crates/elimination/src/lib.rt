@@ -19,7 +19,7 @@ pub enum Eliminated {
 
 // The place of the column to take next, `from` or later: the columns passed over leave the words as they are. It looks for such
 // columns where the last one taken was one, so that there are as many words as before it, and where so many words and columns
-// are left that the table pays, which takes as long to make as thousands of parities.
+// are left that the table pays.
 fn next_place(words: &[u64], before: usize, columns: &[u64], from: usize) -> usize
     ensures { λ r. ⌜ (from ≤ r) × (steps (drop r (now (columns .entry))) (now (words .entry)) ≡ steps (drop from (now (columns .entry))) (now (words .entry))) ⌝ }
 {
@@ -27,16 +27,10 @@ fn next_place(words: &[u64], before: usize, columns: &[u64], from: usize) -> usi
     if count != before {
         return from;
     }
-    if count < 2 {
-        return from;
-    }
-    if 64 < count {
-        return from;
-    }
     if columns.len() <= from {
         return from;
     }
-    if (columns.len() - from) / 64 * count < 256 {
+    if !parity_table::pays(count, columns.len() - from) {
         return from;
     }
     parity_table::skip_even(words, columns, from)

@@ -1,54 +1,61 @@
 -- The marks of rows put together byte by byte. Assumes nothing.
-use mathlib.Core.Path.{_≡_, refl, sym, ap, ap₂, _∙_}
+use mathlib.Core.Path.{_≡_, refl, sym, ap, ap₂, _∙_, subst}
 use mathlib.Core.Logic.{dite}
-use mathlib.Core.List.{List}
-use Prim.Native.Nat.{ℕ, zero, suc, _+_, _-_, _*_, _/_, _%_, _^_, _≤_, _<_, min, max}
+use mathlib.Core.List.{List, [], _∷_, _++_}
+use Prim.Native.Nat.{ℕ, zero, suc, _+_, _*_, _/_, _%_, _^_, _≤_, _<_, min, max}
 use native.Mathlib.Nat.{mul-le-mul-left, mul-suc}
 use native.Mathlib.Numerals.{add-one}
 use native.Mathlib.Decide.{decLt}
 use native.Mathlib.Omega.{arith}
 use lib.Bits.{bitOr, or-step, or-shr, or-zero-r}
-use lib.ListN.{length, getD, take, drop, set, length-set, length-drop, getD-replicate, List·getD-eq-default}
-use lib.Seq.{getD-set-same, getD-set-other, length-take-le}
+use lib.ListN.{length, getD, take, drop, set, length-set, getD-replicate, List·getD-eq-default}
+use lib.Seq.{sets, getD-drop, getD-set-same, getD-set-other}
 use Rattle.word.specs.Word.{digit}
 use Rattle.word.specs.Zeros.{zeros}
+use Rattle.word.specs.Reply.{front}
 use Rattle.word.proofs.LowestLaws.{digit-past}
+use Rattle.word.proofs.FrontLaws.{length-zeros}
 use Rattle.rows.specs.Row.{cell}
 use Rattle.rows.specs.Lists.{rowOf, cellsOf}
 use Rattle.rows.specs.declared.Rows.{Rows}
-use Rattle.joint_marks.specs.Joint.{jointMarks}
+use Rattle.numbers.specs.Bytes.{wordAt, wordsAt, bytesOf, wordBytes}
+use Rattle.numbers.proofs.ByteLaws.{number-in-part, length-word-bytes, bytes-of-lt}
+use Rattle.numbers.proofs.FileLaws.{word-at-place, words-back, front-sets, part-small}
+use Rattle.rows.proofs.DigitLaws.{word-cell}
+use Rattle.joint_marks.specs.Joint.{jointMarks, JointWords}
 
 -- ---- a row's marks put to others
 
 digit-or : (i a b : ℕ) → digit i (bitOr a b) ≡ max (digit i a) (digit i b)
 digit-or i a b = ap (λ (x : ℕ). x % 2) (or-shr a b i) ∙ omega (arith, or-step (a / 2 ^ i) (b / 2 ^ i))
 
--- the bytes before place i have the row's marks too, and the others are as they were
-pub record Adding (l row l′ : List ℕ) (i : ℕ) : Type 0 where
+-- the places before i have what f has there too, and the others are as they were
+pub record Adding (f : ℕ → ℕ) (l l′ : List ℕ) (i : ℕ) : Type 0 where
   pub long : length l′ ≡ length l
-  pub done : (j : ℕ) → j < i → getD l′ j 0 ≡ bitOr (getD l j 0) (getD row j 0)
+  pub done : (j : ℕ) → j < i → getD l′ j 0 ≡ bitOr (getD l j 0) (f j)
   pub rest : (j : ℕ) → i ≤ j → getD l′ j 0 ≡ getD l j 0
 
-pub adding-start : (l row : List ℕ) → Adding l row l 0
-adding-start l row = record { long = refl; done = λ j h. (let no : ⊥ = omega arith in absurd no); rest = λ j h. refl }
+module _ (f : ℕ → ℕ) (l : List ℕ) where
+  pub adding-start : Adding f l l 0
+  adding-start = record { long = refl; done = λ j h. (let no : ⊥ = omega arith in absurd no); rest = λ j h. refl }
 
-pub adding-turn : (l row l′ : List ℕ) (i : ℕ) → Adding l row l′ i → i < length l → Adding l row (set l′ i (bitOr (getD l′ i 0) (getD row i 0))) (i + 1)
-adding-turn l row l′ i a h = record {
-  long = length-set l′ i (bitOr (getD l′ i 0) (getD row i 0)) ∙ a .long;
-  done = λ j b. dite (decLt j i)
-      (λ (below : j < i). getD-set-other l′ i j (bitOr (getD l′ i 0) (getD row i 0)) 0 (λ (e : j ≡ i). omega arith) ∙ a .done j below)
-      (λ (n : j < i → ⊥).
-      let same : j ≡ i = omega arith in
-      ap (λ (k : ℕ). getD (set l′ i (bitOr (getD l′ i 0) (getD row i 0))) k 0) same
-      ∙ getD-set-same l′ i (bitOr (getD l′ i 0) (getD row i 0)) 0 (omega (arith, a .long))
-      ∙ ap (λ (x : ℕ). bitOr x (getD row i 0)) (a .rest i (omega arith))
-      ∙ ap (λ (k : ℕ). bitOr (getD l k 0) (getD row k 0)) (sym same));
-  rest = λ j b. getD-set-other l′ i j (bitOr (getD l′ i 0) (getD row i 0)) 0 (λ (e : j ≡ i). omega arith) ∙ a .rest j (omega arith);
-}
+  pub adding-turn : (l′ : List ℕ) (i v : ℕ) → Adding f l l′ i → i < length l → v ≡ f i → Adding f l (set l′ i (bitOr (getD l′ i 0) v)) (i + 1)
+  adding-turn l′ i v a h ev = record {
+    long = length-set l′ i (bitOr (getD l′ i 0) v) ∙ a .long;
+    done = λ j b. dite (decLt j i)
+        (λ (below : j < i). getD-set-other l′ i j (bitOr (getD l′ i 0) v) 0 (λ (e : j ≡ i). omega arith) ∙ a .done j below)
+        (λ (n : j < i → ⊥).
+        let same : j ≡ i = omega arith in
+        ap (λ (k : ℕ). getD (set l′ i (bitOr (getD l′ i 0) v)) k 0) same
+        ∙ getD-set-same l′ i (bitOr (getD l′ i 0) v) 0 (omega (arith, a .long))
+        ∙ ap₂ bitOr (a .rest i (omega arith)) ev
+        ∙ ap (λ (k : ℕ). bitOr (getD l k 0) (f k)) (sym same));
+    rest = λ j b. getD-set-other l′ i j (bitOr (getD l′ i 0) v) 0 (λ (e : j ≡ i). omega arith) ∙ a .rest j (omega arith);
+  }
 
-pub adding-end : (l row l′ : List ℕ) (i count : ℕ) → Adding l row l′ i → i ≤ count → count ≤ i
-    → ((j : ℕ) → j < count → getD l′ j 0 ≡ bitOr (getD l j 0) (getD row j 0)) × ((j : ℕ) → count ≤ j → getD l′ j 0 ≡ getD l j 0)
-adding-end l row l′ i count a b e = ((λ j h. a .done j (omega arith)), (λ j h. a .rest j (omega arith)))
+  pub adding-end : (l′ : List ℕ) (i count : ℕ) → Adding f l l′ i → i ≤ count → count ≤ i
+      → ((j : ℕ) → j < count → getD l′ j 0 ≡ bitOr (getD l j 0) (f j)) × ((j : ℕ) → count ≤ j → getD l′ j 0 ≡ getD l j 0)
+  adding-end l′ i count a b e = ((λ j h. a .done j (omega arith)), (λ j h. a .rest j (omega arith)))
 
 -- ---- the marks of the rows together
 
@@ -88,17 +95,74 @@ place-inside at stride t n j h l =
     let less : stride * suc j ≤ stride * t = mul-le-mul-left stride (l) in
     omega (arith, less, mul-suc stride j)
 
-part-32 : (p : ℕ) → p + 32 - p ≡ 32
-part-32 p = omega arith
+-- ---- by words of 64 cells
 
-pub row-32 : (l : List ℕ) (r : Rows) (first stride j : ℕ) → r .at ≡ first → r .stride ≡ stride → r .bytes ≡ 32
-    → take (first + stride * j + 32 - (first + stride * j)) (drop (first + stride * j) l) ≡ rowOf l r j
-row-32 l r first stride j ea es eb =
-    ap₂ (λ (k p : ℕ). take k (drop p l)) (part-32 (first + stride * j) ∙ sym eb) (ap₂ (λ (a b : ℕ). a + b * j) (sym ea) (sym es))
+module _ (l : List ℕ) (bytes : (i : ℕ) → getD l i 0 < 256) (r : Rows) where
+  pub words-start : (ws : List ℕ) → ws ≡ zeros 4 → JointWords l r 0 ws
+  unfolding jointMarks
+  words-start ws e i k hi hk =
+      ap (digit k) (ap (λ (x : List ℕ). getD x i 0) e ∙ getD-replicate 4 i 0 0 hi) ∙ digit-past 0 0 k (omega arith) (omega arith)
 
-pub long-32 : (l : List ℕ) (p : ℕ) → p + 32 ≤ length l → length (take (p + 32 - p) (drop p l)) ≡ 32
-long-32 l p h =
-    ap (λ (k : ℕ). length (take k (drop p l))) (part-32 p) ∙ length-take-le 32 (drop p l) (omega (arith, length-drop p l))
+  -- a word of row j
+  word-of-row : (j i k : ℕ) → r .bytes ≡ 32 → i < 4 → k < 64 → digit k (wordAt l (r .at + r .stride * j + 8 * i)) ≡ cellsOf l r j (64 * i + k)
+  word-of-row j i k eb hi hk =
+      let at = r .at + r .stride * j in
+      ap (digit k) (sym (number-in-part 8 l at 32 (8 * i) (omega arith)))
+      ∙ word-cell (take 32 (drop at l)) (part-small l bytes at 32) i k hk
+      ∙ ap (λ (n : ℕ). cell (take n (drop at l)) (64 * i + k)) (sym eb)
+
+  pub words-turn : (j at : ℕ) (ws ws′ : List ℕ) → JointWords l r j ws → r .bytes ≡ 32 → at ≡ r .at + r .stride * j
+      → ((i : ℕ) → i < 4 → getD ws′ i 0 ≡ bitOr (getD ws i 0) (wordAt l (at + 8 * i))) → JointWords l r (j + 1) ws′
+  unfolding jointMarks
+  words-turn j at ws ws′ so-far eb ea e i k hi hk =
+      ap (digit k) (e i hi) ∙ digit-or k (getD ws i 0) (wordAt l (at + 8 * i))
+      ∙ ap₂ max (so-far i k hi hk) (ap (λ (x : ℕ). digit k (wordAt l (x + 8 * i))) ea ∙ word-of-row j i k eb hi hk)
+      ∙ ap (λ (x : ℕ). jointMarks l r x (64 * i + k)) (sym (add-one j))
+
+pub words-end : (l : List ℕ) (r : Rows) (j t : ℕ) (ws : List ℕ) → JointWords l r j ws → j ≡ t → JointWords l r t ws
+words-end l r j t ws h e i k hi hk = h i k hi hk ∙ ap (λ (x : ℕ). jointMarks l r x (64 * i + k)) e
+
+front-parts : (vs l : List ℕ) → front vs l ≡ vs ++ drop (length vs) l
+unfolding front
+front-parts vs l = refl
+
+-- the bytes of words are below 256, and so are zeros
+append-small : (a b : List ℕ) → ((j : ℕ) → getD a j 0 < 256) → ((j : ℕ) → getD b j 0 < 256) → (j : ℕ) → getD (a ++ b) j 0 < 256
+append-small [] b ha hb j = hb j
+append-small (x ∷ a) b ha hb zero = ha zero
+append-small (x ∷ a) b ha hb (suc j) = append-small a b (λ i. ha (suc i)) hb j
+
+word-bytes-small : (ws : List ℕ) (j : ℕ) → getD (wordBytes ws) j 0 < 256
+unfolding wordBytes
+word-bytes-small [] j = omega arith
+word-bytes-small (w ∷ ws) j = append-small (bytesOf 8 w) (wordBytes ws) (bytes-of-lt 8 w) (word-bytes-small ws) j
+
+zeros-small : (n j : ℕ) → getD (zeros n) j 0 < 256
+zeros-small n j =
+    dite (decLt j n) (λ (h : j < n). omega (arith, getD-replicate {A = ℕ} n j 0 0 h))
+    (λ (h : j < n → ⊥). omega (arith, List·getD-eq-default (zeros n) 0 {n = j} (omega (arith, length-zeros n))))
+
+-- four words as a row of bytes
+pub words-row : (l : List ℕ) (r : Rows) (t : ℕ) (ws row : List ℕ) → length ws ≡ 4 → ((j : ℕ) → getD ws j 0 < 256 ^ 8) → JointWords l r t ws → row ≡ sets (zeros 32) 0 (wordBytes ws) → (c : ℕ) → c < 256 → cell row c ≡ jointMarks l r t c
+words-row l r t ws row long small h e c b =
+    let place : 64 * (c / 64) + c % 64 ≡ c = omega arith in
+    ap (cell row) (sym place) ∙ sym (word-cell row bytes (c / 64) (c % 64) (omega arith))
+    ∙ ap (digit (c % 64)) (here (c / 64) (omega arith)) ∙ h (c / 64) (c % 64) (omega arith) (omega arith) ∙ ap (jointMarks l r t) place
+  where
+    whole : row ≡ wordBytes ws ++ drop (length (wordBytes ws)) (zeros 32)
+    whole = e ∙ front-sets (wordBytes ws) (zeros 32) (omega (arith, length-word-bytes ws, length-zeros 32)) ∙ front-parts (wordBytes ws) (zeros 32)
+
+    bytes : (j : ℕ) → getD row j 0 < 256
+    bytes j =
+        subst (λ (x : List ℕ). getD x j 0 < 256) (sym whole)
+        (append-small (wordBytes ws) (drop (length (wordBytes ws)) (zeros 32)) (word-bytes-small ws) (λ i. rw getD-drop (zeros-small 32 (length (wordBytes ws) + i))) j)
+
+    here : (i : ℕ) → i < 4 → wordAt row (8 * i) ≡ getD ws i 0
+    here i hi =
+        let place : 8 * i ≡ 0 + 8 * i = omega arith in
+        ap (wordAt row) place ∙ sym (word-at-place row 0 4 i hi)
+        ∙ ap₂ (λ (n : ℕ) (x : List ℕ). getD (wordsAt x 0 n) i 0) (sym long) whole
+        ∙ ap (λ (x : List ℕ). getD x i 0) (words-back ws [] (drop (length (wordBytes ws)) (zeros 32)) 0 refl small)
 
 -- ---- what the joint marks say of each row
 

@@ -1,12 +1,15 @@
 // Joint marks: the marks of some rows together, as one row of 256 cells. It sees numbers and rows; it knows no register and no file. Every
 // function is total.
 ghost use mathlib.Core.Path.{_≡_};
+ghost use mathlib.Core.List.{List};
 ghost use Prim.Native.Nat.{ℕ, _+_, _*_, _≤_, _<_};
 ghost use lib.Bits.{bitOr};
 ghost use lib.ListN.{length, getD};
 ghost use Rattle.rows.specs.Row.{cell};
 ghost use Rattle.word.specs.Zeros.{zeros};
-ghost use Rattle.joint_marks.specs.Joint.{jointMarks};
+ghost use Rattle.rows.specs.declared.Rows.{Rows};
+ghost use Rattle.numbers.specs.Bytes.{wordAt};
+ghost use Rattle.joint_marks.specs.Joint.{jointMarks, JointWords};
 use rows::Rows;
 
 fn no_marks() -> [u8; 32]
@@ -43,22 +46,57 @@ fn joint_of_any(list: &[u8], rows: Rows, t: u16) -> [u8; 32]
     all
 }
 
-// The same for rows of 32 bytes that are all there.
+fn no_words() -> [u64; 4]
+    ensures { λ r. ⌜ r ≡ zeros 4 ⌝ }
+{
+    [0u64; 4]
+}
+
+// Puts the marks of a row of 32 bytes at place `at`, all of which are there, to those of four words of 64.
+fn add_row(all: &mut [u64], list: &[u8], at: usize)
+    requires { ⌜ (length (now all) ≡ 4) × (at + 32 ≤ length (now list)) ⌝ }
+    ensures { λ _. ⌜ ((i : ℕ) → i < 4 → getD (now (all .exit)) i 0 ≡ bitOr (getD (now (all .entry)) i 0) (wordAt (now (list .entry)) (at + 8 * i))) ⌝ }
+{
+    let mut i: usize = 0;
+    while i < 4 {
+        let marks = numbers::eight_bytes(list, at + 8 * i);
+        all[i] = all[i] | marks;
+        i += 1;
+    }
+}
+
+// The marks of the first t rows together as four words of 64, for rows of 32 bytes that are all there.
+fn joint_words(list: &[u8], rows: Rows, t: u16) -> [u64; 4]
+    requires { ⌜ (rows .bytes ≡ 32) × (rows .at + rows .stride * t + 32 ≤ length (now list) + rows .stride) ⌝ }
+    ensures { λ r. ⌜ (length r ≡ 4) × JointWords (now (list .entry)) rows t r ⌝ }
+{
+    let first = rows.at as usize;
+    let stride = rows.stride as usize;
+    let mut all = no_words();
+    let mut j: u16 = 0;
+    while j < t {
+        add_row(&mut all, list, first + stride * (j as usize));
+        j += 1;
+    }
+    all
+}
+
+// Four words of 64 marks as a row of 32 bytes.
+fn word_row(words: &[u64]) -> [u8; 32]
+    ensures { λ r. ⌜ ((l : List ℕ) (rows : Rows) (t : ℕ) → length (now (words .entry)) ≡ 4 → JointWords l rows t (now (words .entry)) → (c : ℕ) → c < 256 → cell r c ≡ jointMarks l rows t c) ⌝ }
+{
+    let mut all = no_marks();
+    written_numbers::write_words(&mut all, 0, words);
+    all
+}
+
+// The same as `joint_of_any` for rows of 32 bytes that are all there.
 fn joint_of_32(list: &[u8], rows: Rows, t: u16) -> [u8; 32]
     requires { ⌜ (rows .bytes ≡ 32) × (rows .at + rows .stride * t + 32 ≤ length (now list) + rows .stride) ⌝ }
     ensures { λ r. ⌜ ((c : ℕ) → c < 256 → cell r c ≡ jointMarks (now (list .entry)) rows t c) ⌝ }
 {
-    let first = rows.at as usize;
-    let stride = rows.stride as usize;
-    let mut all = no_marks();
-    let mut j: u16 = 0;
-    while j < t {
-        let at = first + stride * (j as usize);
-        let end = at + 32;
-        add_front(&mut all, &list[at..end], 32);
-        j += 1;
-    }
-    all
+    let words = joint_words(list, rows, t);
+    word_row(&words)
 }
 
 // The marks of the first t rows together, of 256 chains. A row past the end has no mark.

@@ -1,18 +1,19 @@
 -- Columns that are even with every word: the loop that passes over them, and that the words stay as they are. Assumes nothing.
 use mathlib.Core.Path.{_≡_, refl, sym, ap, ap₂, _∙_, subst}
-use mathlib.Core.Bool.{Bool, true, false, cond, _&&_}
+use mathlib.Core.Bool.{Bool, true, false, not, cond, _&&_, _||_}
 use mathlib.Core.List.{List, [], _∷_}
-use Prim.Native.Nat.{ℕ, suc, _+_, _^_, _≤_, _<_}
+use Prim.Native.Nat.{ℕ, suc, _+_, _*_, _/_, _^_, _≤_, _<_}
 use native.Mathlib.Numerals.{add-one}
 use native.Mathlib.Omega.{arith}
-use borrow.Author.Tests.{eq-eqb, ne-eqb}
-use lib.Dec.{eqb}
+use borrow.Author.Tests.{eq-eqb, ne-eqb, ltb-false}
+use lib.Dec.{eqb, leb, ltb}
 use lib.ListN.{length, getD, take, drop, drop-of-length-le, length-drop}
 use lib.Seq.{drop-cons, drop-drop, take-all, getD-drop}
 use Rattle.word.specs.Word.{parity}
+use Rattle.word.proofs.BoolLaws.{and-left, or-false-right}
 use Rattle.combinations.specs.Combination.{xFree}
 use Rattle.combinations.specs.Step.{steps}
-use Rattle.parity_table.specs.Table.{ParityTable, runOf, evenRun, tableRun}
+use Rattle.parity_table.specs.Table.{ParityTable, tablePays, runOf, evenRun, tableRun}
 use Rattle.parity_table.proofs.TableLaws.{looked-parities}
 use Rattle.combinations.proofs.Agreeing.{even-exactly}
 use Rattle.combinations.proofs.StepLaws.{step-same}
@@ -138,3 +139,23 @@ run-most f (c ∷ cs) = go (f c) (run-most f cs)
 
 pub skipped-inside : (f : ℕ → Bool) (cs : List ℕ) (from r : ℕ) → from ≤ length cs → r ≡ from + runOf f (drop from cs) → r ≤ length cs
 skipped-inside f cs from r h e = omega (arith, run-most f (drop from cs), length-drop from cs)
+
+-- ---- when a table pays
+
+-- only for at most 64 words
+pub pays-few : (n k : ℕ) (r : Bool) → r ≡ tablePays n k → r ≡ true → n ≤ 64
+unfolding tablePays
+pays-few n k r e h =
+    ltb-false 64 n (or-false-right (ltb n 2) (ltb 64 n) (not-not (ltb n 2 || ltb 64 n) (and-left (not (ltb n 2 || ltb 64 n)) (leb 24 (k / 64 * n)) (sym e ∙ h))))
+  where
+    not-not : (b : Bool) → not b ≡ true → b ≡ false
+    not-not true p = sym p
+    not-not false p = refl
+
+pub pays-not : (n k : ℕ) → (ltb n 2 || ltb 64 n) ≡ true → false ≡ tablePays n k
+unfolding tablePays
+pays-not n k h = rw h
+
+pub pays-then : (n k : ℕ) → (ltb n 2 || ltb 64 n) ≡ false → leb 24 (k / 64 * n) ≡ tablePays n k
+unfolding tablePays
+pays-then n k h = rw h

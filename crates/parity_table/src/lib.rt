@@ -5,7 +5,7 @@ ghost use Prim.Native.Nat.{_+_, _*_, _^_, _<_};
 ghost use lib.ListN.{take, drop};
 ghost use Rattle.word.specs.Zeros.{zeros};
 ghost use Rattle.combinations.specs.Combination.{xFree};
-ghost use Rattle.parity_table.specs.Table.{ParityTable, lookedParities, evenRun, tableRun};
+ghost use Rattle.parity_table.specs.Table.{ParityTable, lookedParities, tablePays, evenRun, tableRun};
 
 fn no_entries() -> [u64; 2048]
     ensures { λ r. ⌜ r ≡ zeros 2048 ⌝ }
@@ -65,6 +65,19 @@ pub fn skip_even(words: &[u64], columns: &[u64], from: usize) -> usize
 {
     let table = byte_table(words);
     skip_by_table(&table, columns, from)
+}
+
+// A table takes about as long to make as so many parities of 64 columns with one word: an estimate, by instructions.
+const TABLE_COST: usize = 24;
+
+// Whether for so many columns a table of so many words, 64 at most, takes less time to make and look up than the parities by themselves.
+pub fn pays(words: usize, columns: usize) -> bool
+    ensures { λ r. ⌜ r ≡ tablePays words columns ⌝ }
+{
+    if (words < 2) | (64 < words) {
+        return false;
+    }
+    TABLE_COST <= columns / 64 * words
 }
 
 // Whether the column is even with every word.

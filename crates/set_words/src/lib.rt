@@ -41,18 +41,12 @@ fn fewer(a: usize, b: usize) -> usize
     a - b
 }
 
-// Whether it is worth making a table of the words' parities, which takes as long as thousands of them: there are at most 64 words, the
-// last portion left nearly all of them, and so many columns are left.
+// Whether it is worth making a table of the words' parities: there are at most 64 words, the last portion left nearly all of them, and so
+// many columns are left.
 fn is_table_worth(at: Progress, words: usize) -> bool
     ensures { λ r. ⌜ (r ≡ true → words ≤ 64) ⌝ }
 {
-    if 64 < words {
-        return false;
-    }
-    if words < 2 {
-        return false;
-    }
-    at.calm & (256 <= at.more / 64 * words)
+    at.calm & parity_table::pays(words, at.more)
 }
 
 // The next portions, up to the first with a column that is odd with one of the words: that one's columns through the elimination. Until

@@ -1,5 +1,7 @@
 -- `add_front` meets its contract.
+use mathlib.Core.Path.{refl}
 use native.Mathlib.Omega.{arith}
+use lib.ListN.{getD}
 use Prim.Native.Nat.{_≤_, _-_}
 use Rattle.joint_marks.proofs.JointLaws.{Adding, adding-start, adding-turn, adding-end}
 use borrow.Author.Needs.{needs}
@@ -7,7 +9,7 @@ use Rattle.joint_marks.proofs.add_front.Statement.{statement}
 use Rattle.joint_marks.proofs.add_front.Tie as tie
 
 abbrev Inv-loop : tie.InvT-loop
-Inv-loop all₀ row count i₀ all i = (i ≤ count) × Adding all₀ row all i
+Inv-loop all₀ row count i₀ all i = (i ≤ count) × Adding (λ j. getD row j 0) all₀ all i
 
 abbrev μ-loop : tie.MeasureT-loop
 μ-loop all₀ row count i₀ all i = count - i
@@ -26,7 +28,7 @@ slice-write-all c = omega (arith, c .before .before .loop-test .taken, c .before
 
 loop-again : tie.Need-loop-again Inv-loop μ-loop
 loop-again c =
-    (search needs, adding-turn _ _ _ _ (c .before .before .before .loop .inv .1) (omega (arith, c .before .before .loop-test .taken, c .before .before .before .before .pre .0)))
+    (search needs, adding-turn _ _ _ _ _ (c .before .before .before .loop .inv .1) (omega (arith, c .before .before .loop-test .taken, c .before .before .before .before .pre .0)) refl)
 
 same-length : tie.Need-same-length Inv-loop μ-loop
 same-length c = c .before .loop .inv .1 .long

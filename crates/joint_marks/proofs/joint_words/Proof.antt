@@ -1,0 +1,69 @@
+-- `joint_words` meets its contract. The loop's invariant: the marks of the rows before `j`, wherever rows of this place and stride stand.
+use mathlib.Core.Path.{_≡_, refl, sym, ap, ap₂, _∙_}
+use Prim.Native.Nat.{ℕ, _+_, _*_, _≤_, _-_}
+use native.Mathlib.Omega.{arith}
+use lib.ListN.{length}
+use Rattle.word.proofs.FrontLaws.{length-zeros}
+use Rattle.rows.specs.declared.Rows.{Rows}
+use Rattle.rows.proofs.CellLaws.{place-small}
+use Rattle.joint_marks.specs.Joint.{JointWords}
+use Rattle.joint_marks.proofs.JointLaws.{words-start, words-turn, words-end, place-inside}
+use borrow.Author.Needs.{needs}
+use Rattle.joint_marks.proofs.joint_words.Statement.{statement}
+use Rattle.joint_marks.proofs.joint_words.Tie as tie
+
+abbrev Inv-loop : tie.InvT-loop
+Inv-loop list t first stride all₀ j₀ all j =
+    (j ≤ t) × (length all ≡ 4) × ((r : Rows) → r .at ≡ first → r .stride ≡ stride → r .bytes ≡ 32 → JointWords list r j all)
+
+abbrev μ-loop : tie.MeasureT-loop
+μ-loop list t first stride all₀ j₀ all j = t - j
+
+loop-holds : tie.Need-loop-holds Inv-loop μ-loop
+loop-holds c = (search needs, ap length (c .no-words .ensures) ∙ length-zeros 4, (λ r a s b. words-start _ (λ i. c .before .before .before .shared-slice-known .given i .fits) r _ (c .no-words .ensures)))
+
+slice-aggregate-add-row : tie.Need-slice-aggregate-add-row Inv-loop μ-loop
+slice-aggregate-add-row c = sym (c .before .before .loop .inv .1)
+
+mul-add-row : tie.Need-mul-add-row Inv-loop μ-loop
+mul-add-row c = record { fits = omega (arith, place-small (c .before .before .before .before .before .before .before .args .rows .stride) (c .before .before .loop .j) (omega arith) (omega arith)) }
+
+add-add-row : tie.Need-add-add-row Inv-loop μ-loop
+add-add-row c = record { fits = omega (arith, place-small (c .before .before .before .before .before .before .before .args .rows .stride) (c .before .before .loop .j) (omega arith) (omega arith)) }
+
+add-row-requires : tie.Need-add-row-requires Inv-loop μ-loop
+add-row-requires c κs = (c .before .before .loop .inv .1, place-inside (c .before .before .before .before .before .before .before .args .rows .at) (c .before .before .before .before .before .before .before .args .rows .stride) (c .before .before .before .before .before .before .before .args .t) _ (c .before .before .loop .j) (c .before .before .before .before .before .before .before .pre .1) (search needs))
+
+loop-again : tie.Need-loop-again Inv-loop μ-loop
+loop-again c =
+    let at = c .before .before .before .before .loop in
+    let start = c .before .before .before .before .before .before .before .before .before in (
+      search needs,
+      c .before .add-row .kept .0 ∙ at .inv .1,
+      (λ r ea es eb.
+          words-turn _ (λ i. c .before .before .before .before .before .before .before .before .shared-slice-known .given i .fits) r (at .j) _ (at .all) (c .before .add-row .last .0) (at .inv .2 r ea es eb) eb
+          (ap₂ (λ (a b : ℕ). a + b * at .j) (sym ea) (sym es)) (c .before .add-row .ensures)),
+    )
+
+returns : tie.Need-returns Inv-loop μ-loop
+returns c = (c .before .loop .inv .1, words-end _ (c .before .before .before .before .before .before .args .rows) (c .before .loop .j) _ (c .before .loop .all) (c .before .loop .inv .2 (c .before .before .before .before .before .before .args .rows) refl refl (c .before .before .before .before .before .before .pre .0)) (omega arith))
+
+pub joint-words-spec : {M : Type 1} → statement M
+joint-words-spec =
+    tie.close
+    (tie.spec
+    Inv-loop
+    μ-loop
+    (λ c. search needs)
+    (λ c. search needs)
+    (λ c κs. search needs)
+    loop-holds
+    slice-aggregate-add-row
+    (λ c. search needs)
+    mul-add-row
+    add-add-row
+    add-row-requires
+    (λ c. search needs)
+    (λ c. search needs)
+    loop-again
+    returns)
