@@ -1,13 +1,13 @@
 -- What the ways cost: products that fit, and tests that need no cost. Assumes nothing.
 use mathlib.Core.Path.{_≡_, sym, ap, ap₂, _∙_}
 use mathlib.Core.Bool.{Bool, false, _&&_}
-use Prim.Native.Nat.{ℕ, _+_, _*_, _/_, _≤_, _<_, min}
+use Prim.Native.Nat.{ℕ, _+_, _*_, _≤_, _<_, min}
 use native.Mathlib.Nat.{mul-le-mul-left, mul-le-mul-right}
 use native.Mathlib.Omega.{arith}
 use borrow.Author.Tests.{le-ltb, le-leb, lt-leb}
 use lib.Dec.{ltb, leb}
 use Rattle.word.proofs.BoolLaws.{and-none}
-use Rattle.column_costs.specs.Costs.{sweepCost, eightsCost, onesCost, eightsLeast, onesLess}
+use Rattle.column_costs.specs.Costs.{cells, sweepCost, eightsCost, onesCost, eightsLeast, onesLess}
 
 -- there are at most 131,072 cells
 pub cells-most : (s n : ℕ) → s ≤ 512 → n ≤ 256 → s * n ≤ 131072
@@ -20,7 +20,7 @@ ones-many : (w k : ℕ) → 16 ≤ w → 65536 ≤ k → 1048576 ≤ w * k
 ones-many w k hw hk = omega (arith, mul-le-mul-left w hk, mul-le-mul-right 65536 hw)
 
 module _ (m k n s : ℕ) where
-  most : sweepCost n s ≤ 131072
+  most : cells n s ≤ 131072
   most = cells-most (min s 512) (min n 256) (omega arith) (omega arith)
 
   pub narrow-not-by-eights : m < 8 → false ≡ eightsLeast m k n s

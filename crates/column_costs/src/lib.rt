@@ -1,16 +1,19 @@
 // What the ways to make columns cost, and which costs least. It sees the register's limits and knows none of the ways. The public functions are
 // total.
 ghost use mathlib.Core.Path.{_≡_};
-ghost use Prim.Native.Nat.{_*_, _≤_, _<_, min};
-ghost use Rattle.column_costs.specs.Costs.{sweepCost, eightsCost, onesCost, eightsLeast, onesLess};
+ghost use Prim.Native.Nat.{_≤_, _<_};
+ghost use Rattle.column_costs.specs.Costs.{cells, sweepCost, eightsCost, onesCost, eightsLeast, onesLess};
 
-// The costs are estimates, from the times and the instructions of the ways, where one word advanced by one clock costs 1. What every way takes is
-// left out.
+// The costs are estimates, from the times and the instructions of the ways, where one word advanced by one clock costs 1. What a column takes in a
+// sweep is left out of each.
 //
+// By a sweep so much costs each slice, beside 1 for each cell.
+const SWEPT_SLICE_COST: u64 = 16;
+
 // By eights of clocks so many cells cost 1, and so much costs each slice, each column, and the table of 8 clocks.
 const CELLS_FOR_ONE: u64 = 4;
 
-const SLICE_COST: u64 = 4;
+const SLICE_COST: u64 = 20;
 
 const BETWEEN_COST: u64 = 2;
 
@@ -26,13 +29,21 @@ const POWERS_COST: u64 = 256;
 // From so many columns on a sweep costs least.
 const MANY: usize = 65536;
 
-// By a sweep: the cells of n chains in s slices.
-fn sweep_cost(n: u16, s: u16) -> u64
-    ensures { λ r. ⌜ (r ≡ sweepCost n s) × (r ≤ 131072) ⌝ }
+// The cells of n chains in s slices.
+fn all_cells(n: u16, s: u16) -> u64
+    ensures { λ r. ⌜ (r ≡ cells n s) × (r ≤ 131072) ⌝ }
 {
     let slices = register::slice_limit(s) as u64;
     let chains = register::chain_limit(n) as u64;
     slices * chains
+}
+
+// By a sweep.
+fn sweep_cost(n: u16, s: u16) -> u64
+    ensures { λ r. ⌜ r ≡ sweepCost n s ⌝ }
+{
+    let slices = register::slice_limit(s) as u64;
+    all_cells(n, s) + SWEPT_SLICE_COST * slices
 }
 
 // By eights of clocks.
@@ -41,8 +52,10 @@ fn eights_cost(count: usize, n: u16, s: u16) -> u64
     ensures { λ r. ⌜ r ≡ eightsCost count n s ⌝ }
 {
     let slices = register::slice_limit(s) as u64;
-    let cells = sweep_cost(n, s);
-    cells / CELLS_FOR_ONE + SLICE_COST * slices + BETWEEN_COST * (count as u64) + EIGHT_COST
+    all_cells(n, s) / CELLS_FOR_ONE
+        + SLICE_COST * slices
+        + BETWEEN_COST * (count as u64)
+        + EIGHT_COST
 }
 
 // One by one.

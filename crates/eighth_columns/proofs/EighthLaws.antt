@@ -10,7 +10,7 @@ use lib.ListN.{length, take, drop, getD, length-map, length-append, length-drop}
 use lib.Seq.{take-at, length-take-le}
 use Rattle.rows.specs.Row.{cell}
 use Rattle.rows.specs.Marks.{markedWords}
-use Rattle.register.specs.Circuit.{Circuit, chains}
+use Rattle.register.specs.Circuit.{Circuit}
 use Rattle.signatures.specs.Signature.{Response}
 use Rattle.signatures.specs.Later.{later}
 use Rattle.signatures.specs.Columns.{columnsBelow}

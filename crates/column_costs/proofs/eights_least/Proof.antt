@@ -20,7 +20,7 @@ ones-cost-requires : tie.Need-ones-cost-requires
 ones-cost-requires c κs = search needs
 
 returns-3 : tie.Need-returns-3
-returns-3 c = eights-tested _ _ _ _ _ _ _ (c .before .before .before .before .if1 .left) (c .before .before .eights-cost .ensures) (c .before .sweep-cost .ensures .0) (c .ones-cost .ensures)
+returns-3 c = eights-tested _ _ _ _ _ _ _ (c .before .before .before .before .if1 .left) (c .before .before .eights-cost .ensures) (c .before .sweep-cost .ensures) (c .ones-cost .ensures)
 
 pub eights-least-spec : {M : Type 1} → statement M
 eights-least-spec =

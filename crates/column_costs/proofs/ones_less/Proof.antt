@@ -14,7 +14,7 @@ sweep-cost-requires : tie.Need-sweep-cost-requires
 sweep-cost-requires c κs = search needs
 
 returns-2 : tie.Need-returns-2
-returns-2 c = ones-tested _ _ _ _ _ _ (c .before .ones-cost .ensures) (c .sweep-cost .ensures .0)
+returns-2 c = ones-tested _ _ _ _ _ _ (c .before .ones-cost .ensures) (c .sweep-cost .ensures)
 
 pub ones-less-spec : {M : Type 1} → statement M
 ones-less-spec = tie.close (tie.spec returns ones-cost-requires sweep-cost-requires returns-2)
