@@ -1394,9 +1394,11 @@ class Batch:
             self.call("word::word_at", [self.pick([0, 1, 4, 5, 6, self.pick(NUMBERS)])], v=self.junk_words(5))
             self.call("written_numbers::put_32", [self.pick([0, 1, 8]), self.pick([0, 1, 9])], a=self.junk(self.pick([31, 32, 41])), d=self.junk(self.pick([31, 32, 33, 40, 50])))
             self.call("sparse_columns::ones_pay", [self.pick([0, 1, 13, 14, 122, 123, 1006, 1023, 1024, self.pick(NUMBERS)]), self.pick([1, 8, 255, 256, 257, 65535]), self.pick([0, 1, 8, 64, 511, 512, 513])])
-            self.call("eighth_columns::eights_pay", [self.pick([0, 7, 8, 64, 65, self.pick(NUMBERS)]),
-                                                     self.pick([0, 1, 3, 4, 5, 258, 259, 260, 447, 448, 48063, 48064, 65535, 65536, self.pick(NUMBERS)]),
-                                                     self.pick([1, 8, 16, 255, 256, 257, 65535]), self.pick([0, 1, 8, 64, 128, 511, 512, 513])])
+            costs = [self.pick([0, 7, 8, 64, 65, self.pick(NUMBERS)]),
+                     self.pick([0, 1, 5, 523, 524, 1711, 1712, 48063, 48064, 65535, 65536, self.pick(NUMBERS)]),
+                     self.pick([1, 8, 255, 256, 257, 65535]), self.pick([0, 1, 8, 64, 511, 512, 513])]
+            self.call("column_costs::eights_least", costs)
+            self.call("column_costs::ones_less", costs)
             self.call("word::double_entries", [self.pick([0, 1, 3]), self.pick([0, 1, 2, 4]), w], v=self.junk_words(self.pick([4, 8, 11, 12])))
             self.call("rows::pairs_share_a_bit", [self.pick([0, 1, 64]), self.pick([0, 1, 2, 3])],
                       a=bytes(x & self.pick([0, 0, 255, 1 << self.random.randrange(8)]) for x in self.junk(self.pick([64, 128, 193, 257]))))

@@ -1,5 +1,5 @@
 // Columns: those of marked cells, from rows of marks that stand in a list of bytes, or those of a set file's symbols. It sees the three ways to
-// make them, the columns of named symbols in a list, and the set file. Every function is total.
+// make them and what they cost, the columns of named symbols in a list, and the set file. Every function is total.
 ghost use mathlib.Core.Path.{_≡_};
 ghost use Prim.Native.Nat.{min};
 ghost use lib.ListN.{length};
@@ -33,11 +33,11 @@ pub enum Listed {
 pub fn fill_columns(taken: Taken, list: &[u8], marks: Rows, columns: &mut [u64])
     ensures { λ _. ⌜ now (columns .exit) ≡ back (columnsBelow (takenCircuit taken) (min (taken .s) 512) (cellsOf (now (list .entry)) marks) (min (taken .s) 512)) (now (columns .entry)) ⌝ }
 {
-    if eighth_columns::eights_pay(taken.register.m, columns.len(), taken.n, taken.s) {
+    if column_costs::eights_least(taken.register.m, columns.len(), taken.n, taken.s) {
         eighth_columns::fill_by_eights(taken, list, marks, columns);
         return;
     }
-    if sparse_columns::ones_pay(columns.len(), taken.n, taken.s) {
+    if column_costs::ones_less(taken.register.m, columns.len(), taken.n, taken.s) {
         sparse_columns::fill_few(taken, list, marks, columns);
         return;
     }

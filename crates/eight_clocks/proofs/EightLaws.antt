@@ -13,14 +13,13 @@ use native.Mathlib.Decide.{decLt}
 use native.Mathlib.Numerals.{add-one}
 use native.Mathlib.Nat.{pow-suc, mod-lt, mod-self, mod-eq-of-lt, div-self, one-mul, zero-mul, mul-one, mul-comm, mul-assoc, lt-of-lt-of-le}
 use lib.Bits.{bitXor, bitAnd, xor-comm, xor-shifted, xor-zero-r, xor-zero-l, and-mask, and-le-r}
-use lib.ListN.{length, getD, getD-replicate}
+use lib.ListN.{length, getD}
 use lib.Pow.{pow-pos, pow-add, pow-mono, pow-lt, shl-lt, shl-shr, low, split, mod-pow-add, mod-mod-pow}
 use Rattle.word.specs.Word.{digit, lowMask}
 use Rattle.word.specs.Zeros.{zeros}
 use Rattle.word.specs.Doubled.{Doubled}
 use Rattle.word.proofs.LowestLaws.{digit-past}
 use Rattle.word.proofs.WordLaws.{xor-scaled}
-use Rattle.word.proofs.FrontLaws.{length-zeros}
 use Rattle.chains.specs.Driven.{chosen}
 use Rattle.register.specs.Circuit.{Circuit, circuit, advanced}
 use Rattle.signatures.specs.Later.{later}

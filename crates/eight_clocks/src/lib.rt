@@ -2,7 +2,7 @@
 // the bits that leave the register give back. It sees the register and its powers; it knows no file. Every function is total.
 ghost use mathlib.Core.Path.{_≡_};
 ghost use mathlib.Core.List.{[], map};
-ghost use Prim.Native.Nat.{ℕ, min, _≤_, _-_, _%_};
+ghost use Prim.Native.Nat.{min, _≤_, _-_, _%_};
 ghost use Rattle.word.specs.Zeros.{zeros};
 ghost use Rattle.register.specs.Circuit.{Circuit, circuit};
 ghost use Rattle.signatures.specs.Later.{later};

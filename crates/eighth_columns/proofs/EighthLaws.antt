@@ -1,16 +1,16 @@
 -- The columns of all slices by eights of clocks, written from the end: the start, the turn and the end of the loop over the slices. Assumes nothing.
 use mathlib.Core.Path.{_≡_, refl, sym, ap, ap₂, _∙_}
-use mathlib.Core.Bool.{Bool, true, false, cond, _&&_}
+use mathlib.Core.Bool.{Bool, true, false, cond}
 use mathlib.Core.List.{List, [], _∷_, _++_, map}
-use Prim.Native.Nat.{ℕ, suc, _+_, _-_, _*_, _/_, _%_, _≤_, _<_, min}
+use Prim.Native.Nat.{ℕ, suc, _+_, _-_, _*_, _/_, _%_, _≤_, _<_}
 use native.Mathlib.Omega.{arith}
-use borrow.Author.Tests.{eqb-true, eqb-false, eq-eqb, ne-eqb, le-ltb, le-leb, lt-leb}
-use lib.Dec.{eqb, ltb, leb}
+use borrow.Author.Tests.{eqb-true, eqb-false, eq-eqb, ne-eqb}
+use lib.Dec.{eqb}
 use lib.ListN.{length, take, drop, getD, length-map, length-append, length-drop}
 use lib.Seq.{take-at, length-take-le}
 use Rattle.rows.specs.Row.{cell}
 use Rattle.rows.specs.Marks.{markedWords}
-use Rattle.register.specs.Circuit.{Circuit, chains}
+use Rattle.register.specs.Circuit.{Circuit}
 use Rattle.signatures.specs.Signature.{Response}
 use Rattle.signatures.specs.Later.{later}
 use Rattle.signatures.specs.Columns.{columnsBelow}
@@ -19,10 +19,7 @@ use Rattle.powers.proofs.PowerLaws.{later-add}
 use Rattle.eight_clocks.specs.Eight.{EightOn, lookedOn}
 use Rattle.eight_clocks.proofs.EightLaws.{looked-later, looked-all}
 use Rattle.swept_columns.proofs.FillLaws.{laterWords, later-words, later-words-none, later-words-get, later-words-length, later-words-suc, Filled, filled-inside, filled-room, filled-starts, filled-down, filled-ends}
-use Rattle.sparse_columns.specs.Cost.{onesCost}
-use Rattle.sparse_columns.proofs.SparseLaws.{map-chosen, cells-most}
-use Rattle.word.proofs.BoolLaws.{and-none}
-use Rattle.eighth_columns.specs.Cost.{eightsCost, eightsPay}
+use Rattle.sparse_columns.proofs.SparseLaws.{map-chosen}
 
 -- so many clocks in whole eights
 abbrev eights : ℕ → ℕ
@@ -128,24 +125,3 @@ looked-up t vs ws h = sym (ap (λ (b : Bool). cond b vs ws) (eq-eqb (t % 8) 7 h)
 
 pub left-alone : (t : ℕ) (vs ws : List ℕ) → (t % 8 ≡ 7 → ⊥) → ws ≡ cond (eqb (t % 8) 7) vs ws
 left-alone t vs ws h = sym (ap (λ (b : Bool). cond b vs ws) (ne-eqb (t % 8) 7 h))
-
--- ---- where it pays
-
-pub narrow-never : (m k n s : ℕ) → m < 8 → false ≡ eightsPay m k n s
-unfolding eightsPay
-narrow-never m k n s h =
-    sym (ap (λ (b : Bool). b && (ltb (eightsCost k n s) (min s 512 * min n 256) && ltb (eightsCost k n s) (onesCost k s))) (lt-leb 8 m h))
-
-pub many-never : (m k n s : ℕ) → 65536 ≤ k → false ≡ eightsPay m k n s
-unfolding eightsPay
-many-never m k n s h =
-    let over : ltb (eightsCost k n s) (min s 512 * min n 256) ≡ false =
-    le-ltb (eightsCost k n s) (min s 512 * min n 256) (omega (arith, cells-most (min s 512) (min n 256) (omega arith) (omega arith))) in
-    sym (ap (λ (b : Bool). leb 8 m && (b && ltb (eightsCost k n s) (onesCost k s))) over ∙ and-none (leb 8 m))
-
-pub pays-exactly : (m k n s slices cells : ℕ) → 8 ≤ m → slices ≡ min s 512 → cells ≡ min s 512 * min n 256
-    → (ltb (cells / 4 + 4 * slices + 2 * k + 128) cells && ltb (cells / 4 + 4 * slices + 2 * k + 128) (128 * k + 4 * slices + 256)) ≡ eightsPay m k n s
-unfolding eightsPay
-pays-exactly m k n s slices cells h es ec =
-    ap₂ (λ (x y : ℕ). ltb (y / 4 + 4 * x + 2 * k + 128) y && ltb (y / 4 + 4 * x + 2 * k + 128) (128 * k + 4 * x + 256)) es ec
-    ∙ sym (ap (λ (b : Bool). b && (ltb (eightsCost k n s) (min s 512 * min n 256) && ltb (eightsCost k n s) (onesCost k s))) (le-leb 8 m h))

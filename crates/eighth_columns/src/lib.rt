@@ -1,10 +1,10 @@
 // Columns by eights: from the last slice to the first, with all the chains' words advanced by 8 clocks for every eighth slice, and those of
-// marked cells by the clocks between. It sees the table of 8 clocks, the marked words of a row, a taken set and the sweep. The public functions
-// are total.
+// marked cells by the clocks between. It sees the table of 8 clocks, the marked words of a row, a taken set and the sweep. The public function
+// is total.
 ghost use mathlib.Core.Path.{_≡_};
 ghost use mathlib.Core.Bool.{cond};
 ghost use mathlib.Core.List.{map};
-ghost use Prim.Native.Nat.{_-_, _*_, _%_, _≤_, min};
+ghost use Prim.Native.Nat.{_-_, _%_, _≤_, min};
 ghost use lib.Dec.{eqb};
 ghost use lib.ListN.{length};
 ghost use Rattle.rows.specs.Row.{cell};
@@ -14,50 +14,9 @@ ghost use Rattle.marked_words.specs.Back.{back};
 ghost use Rattle.set_file.specs.Reading.{takenCircuit};
 ghost use Rattle.signatures.specs.Columns.{columnsBelow};
 ghost use Rattle.eight_clocks.specs.Eight.{lookedOn};
-ghost use Rattle.eighth_columns.specs.Cost.{eightsPay};
 use register::Register;
 use rows::Rows;
 use set_file::Taken;
-
-// What columns by eights of clocks cost, where one word advanced by one clock costs 1 and what a sweep takes as well is left out: so many cells
-// cost 1, a slice, a column and the table cost these. Estimates, from the times and the instructions of both ways.
-const CELLS_FOR_ONE: u64 = 4;
-
-const SLICE_COST: u64 = 4;
-
-const COLUMN_COST: u64 = 2;
-
-const TABLE_COST: u64 = 128;
-
-// The cells of n chains in s slices.
-fn all_cells(n: u16, s: u16) -> u64
-    ensures { λ r. ⌜ (r ≡ min s 512 * min n 256) × (r ≤ 131072) ⌝ }
-{
-    let slices = register::slice_limit(s) as u64;
-    let chains = register::chain_limit(n) as u64;
-    slices * chains
-}
-
-// Whether so many columns, of a register of width m and n chains in s slices, take less time made by eights of clocks than by a sweep and than
-// one by one. A register of fewer than 8 bits can't be clocked so.
-pub fn eights_pay(m: u64, count: usize, n: u16, s: u16) -> bool
-    ensures { λ r. ⌜ r ≡ eightsPay m count n s ⌝ }
-{
-    if m < 8 {
-        return false;
-    }
-    if 65536 <= count {
-        return false;
-    }
-    let slices = register::slice_limit(s) as u64;
-    let cells = all_cells(n, s);
-    let columns = count as u64;
-    let eights = cells / CELLS_FOR_ONE + SLICE_COST * slices + COLUMN_COST * columns + TABLE_COST;
-    let ones = sparse_columns::COLUMN_COST * columns
-        + sparse_columns::CLOCK_COST * slices
-        + sparse_columns::TABLE_COST;
-    (eights < cells) & (eights < ones)
-}
 
 // The words of the row's marked cells over the end of the list, and then each of them as many clocks later as are left over from whole eights, by
 // the table. Answers with how many places stand before them. Where the list is shorter than the words, the first of them are lost.
@@ -87,7 +46,8 @@ fn pass_slice(register: Register, table: &[u64; 256], clocks: u16, words: &mut [
     }
 }
 
-// Writes the columns over the end of the list, for a register of at least 8 bits.
+// Writes the columns over the end of the list, for a register of at least 8 bits. It goes from the last slice, whose columns are the spread
+// words, to the first.
 fn fill_wide(taken: Taken, list: &[u8], marks: Rows, columns: &mut [u64])
     requires { ⌜ 8 ≤ taken .register .m ⌝ }
     ensures { λ _. ⌜ now (columns .exit) ≡ back (columnsBelow (takenCircuit taken) (min (taken .s) 512) (cellsOf (now (list .entry)) marks) (min (taken .s) 512)) (now (columns .entry)) ⌝ }

@@ -52,11 +52,11 @@ pub fn has_bad_word(taken: Taken) -> bool
 
 // What a column made by itself costs, a clock of the powers, and the table of them, where one word advanced by one clock costs 1: estimates,
 // from the times of both ways on a busy machine (docs/PERFORMANCE.md).
-pub const COLUMN_COST: u64 = 128;
+const COLUMN_COST: u64 = 128;
 
-pub const CLOCK_COST: u64 = 4;
+const CLOCK_COST: u64 = 4;
 
-pub const TABLE_COST: u64 = 256;
+const TABLE_COST: u64 = 256;
 
 // Whether so many columns, of n chains in s slices, take less time made one by one than with all chains' words advanced together.
 pub fn ones_pay(count: usize, n: u16, s: u16) -> bool

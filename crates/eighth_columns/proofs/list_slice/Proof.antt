@@ -1,9 +1,8 @@
 -- `list_slice` meets its contract: the words of the marked cells are listed, and advanced for the clocks between.
-use mathlib.Core.Path.{refl, _∙_}
-use Prim.Native.Nat.{_-_, _≤_}
+use mathlib.Core.Path.{refl}
+use Prim.Native.Nat.{_≤_}
 use native.Mathlib.Omega.{arith}
 use lib.ListN.{length}
-use borrow.Rule.Slice.PartMut.{same-len-mid}
 use Rattle.sparse_columns.proofs.SparseLaws.{end-changed}
 use borrow.Author.Needs.{needs}
 use Rattle.eighth_columns.proofs.list_slice.Statement.{statement}

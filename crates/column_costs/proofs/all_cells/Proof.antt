@@ -2,10 +2,10 @@
 use mathlib.Core.Path.{ap₂}
 use Prim.Native.Nat.{ℕ, _*_, _≤_}
 use native.Mathlib.Omega.{arith}
-use Rattle.sparse_columns.proofs.SparseLaws.{cells-most}
+use Rattle.column_costs.proofs.CostLaws.{cells-most}
 use borrow.Author.Needs.{needs}
-use Rattle.eighth_columns.proofs.all_cells.Statement.{statement}
-use Rattle.eighth_columns.proofs.all_cells.Tie as tie
+use Rattle.column_costs.proofs.all_cells.Statement.{statement}
+use Rattle.column_costs.proofs.all_cells.Tie as tie
 
 most : (c : tie.After-chain-limit) → c .before .slice-limit .result * c .chain-limit .result ≤ 131072
 most c = cells-most _ _ (omega (arith, c .before .slice-limit .ensures)) (omega (arith, c .chain-limit .ensures))
