@@ -64,23 +64,23 @@ abbrev heldWords : Given → ℕ → ℕ → List ℕ
 heldWords g a t = reducedList (g .wiring .width) (frames g a (t - a))
 
 -- no slice so far leaves fewer than k words alone; `runs` runs have begun, whose first slices stand at the front of l, and the words that
--- the last of them leaves, at least k, stand at the front of h
-pub data InRun (g : Given) (k t runs left : ℕ) (h l : List ℕ) : Type 0 where
-  none-yet : t ≡ 0 → runs ≡ 0 → left ≡ 0 → InRun g k t runs left h l
+-- the last of them leaves, at least k, are h
+pub data InRun (g : Given) (k t runs : ℕ) (h l : List ℕ) : Type 0 where
+  none-yet : t ≡ 0 → runs ≡ 0 → h ≡ [] → InRun g k t runs h l
   in-run : (a j : ℕ) (ds : List ℕ) → a < t → g .slices ≤ j + a → startsFor g k ≡ ds ++ startsFrom g k j a → take runs l ≡ ds ++ a ∷ []
-      → left ≡ length (heldWords g a t) → take left h ≡ heldWords g a t → k ≤ left → InRun g k t runs left h l
+      → h ≡ heldWords g a t → k ≤ length h → InRun g k t runs h l
 
-pub record CutTo (g : Given) (k t runs left : ℕ) (h l : List ℕ) : Type 0 where
+pub record CutTo (g : Given) (k t runs : ℕ) (h l : List ℕ) : Type 0 where
   pub enough : anyBelow t (λ i. ltb (wordsLeft g i (suc i)) k) ≡ false
-  pub run : InRun g k t runs left h l
+  pub run : InRun g k t runs h l
 
 module _ (g : Given) (sound : Sound (g .wiring)) (k : ℕ) (some : 1 ≤ k) where
   abbrev m : ℕ
   m = g .wiring .width
 
-  pub cut-starts : (h l : List ℕ) → CutTo g k 0 0 0 h l
+  pub cut-starts : (h l : List ℕ) → h ≡ [] → CutTo g k 0 0 h l
   unfolding anyBelow
-  cut-starts h l = record { enough = refl; run = none-yet refl refl refl }
+  cut-starts h l e = record { enough = refl; run = none-yet refl refl e }
 
   -- ---- one slice more
 
@@ -109,51 +109,48 @@ module _ (g : Given) (sound : Sound (g .wiring)) (k : ℕ) (some : 1 ≤ k) wher
       ap (λ (n : ℕ). anyBelow n (λ i. ltb (wordsLeft g i (suc i)) k)) (add-one t)
       ∙ or-false _ _ so-far (le-ltb (wordsLeft g t (suc t)) k h)
 
-  module _ (t runs left w : ℕ) (h l h′ cs : List ℕ) (r : Turn) (inside : t < g .slices) (room : runs < length l) (ec : cs ≡ framed g t)
-      (ew : w ≡ m) (turn : Turned cs w k (take left h) h′ r) where
-    turned : Turned cs m k (take left h) h′ r
-    turned = subst (λ (x : ℕ). Turned cs x k (take left h) h′ r) ew turn
+  module _ (t runs w : ℕ) (h l h′ cs : List ℕ) (r : Turn) (inside : t < g .slices) (room : runs < length l) (ec : cs ≡ framed g t)
+      (ew : w ≡ m) (turn : Turned cs w k h h′ r) where
+    turned : Turned cs m k h h′ r
+    turned = subst (λ (x : ℕ). Turned cs x k h h′ r) ew turn
 
     -- the slice joins the run from a on
     joins : (a j : ℕ) (ds : List ℕ) → a < t → g .slices ≤ j + a → startsFor g k ≡ ds ++ startsFrom g k j a → take runs l ≡ ds ++ a ∷ []
-        → take left h ≡ heldWords g a t → k ≤ length (steps cs (take left h)) → r .opened ≡ 0 → r .left ≡ length (steps cs (take left h))
-        → take (r .left) h′ ≡ steps cs (take left h) → anyBelow t (λ i. ltb (wordsLeft g i (suc i)) k) ≡ false
-        → CutTo g k (t + 1) (runs + r .opened) (r .left) h′ (set l runs t)
-    joins a j ds la lj es el eh enough eo er ew so-far =
-        let words : steps cs (take left h) ≡ heldWords g a (t + 1) = next-words a t (take left h) cs (omega arith) eh ec in
-        let count : r .left ≡ length (heldWords g a (t + 1)) = er ∙ ap length words in
+        → h ≡ heldWords g a t → k ≤ length (steps cs h) → r .opened ≡ 0 → h′ ≡ steps cs h
+        → anyBelow t (λ i. ltb (wordsLeft g i (suc i)) k) ≡ false → CutTo g k (t + 1) (runs + r .opened) h′ (set l runs t)
+    joins a j ds la lj es el eh enough eo ex so-far =
+        let words : steps cs h ≡ heldWords g a (t + 1) = next-words a t h cs (omega arith) eh ec in
         let same : runs + r .opened ≡ runs = omega arith in
         record {
           enough = enough-more t so-far (omega (arith, ap length words, left-next a t, slice-most g sound a t (suc t) (omega arith) (omega arith)));
           run =
-              in-run a j ds (omega arith) lj es (ap (λ (n : ℕ). take n (set l runs t)) same ∙ take-set-le runs l runs t (omega arith) ∙ el) count (ew ∙ words)
-              (omega (arith, er));
+              in-run a j ds (omega arith) lj es (ap (λ (n : ℕ). take n (set l runs t)) same ∙ take-set-le runs l runs t (omega arith) ∙ el) (ex ∙ words)
+              (omega (arith, ap length ex));
         }
 
     -- the slice opens a run
     opens : (j : ℕ) (ds : List ℕ) → g .slices ≤ j + t → startsFor g k ≡ ds ++ startsFrom g k j t → take runs l ≡ ds → r .opened ≡ 1
-        → r .left ≡ length (steps cs (units m)) → take (r .left) h′ ≡ steps cs (units m) → k ≤ r .left
-        → anyBelow t (λ i. ltb (wordsLeft g i (suc i)) k) ≡ false → CutTo g k (t + 1) (runs + r .opened) (r .left) h′ (set l runs t)
-    opens j ds lj es el eo er ew enough so-far =
-        let words : steps cs (units m) ≡ heldWords g t (t + 1) = alone-words t cs ec in
-        let count : r .left ≡ length (heldWords g t (t + 1)) = er ∙ ap length words in
+        → h′ ≡ steps cs (units m) → k ≤ length h′
+        → anyBelow t (λ i. ltb (wordsLeft g i (suc i)) k) ≡ false → CutTo g k (t + 1) (runs + r .opened) h′ (set l runs t)
+    opens j ds lj es el eo ex enough so-far =
+        let words : h′ ≡ heldWords g t (t + 1) = ex ∙ alone-words t cs ec in
         let one-more : runs + r .opened ≡ suc runs = omega arith in
         record {
-          enough = enough-more t so-far (omega (arith, count, left-next t t));
+          enough = enough-more t so-far (omega (arith, ap length words, left-next t t));
           run =
               in-run t j ds (omega arith) lj es
-              (ap (λ (n : ℕ). take n (set l runs t)) one-more ∙ take-suc-set l runs t room ∙ ap (λ (x : List ℕ). x ++ t ∷ []) el) count (ew ∙ words)
+              (ap (λ (n : ℕ). take n (set l runs t)) one-more ∙ take-suc-set l runs t room ∙ ap (λ (x : List ℕ). x ++ t ∷ []) el) words
               enough;
         }
 
     -- the run from a on ends before slice t
-    ended : (a j : ℕ) (ds : List ℕ) → a < t → g .slices ≤ j + a → startsFor g k ≡ ds ++ startsFrom g k j a → left ≡ length (heldWords g a t)
-        → take left h ≡ heldWords g a t → k ≤ left → length (steps cs (take left h)) < k
+    ended : (a j : ℕ) (ds : List ℕ) → a < t → g .slices ≤ j + a → startsFor g k ≡ ds ++ startsFrom g k j a
+        → h ≡ heldWords g a t → k ≤ length h → length (steps cs h) < k
         → (startsFor g k ≡ (ds ++ a ∷ []) ++ startsFrom g k (j - 1) t) × (g .slices ≤ j - 1 + t)
-    ended a j ds la lj es el eh enough fewer =
-        let words : steps cs (take left h) ≡ heldWords g a (t + 1) = next-words a t (take left h) cs (omega arith) eh ec in
+    ended a j ds la lj es eh enough fewer =
+        let words : steps cs h ≡ heldWords g a (t + 1) = next-words a t h cs (omega arith) eh ec in
         let end : longestEnd g k a ≡ t =
-        longest-at g sound k a t (omega arith) (omega arith) (omega (arith, el, left-framed g sound a t))
+        longest-at g sound k a t (omega arith) (omega arith) (omega (arith, ap length eh, left-framed g sound a t))
         (λ x. omega (arith, fewer, ap length words, left-next a t))
         in
         let back : j ≡ suc (j - 1) = omega arith in (
@@ -162,48 +159,48 @@ module _ (g : Given) (sound : Sound (g .wiring)) (k : ℕ) (some : 1 ≤ k) wher
           omega arith,
         )
 
-    pub cut-turns : CutTo g k t runs left h l → k ≤ r .left → CutTo g k (t + 1) (runs + r .opened) (r .left) h′ (set l runs t)
+    pub cut-turns : CutTo g k t runs h l → k ≤ r .left → CutTo g k (t + 1) (runs + r .opened) h′ (set l runs t)
     unfolding startsFor
     cut-turns so-far enough = go (so-far .run) turned
       where
-        go : InRun g k t runs left h l → Turned cs m k (take left h) h′ r → CutTo g k (t + 1) (runs + r .opened) (r .left) h′ (set l runs t)
-        go (none-yet et er el) (joined kj eo ex ew) =
-            let none : steps cs (take left h) ≡ [] = ap (λ (n : ℕ). steps cs (take n h)) el ∙ steps-none cs in
+        go : InRun g k t runs h l → Turned cs m k h h′ r → CutTo g k (t + 1) (runs + r .opened) h′ (set l runs t)
+        go (none-yet et er eh) (joined kj eo ec′ ex) =
+            let none : steps cs h ≡ [] = ap (steps cs) eh ∙ steps-none cs in
             let z : ⊥ = omega (arith, kj, ap length none) in
             absurd z
-        go (none-yet et er el) (opened kj eo ex ew) =
-            opens (g .slices) [] (omega arith) (ap (startsFrom g k (g .slices)) (sym et)) (ap (λ (n : ℕ). take n l) er) eo ex ew enough (so-far .enough)
-        go (in-run a j ds la lj es el ec eh kl) (joined kj eo ex ew) = joins a j ds la lj es el eh kj eo ex ew (so-far .enough)
-        go (in-run a j ds la lj es el ec eh kl) (opened kj eo ex ew) =
-            let end = ended a j ds la lj es ec eh kl kj in
-            opens (j - 1) (ds ++ a ∷ []) (end .1) (end .0) el eo ex ew enough (so-far .enough)
+        go (none-yet et er eh) (opened kj eo el ex) =
+            opens (g .slices) [] (omega arith) (ap (startsFrom g k (g .slices)) (sym et)) (ap (λ (n : ℕ). take n l) er) eo ex (omega (arith, el)) (so-far .enough)
+        go (in-run a j ds la lj es et eh kl) (joined kj eo el ex) = joins a j ds la lj es et eh kj eo ex (so-far .enough)
+        go (in-run a j ds la lj es et eh kl) (opened kj eo el ex) =
+            let end = ended a j ds la lj es eh kl kj in
+            opens (j - 1) (ds ++ a ∷ []) (end .1) (end .0) et eo ex (omega (arith, el)) (so-far .enough)
 
     -- the slice alone leaves fewer than k words
     pub cut-short : r .left < k → shortSlice g k ≡ true
     unfolding shortSlice
     cut-short fewer = go turned
       where
-        go : Turned cs m k (take left h) h′ r → anyBelow (g .slices) (λ i. ltb (wordsLeft g i (suc i)) k) ≡ true
-        go (joined kj eo ex ew) = let z : ⊥ = omega arith in absurd z
-        go (opened kj eo ex ew) =
+        go : Turned cs m k h h′ r → anyBelow (g .slices) (λ i. ltb (wordsLeft g i (suc i)) k) ≡ true
+        go (joined kj eo el ex) = let z : ⊥ = omega (arith, el, ap length ex) in absurd z
+        go (opened kj eo el ex) =
             any-below-true (g .slices) _ t inside
-            (lt-ltb (wordsLeft g t (suc t)) k (omega (arith, ex, ap length (alone-words t cs ec), left-next t t)))
+            (lt-ltb (wordsLeft g t (suc t)) k (omega (arith, el, ap length (ex ∙ alone-words t cs ec), left-next t t)))
 
   -- ---- all slices
 
-  pub cut-ends : (t runs left : ℕ) (h l : List ℕ) → t ≡ g .slices → CutTo g k t runs left h l → (shortSlice g k ≡ false) × (take runs l ≡ startsFor g k)
+  pub cut-ends : (t runs : ℕ) (h l : List ℕ) → t ≡ g .slices → CutTo g k t runs h l → (shortSlice g k ≡ false) × (take runs l ≡ startsFor g k)
   unfolding shortSlice startsFor
-  cut-ends t runs left h l et so-far =
+  cut-ends t runs h l et so-far =
       (ap (λ (n : ℕ). anyBelow n (λ i. ltb (wordsLeft g i (suc i)) k)) (sym et) ∙ so-far .enough, go (so-far .run))
     where
-      go : InRun g k t runs left h l → take runs l ≡ startsFrom g k (g .slices) 0
-      go (none-yet e0 er el) =
+      go : InRun g k t runs h l → take runs l ≡ startsFrom g k (g .slices) 0
+      go (none-yet e0 er eh) =
           ap (λ (n : ℕ). take n l) er
           ∙ sym (ap (startsFrom g k (g .slices)) (sym e0 ∙ et) ∙ no-run g sound k (g .slices))
-      go (in-run a j ds la lj es el ec eh kl) =
+      go (in-run a j ds la lj es el eh kl) =
           let end : longestEnd g k a ≡ g .slices =
           longest-at g sound k a (g .slices) (omega arith) (omega arith)
-          (omega (arith, kl, ec, left-framed g sound a t, ap (wordsLeft g a) et)) (λ x. let z : ⊥ = omega arith in absurd z)
+          (omega (arith, kl, ap length eh, left-framed g sound a t, ap (wordsLeft g a) et)) (λ x. let z : ⊥ = omega arith in absurd z)
           in
           let back : j ≡ suc (j - 1) = omega arith in
           el

@@ -84,10 +84,10 @@ sliced-short g κ l short = record {
   few = λ n h. absurd (no-answer n h);
 }
 
-pub sliced-all : (g : Given) → Sound (g .wiring) → (κ t runs left : ℕ) (h l : List ℕ) → 1 ≤ κ → t ≡ g .slices → runs ≤ 512 → length l ≡ 512
-    → CutTo g κ t runs left h l → SlicedFor g κ l (Slices.Cut runs)
-sliced-all g sound κ t runs left h l some et few long so-far =
-    let ends = cut-ends g sound κ some t runs left h l et so-far in
+pub sliced-all : (g : Given) → Sound (g .wiring) → (κ t runs : ℕ) (h l : List ℕ) → 1 ≤ κ → t ≡ g .slices → runs ≤ 512 → length l ≡ 512
+    → CutTo g κ t runs h l → SlicedFor g κ l (Slices.Cut runs)
+sliced-all g sound κ t runs h l some et few long so-far =
+    let ends = cut-ends g sound κ some t runs h l et so-far in
     let none : shortSlice g κ ≡ false = ends .0 in
     let count : runs ≡ length (startsFor g κ) = sym (length-take-le runs l (omega arith)) ∙ ap length (ends .1) in
     record {
@@ -100,15 +100,15 @@ sliced-all g sound κ t runs left h l some et few long so-far =
 
 -- what one slice of the pass does with the chains' words, which become ws′, the words h that the run so far leaves, which become h′, and the
 -- first slices l of the runs so far
-pub record SlicePassed (g : Given) (table : List ℕ) (k t runs left : ℕ) (ws′ h h′ l : List ℕ) (turn : Turn) : Type 0 where
+pub record SlicePassed (g : Given) (table : List ℕ) (k t runs : ℕ) (ws′ h h′ l : List ℕ) (turn : Turn) : Type 0 where
   pub words : EightBack (g .wiring) table → ws′ ≡ earlierWords (g .wiring) (eights (t + 1)) (g .wiring .spread)
   pub short : Sound (g .wiring) → EightBack (g .wiring) table → 1 ≤ k → turn .left < k → SlicedFor g k l (Slices.Refused 27)
-  pub next : Sound (g .wiring) → EightBack (g .wiring) table → 1 ≤ k → CutTo g k t runs left h l → k ≤ turn .left
-      → CutTo g k (t + 1) (runs + turn .opened) (turn .left) h′ (set l runs t)
+  pub next : Sound (g .wiring) → EightBack (g .wiring) table → 1 ≤ k → CutTo g k t runs h l → k ≤ turn .left
+      → CutTo g k (t + 1) (runs + turn .opened) h′ (set l runs t)
 
 -- .. by what its two calls promise: the columns stand behind place p of a list of 256, and have been put to the words
-module _ (r : Register) (table list : List ℕ) (rows : Rows) (s k t runs left w p : ℕ) (ws₀ ws ws′ cs cs′ h h′ l : List ℕ) (turn : Turn)
-    (next : NextFrom r table list rows t ws ws′ cs cs′ p) (put : Turned (take (256 - p) (drop p cs′)) w k (take left h) h′ turn)
+module _ (r : Register) (table list : List ℕ) (rows : Rows) (s k t runs w p : ℕ) (ws₀ ws ws′ cs cs′ h h′ l : List ℕ) (turn : Turn)
+    (next : NextFrom r table list rows t ws ws′ cs cs′ p) (put : Turned (take (256 - p) (drop p cs′)) w k h h′ turn)
     (so-far : EightBack (seen r ws₀ s list rows .wiring) table → ws ≡ earlierWords (seen r ws₀ s list rows .wiring) (eights t) ws₀) (inside : t < s)
     (room : runs < length l) (fits : length ws ≤ length cs) (long : length cs′ ≡ 256) (width : w ≡ min (r .m) 64) where
   abbrev g : Given
@@ -120,11 +120,11 @@ module _ (r : Register) (table list : List ℕ) (rows : Rows) (s k t runs left w
   columns : EightBack (g .wiring) table → take (256 - p) (drop p cs′) ≡ framed g t
   columns right = take-all (256 - p) (drop p cs′) (omega (arith, length-drop p cs′)) ∙ both right .0 ∙ sym (framed-words g t)
 
-  pub slice-passed : SlicePassed g table k t runs left ws′ h h′ l turn
+  pub slice-passed : SlicePassed g table k t runs ws′ h h′ l turn
   slice-passed = record {
     words = λ right. both right .1;
     short = λ sound right some few.
-        sliced-short g k l (cut-short g sound k some t runs left w h l h′ (take (256 - p) (drop p cs′)) turn inside room (columns right) width put few);
+        sliced-short g k l (cut-short g sound k some t runs w h l h′ (take (256 - p) (drop p cs′)) turn inside room (columns right) width put few);
     next = λ sound right some.
-        cut-turns g sound k some t runs left w h l h′ (take (256 - p) (drop p cs′)) turn inside room (columns right) width put;
+        cut-turns g sound k some t runs w h l h′ (take (256 - p) (drop p cs′)) turn inside room (columns right) width put;
   }

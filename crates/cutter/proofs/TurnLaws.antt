@@ -1,46 +1,70 @@
--- One slice's columns put to the words at the front of a list of 64 places: they leave enough, or the slice opens a run. Assumes nothing.
-use mathlib.Core.Path.{_≡_, refl, sym, ap, _∙_}
-use mathlib.Core.List.{List, _++_, append-assoc, append-nil}
-use Prim.Native.Nat.{ℕ, _-_, _≤_, _<_}
+-- One slice's columns put to the words that stand turned in 64 slots: they leave enough, or the slice opens a run. Assumes nothing.
+use mathlib.Core.Path.{_≡_, refl, sym, ap, ap₂, _∙_, subst}
+use mathlib.Core.List.{List, []}
+use Prim.Native.Nat.{ℕ, _≤_, _<_, min}
 use native.Mathlib.Omega.{arith}
-use lib.ListN.{length, take, drop, length-take, drop-of-length-le}
-use lib.Seq.{take-at, take-all}
+use lib.ListN.{length, take}
+use lib.Seq.{take-all}
 use Rattle.word.specs.Reply.{front}
-use Rattle.word.specs.Zeros.{zeros, filled}
+use Rattle.word.specs.Zeros.{filled}
+use Rattle.word.proofs.FrontLaws.{front-all}
 use Rattle.combinations.specs.Step.{steps, units}
-use Rattle.combinations.proofs.Units.{length-units, units-front}
-use Rattle.combinations.proofs.Portions.{steps-most}
-use Rattle.cutter.specs.Turns.{Turned, joined, opened}
+use Rattle.turned_words.specs.Turned.{kept, HeldTurned, deadBehind}
+use Rattle.turned_words.proofs.SingleLaws.{singles-long, singles-held}
+use Rattle.cutter.specs.Turns.{Stands, Turned, joined, opened}
 
--- the columns cs put to the first n words of the list h: the words that are left stand at the front
-pub words-front : (cs h vs : List ℕ) (n left : ℕ) → left ≡ length (steps cs (take n h)) → vs ≡ filled (steps cs (take n h)) (length (take n h))
-    → take left (vs ++ drop n h) ≡ steps cs (take n h)
-words-front cs h vs n left e ev =
-    let ws = steps cs (take n h) in
-    let zs = zeros (length (take n h) - length ws) in
-    ap (λ (x : List ℕ). take left (x ++ drop n h)) ev ∙ ap (take left) (append-assoc ws zs (drop n h)) ∙ take-at ws (zs ++ drop n h) left (sym e)
+-- slots and rows that hold some list hold that of the slots that aren't dead
+stands-held : (ws l rows : List ℕ) (dead : ℕ) → HeldTurned ws l rows dead → Stands ws rows dead
+stands-held ws l rows dead t = subst (λ (x : List ℕ). HeldTurned ws x rows dead) (sym (t .held)) t
 
--- .. and are no more than they were
-pub words-most : (cs h : List ℕ) (n left : ℕ) → left ≡ length (steps cs (take n h)) → n ≤ 64 → left ≤ 64
-words-most cs h n left e l = omega (arith, steps-most cs (take n h), length-take n h)
+-- no run yet: every slot is dead
+pub stands-none : (ws rows : List ℕ) (dead : ℕ) → ws ≡ filled (units (min 0 64)) 64 → rows ≡ filled (units (min 0 64)) 64 → dead ≡ deadBehind 0
+    → Stands ws rows dead × (kept dead ws ≡ [])
+unfolding units
+stands-none ws rows dead ew er ed =
+    let start : HeldTurned ws [] rows dead = rw ew (rw er (rw ed (singles-held 0 (omega arith)))) in
+    (stands-held ws [] rows dead start, start .held)
 
-pub put-joined : (cs h vs : List ℕ) (m k n left : ℕ) → left ≡ length (steps cs (take n h)) → vs ≡ filled (steps cs (take n h)) (length (take n h))
-    → k ≤ left → Turned cs m k (take n h) (vs ++ drop n h) (record { left = left; opened = 0 })
-put-joined cs h vs m k n left e ev enough = joined (omega arith) refl e (words-front cs h vs n left e ev)
+pub singles-length : (ws : List ℕ) → ws ≡ filled (units (min 0 64)) 64 → length ws ≡ 64
+singles-length ws e = ap length e ∙ singles-long 0 (omega arith)
+
+-- what the slots and rows hold is known after the columns, whatever it was before
+abbrev Taken : List ℕ → List ℕ → List ℕ → ℕ → List ℕ → List ℕ → ℕ → Type 0
+Taken cs ws rows dead ws′ rows′ dead′ = (l : List ℕ) → HeldTurned ws l rows dead → HeldTurned ws′ (steps cs l) rows′ dead′
+
+pub put-stands : (cs ws rows : List ℕ) (dead : ℕ) (ws′ rows′ : List ℕ) (dead′ : ℕ) → Taken cs ws rows dead ws′ rows′ dead′ → Stands ws rows dead
+    → Stands ws′ rows′ dead′
+put-stands cs ws rows dead ws′ rows′ dead′ f t = stands-held ws′ (steps cs (kept dead ws)) rows′ dead′ (f (kept dead ws) t)
+
+-- the number of words held
+abbrev Counts : ℕ → ℕ → Type 0
+Counts left dead = (l : List ℕ) → length l ≡ 64 → left ≡ length (kept dead l)
+
+pub put-joined : (cs ws rows : List ℕ) (dead : ℕ) (ws′ rows′ : List ℕ) (dead′ m k left : ℕ) → Taken cs ws rows dead ws′ rows′ dead′ → Stands ws rows dead
+    → length ws′ ≡ 64 → Counts left dead′ → k ≤ left → Turned cs m k (kept dead ws) (kept dead′ ws′) (record { dead = dead′; left = left; opened = 0 })
+put-joined cs ws rows dead ws′ rows′ dead′ m k left f t long count enough =
+    let words : kept dead′ ws′ ≡ steps cs (kept dead ws) = f (kept dead ws) t .held in
+    joined (omega (arith, count ws′ long, ap length words)) refl (count ws′ long) words
 
 -- the words of single bits over a list of 64 places
-pub units-over : (us h : List ℕ) → us ≡ units 64 → length h ≡ 64 → front (take (length h) us) h ≡ units 64
-unfolding front
-units-over us h e l =
-    let all : take (length h) us ≡ units 64 = ap (λ (x : List ℕ). take (length h) x) e ∙ take-all (length h) (units 64) (omega (arith, length-units 64)) in
-    let past : length h ≤ length (units 64) = omega (arith, length-units 64) in
-    ap (λ (x : List ℕ). x ++ drop (length x) h) all ∙ ap (λ (x : List ℕ). units 64 ++ x) (drop-of-length-le h past) ∙ append-nil (units 64)
+pub singles-over : (us h : List ℕ) (m : ℕ) → us ≡ filled (units (min m 64)) 64 → length h ≡ 64 → m ≤ 64 → front (take (length h) us) h ≡ filled (units m) 64
+singles-over us h m e l lm =
+    let same : min m 64 ≡ m = omega arith in
+    let bits : us ≡ filled (units m) 64 = e ∙ ap (λ (n : ℕ). filled (units n) 64) same in
+    let long : length us ≡ 64 = ap length bits ∙ singles-long m lm in
+    ap (λ (x : List ℕ). front x h) (take-all (length h) us (omega arith)) ∙ front-all us h (long ∙ sym l) ∙ bits
 
--- where h was the list before, and g is the list with the words of single bits in it
-pub put-opened : (cs h g vs : List ℕ) (m k n tried left : ℕ) → tried ≡ length (steps cs (take n h)) → tried < k → m ≤ 64 → g ≡ units 64
-    → left ≡ length (steps cs (take m g)) → vs ≡ filled (steps cs (take m g)) (length (take m g))
-    → Turned cs m k (take n h) (vs ++ drop m g) (record { left = left; opened = 1 })
-put-opened cs h g vs m k n tried left et fewer lm eg e ev =
-    let bits : take m g ≡ units m = ap (take m) eg ∙ units-front m lm in
-    opened (omega arith) refl (e ∙ ap (λ (x : List ℕ). length (steps cs x)) bits)
-    (words-front cs g vs m left e ev ∙ ap (steps cs) bits)
+-- .. and their rows
+pub singles-stand : (ws rows : List ℕ) (dead m : ℕ) → m ≤ 64 → ws ≡ filled (units m) 64 → rows ≡ filled (units m) 64 → dead ≡ deadBehind m
+    → HeldTurned ws (units m) rows dead
+singles-stand ws rows dead m lm ew er ed = rw ew (rw er (rw ed (singles-held m lm)))
+
+-- where ws were the slots before, which the columns brought to tried, and vs are those of the words of single bits
+pub put-opened : (cs ws rows : List ℕ) (dead : ℕ) (wsᵗ rowsᵗ : List ℕ) (deadᵗ : ℕ) (vs rowsᵛ : List ℕ) (deadᵛ : ℕ) (ws′ rows′ : List ℕ) (dead′ m k tried left : ℕ)
+    → Taken cs ws rows dead wsᵗ rowsᵗ deadᵗ → Stands ws rows dead → length wsᵗ ≡ 64 → Counts tried deadᵗ → tried < k
+    → HeldTurned vs (units m) rowsᵛ deadᵛ → Taken cs vs rowsᵛ deadᵛ ws′ rows′ dead′ → length ws′ ≡ 64 → Counts left dead′
+    → Stands ws′ rows′ dead′ × Turned cs m k (kept dead ws) (kept dead′ ws′) (record { dead = dead′; left = left; opened = 1 })
+put-opened cs ws rows dead wsᵗ rowsᵗ deadᵗ vs rowsᵛ deadᵛ ws′ rows′ dead′ m k tried left f t longᵗ countᵗ fewer start g long count =
+    let before : kept deadᵗ wsᵗ ≡ steps cs (kept dead ws) = f (kept dead ws) t .held in
+    let after : HeldTurned ws′ (steps cs (units m)) rows′ dead′ = g (units m) start in
+    (stands-held ws′ (steps cs (units m)) rows′ dead′ after, opened (omega (arith, countᵗ wsᵗ longᵗ, ap length before)) refl (count ws′ long) (after .held))

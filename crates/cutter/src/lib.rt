@@ -4,13 +4,14 @@
 // fit into a run is put to the words twice.
 ghost use mathlib.Core.Path.{_≡_};
 ghost use Prim.Native.Nat.{_≤_};
-ghost use lib.ListN.{length, take};
+ghost use lib.ListN.{length};
 ghost use Rattle.word.specs.Reply.{numberOf};
+ghost use Rattle.turned_words.specs.Turned.{kept};
 ghost use Rattle.set_file.specs.Reading.{TakenFrom};
 ghost use Rattle.signatures.specs.Sets.{given};
 ghost use Rattle.unclocking.specs.Unclocked.{EightBack};
 ghost use Rattle.cutter.specs.Cutting.{badShare, cutReply, cutsAfter, saidCut};
-ghost use Rattle.cutter.specs.Turns.{Sound, seen, Turned, saidSlices, SlicedFor};
+ghost use Rattle.cutter.specs.Turns.{Sound, seen, Stands, Turned, saidSlices, SlicedFor};
 use register::Register;
 use rows::Rows;
 use set_file::SetAnswer;
@@ -28,8 +29,9 @@ enum Slices {
     Refused { number: u64 },
 }
 
-// What one slice comes to: so many words are left of the run, and 1 run more was opened or 0.
+// What one slice comes to: the slots that are dead then, so many words are left of the run, and 1 run more was opened or 0.
 struct Turn {
+    dead: u64,
     left: usize,
     opened: usize,
 }
@@ -47,26 +49,39 @@ fn no_starts() -> [u64; 512]
     [0u64; 512]
 }
 
-// The columns of one slice put to the words that the run so far leaves, the first `left` places of `held`; where that leaves fewer than k, to
-// the words of single bits, for the slice then opens a run.
-fn put_slice(held: &mut [u64], left: usize, columns: &[u64], width: usize, k: usize) -> Turn
-    requires { ⌜ (left ≤ 64) × (width ≤ 64) × (length (now held) ≡ 64) ⌝ }
-    ensures few { λ r. ⌜ r .left ≤ 64 ⌝ }
+// The columns of one slice put to the words that the run so far leaves, which stand in the slots that aren't dead; where that leaves fewer
+// than k, to the words of single bits, for the slice then opens a run. The words stay turned from slice to slice: turning them in takes as
+// long as several columns.
+fn put_slice(
+    slots: &mut [u64],
+    rows: &mut [u64],
+    dead: u64,
+    columns: &[u64],
+    width: usize,
+    k: usize,
+) -> Turn
+    requires { ⌜ (width ≤ 64) × (length (now slots) ≡ 64) × Stands (now slots) (now rows) dead ⌝ }
+    ensures stands { λ r. ⌜ Stands (now (slots .exit)) (now (rows .exit)) (r .dead) ⌝ }
     ensures one { λ r. ⌜ r .opened ≤ 1 ⌝ }
-    ensures turn { λ r. ⌜ Turned (now (columns .entry)) width k (take left (now (held .entry))) (now (held .exit)) r ⌝ }
+    ensures turn { λ r. ⌜ Turned (now (columns .entry)) width k (kept dead (now (slots .entry))) (kept (r .dead) (now (slots .exit))) r ⌝ }
 {
-    let joined = elimination::add_columns(&mut held[..left], columns);
-    if k <= joined {
+    let joined = turned_words::take_columns(slots, rows, dead, columns);
+    let left = turned_words::held_count(joined);
+    if k <= left {
         return Turn {
-            left: joined,
+            dead: joined,
+            left,
             opened: 0,
         };
     }
-    let units = elimination::unit_words();
-    elimination::write_front(held, &units);
-    let alone = elimination::add_columns(&mut held[..width], columns);
+    let units = turned_words::single_bits(width);
+    elimination::write_front(slots, &units);
+    elimination::write_front(rows, &units);
+    let behind = turned_words::dead_behind(width);
+    let alone = turned_words::take_columns(slots, rows, behind, columns);
     Turn {
-        left: alone,
+        dead: alone,
+        left: turned_words::held_count(alone),
         opened: 1,
     }
 }
@@ -88,8 +103,9 @@ fn pass_slices(
 {
     let width = register::width_limit(register.m) as usize;
     let mut columns = set_layout::no_words();
-    let mut held = elimination::unit_words();
-    let mut left: usize = 0;
+    let mut slots = turned_words::single_bits(0);
+    let mut rows = turned_words::single_bits(0);
+    let mut dead = turned_words::dead_behind(0);
     let mut runs: usize = 0;
     let mut t: u16 = 0;
     while t < slices {
@@ -102,8 +118,9 @@ fn pass_slices(
             words,
             &mut columns,
         );
-        let turn = put_slice(&mut held, left, &columns[place..], width, k);
-        left = turn.left;
+        let turn = put_slice(&mut slots, &mut rows, dead, &columns[place..], width, k);
+        dead = turn.dead;
+        let left = turn.left;
         if left < k {
             return Slices::Refused { number: 27 };
         }

@@ -1,3 +1,4 @@
 pub mod KeptLaws
 pub mod TurnedLaws
 pub mod LoopLaws
+pub mod SingleLaws

@@ -17,7 +17,7 @@ use Rattle.word.proofs.LowestLaws.{Lowest, digit-mod, digit-past, below-lowest,
 use Rattle.word.proofs.MarkedLaws.{masked-below, mark-inside}
 use Rattle.combinations.specs.Step.{step, steps}
 use Rattle.combinations.proofs.StepLaws.{steps-none}
-use Rattle.turned_words.specs.Turned.{kept, Turns, Turned, XoredInto}
+use Rattle.turned_words.specs.Turned.{kept, Turns, HeldTurned, XoredInto}
 use Rattle.turned_words.proofs.KeptLaws.{kept-none, kept-alive, kept-dead}
 use Rattle.turned_words.proofs.TurnedLaws.{turned-empty, turned-start}
 
@@ -145,14 +145,14 @@ keeping-end dead l ws rest at k t h =
 
 pub record Taking (cs l ws rows : List ℕ) (dead i : ℕ) : Type 0 where
   pub now-held : List ℕ
-  pub turned : Turned ws now-held rows dead
+  pub turned : HeldTurned ws now-held rows dead
   pub done : steps (drop i cs) now-held ≡ steps cs l
 
-pub taking-start : (cs l ws rows : List ℕ) → Turned ws l rows 0 → Taking cs l ws rows 0 0
-taking-start cs l ws rows t = record { now-held = l; turned = t; done = refl }
+pub taking-start : (cs l ws rows : List ℕ) (dead : ℕ) → HeldTurned ws l rows dead → Taking cs l ws rows dead 0
+taking-start cs l ws rows dead t = record { now-held = l; turned = t; done = refl }
 
 pub taking-turn : (cs l ws rows ws′ rows′ : List ℕ) (dead dead′ i : ℕ) → Taking cs l ws rows dead i → i < length cs
-    → ((x : List ℕ) → Turned ws x rows dead → Turned ws′ (step (getD cs i 0) x) rows′ dead′) → Taking cs l ws′ rows′ dead′ (i + 1)
+    → ((x : List ℕ) → HeldTurned ws x rows dead → HeldTurned ws′ (step (getD cs i 0) x) rows′ dead′) → Taking cs l ws′ rows′ dead′ (i + 1)
 unfolding steps
 taking-turn cs l ws rows ws′ rows′ dead dead′ i t h f =
     record {
@@ -164,23 +164,23 @@ taking-turn cs l ws rows ws′ rows′ dead dead′ i t h f =
     }
 
 pub taking-empty : (cs l ws rows : List ℕ) (dead i mask n : ℕ) → Taking cs l ws rows dead i → mask ≡ lowMask n → length ws ≡ n → dead ≡ mask
-    → Turned ws (steps cs l) rows dead
+    → HeldTurned ws (steps cs l) rows dead
 taking-empty cs l ws rows dead i mask n t em en e =
     let none : t .now-held ≡ [] = turned-empty ws (t .now-held) rows dead (t .turned) mask (em ∙ ap lowMask (sym en)) e in
-    subst (λ (x : List ℕ). Turned ws x rows dead) (none ∙ sym (sym (t .done) ∙ ap (steps (drop i cs)) none ∙ steps-none (drop i cs))) (t .turned)
+    subst (λ (x : List ℕ). HeldTurned ws x rows dead) (none ∙ sym (sym (t .done) ∙ ap (steps (drop i cs)) none ∙ steps-none (drop i cs))) (t .turned)
 
-pub taking-end : (cs l ws rows : List ℕ) (dead i : ℕ) → Taking cs l ws rows dead i → length cs ≤ i → Turned ws (steps cs l) rows dead
+pub taking-end : (cs l ws rows : List ℕ) (dead i : ℕ) → Taking cs l ws rows dead i → length cs ≤ i → HeldTurned ws (steps cs l) rows dead
 unfolding steps
 taking-end cs l ws rows dead i t h =
-    subst (λ (x : List ℕ). Turned ws x rows dead) (ap (λ (x : List ℕ). steps x (t .now-held)) (sym (drop-of-length-le cs h)) ∙ t .done) (t .turned)
+    subst (λ (x : List ℕ). HeldTurned ws x rows dead) (ap (λ (x : List ℕ). steps x (t .now-held)) (sym (drop-of-length-le cs h)) ∙ t .done) (t .turned)
 
 -- ---- the words turned, after all the columns, and those that are kept
 
 pub columns-taken : (cs ws ws′ last rows rows′ : List ℕ) (dead r : ℕ) → length ws ≤ 64 → ((i : ℕ) → getD ws i 0 < 2 ^ 64) → Turns (take 64 ws) rows
-    → (Turned ws ws rows 0 → Turned ws′ (steps cs ws) rows′ dead) → (r ≡ length (kept dead ws′)) × (take r last ≡ kept dead ws′)
+    → ((l : List ℕ) → HeldTurned ws l rows 0 → HeldTurned ws′ (steps cs l) rows′ dead) → (r ≡ length (kept dead ws′)) × (take r last ≡ kept dead ws′)
     → (r ≡ length (steps cs ws)) × (take r last ≡ steps cs ws)
 columns-taken cs ws ws′ last rows rows′ dead r few small t f k =
-    let held : kept dead ws′ ≡ steps cs ws = f (turned-start ws rows few small t) .held in
+    let held : kept dead ws′ ≡ steps cs ws = f ws (turned-start ws rows few small t) .held in
     (k .0 ∙ ap length held, k .1 ∙ held)
 
 -- no column: the words as they are

@@ -25,7 +25,7 @@ use Rattle.word.proofs.MarkedLaws.{mark-inside}
 use Rattle.combinations.specs.Step.{byParity, cleared, step}
 use Rattle.combinations.proofs.StepLaws.{length-cleared, step-even}
 use Rattle.combinations.proofs.Units.{power-digit, one-bit}
-use Rattle.turned_words.specs.Turned.{kept, turnedRow, Turns, Turned, XoredInto}
+use Rattle.turned_words.specs.Turned.{kept, turnedRow, Turns, HeldTurned, XoredInto}
 use Rattle.turned_words.proofs.KeptLaws.{Gone, kept-all, kept-full, kept-same, step-kept}
 
 -- ---- a word by its bits
@@ -148,7 +148,7 @@ module _ (c p : ℕ) (ws : List ℕ) where
       (λ (e : parity (getD ws k 0) c ≡ 1). subst (λ (x : ℕ). x < 2 ^ 64) (sym (slot-odd k e)) (xor-lt 64 (getD ws k 0) p (small k) hp))
       (parity-cases (getD ws k 0) c)
 
-power-other : (j k : ℕ) → (j ≡ k → ⊥) → digit j (2 ^ k) ≡ 0
+pub power-other : (j k : ℕ) → (j ≡ k → ⊥) → digit j (2 ^ k) ≡ 0
 power-other j k n =
     dite (decLt j k) (power-digit j k)
     (λ (m : j < k → ⊥). let wide : 2 ^ k < 2 ^ suc k = pow-lt (omega arith) in digit-past (suc k) (2 ^ k) j wide (omega arith))
@@ -170,12 +170,12 @@ gone-after c ws k dead odd g j h = dite (ℕ-discrete j k) here other
 
 -- ---- one column
 
-module _ (ws l rows : List ℕ) (dead : ℕ) (t : Turned ws l rows dead) where
+module _ (ws l rows : List ℕ) (dead : ℕ) (t : HeldTurned ws l rows dead) where
   odd-words : (c v : ℕ) → c < 2 ^ 64 → v ≡ xorMarked rows c → v ≡ parities ws c
   odd-words c v h e = e ∙ rows-marked ws rows c (t .turns) h
 
   -- no word is odd with it
-  pub turned-even : (c v : ℕ) → c < 2 ^ 64 → v ≡ xorMarked rows c → v ≡ 0 → Turned ws (step c l) rows dead
+  pub turned-even : (c v : ℕ) → c < 2 ^ 64 → v ≡ xorMarked rows c → v ≡ 0 → HeldTurned ws (step c l) rows dead
   turned-even c v h e z =
       record {
         few = t .few;
@@ -187,9 +187,9 @@ module _ (ws l rows : List ℕ) (dead : ℕ) (t : Turned ws l rows dead) where
 
   -- slot k is the first that is, with the word p
   pub turned-odd : (c v k p : ℕ) (ws′ rows′ : List ℕ) → c < 2 ^ 64 → v ≡ xorMarked rows c → Lowest v k → p ≡ getD ws k 0
-      → XoredInto ws ws′ v p → XoredInto rows rows′ p v → Turned ws′ (step c l) rows′ (bitXor dead ((1 * 2 ^ k) % 18446744073709551616))
+      → XoredInto ws ws′ v p → XoredInto rows rows′ p v → HeldTurned ws′ (step c l) rows′ (bitXor dead ((1 * 2 ^ k) % 18446744073709551616))
   turned-odd c v k p ws′ rows′ h e low ep xw xr =
-      subst (λ (bit : ℕ). Turned ws′ (step c l) rows′ (bitXor dead bit)) (sym (one-bit k (low .place)))
+      subst (λ (bit : ℕ). HeldTurned ws′ (step c l) rows′ (bitXor dead bit)) (sym (one-bit k (low .place)))
       record {
         few = omega (arith, xw .long, t .few);
         small = λ j. subst (λ (x : List ℕ). getD x j 0 < 2 ^ 64) (sym same) (small-after c q ws (t .small k) (t .small) j);
@@ -239,7 +239,7 @@ module _ (ws l rows : List ℕ) (dead : ℕ) (t : Turned ws l rows dead) where
 
 -- ---- the words turned in
 
-pub turned-start : (ws rows : List ℕ) → length ws ≤ 64 → ((i : ℕ) → getD ws i 0 < 2 ^ 64) → Turns (take 64 ws) rows → Turned ws ws rows 0
+pub turned-start : (ws rows : List ℕ) → length ws ≤ 64 → ((i : ℕ) → getD ws i 0 < 2 ^ 64) → Turns (take 64 ws) rows → HeldTurned ws ws rows 0
 turned-start ws rows few small t =
     record {
       few = few;
@@ -254,12 +254,12 @@ pub record Turning (ws rows : List ℕ) (i : ℕ) : Type 0 where
   pub inside : i ≤ min (length ws) 64
   pub turns : Turns (take i ws) rows
 
-last-even : (l : List ℕ) (w y : ℕ) → parity w y ≡ 0 → parities (l ++ w ∷ []) y ≡ parities l y
+pub last-even : (l : List ℕ) (w y : ℕ) → parity w y ≡ 0 → parities (l ++ w ∷ []) y ≡ parities l y
 unfolding parities
 last-even [] w y h = omega arith
 last-even (v ∷ l) w y h = ap (λ (x : ℕ). parity v y + 2 * x) (last-even l w y h)
 
-last-odd : (l : List ℕ) (w y : ℕ) → parity w y ≡ 1 → parities (l ++ w ∷ []) y ≡ parities l y + 2 ^ length l
+pub last-odd : (l : List ℕ) (w y : ℕ) → parity w y ≡ 1 → parities (l ++ w ∷ []) y ≡ parities l y + 2 ^ length l
 unfolding parities
 last-odd [] w y h = omega arith
 last-odd (v ∷ l) w y h = ap (λ (x : ℕ). parity v y + 2 * x) (last-odd l w y h) ∙ twice (parity v y) (parities l y) (length l)

@@ -3,11 +3,11 @@
 // the rows, go from one bit that is 1 to the next. A word that is dropped leaves its slot dead. It sees words and combinations.
 ghost use mathlib.Core.Path.{_≡_};
 ghost use mathlib.Core.List.{List};
-ghost use Prim.Native.Nat.{ℕ, _≤_, _<_};
+ghost use Prim.Native.Nat.{ℕ, min, _≤_, _<_};
 ghost use lib.ListN.{length, take};
-ghost use Rattle.word.specs.Zeros.{zeros};
-ghost use Rattle.combinations.specs.Step.{step, steps};
-ghost use Rattle.turned_words.specs.Turned.{kept, Turns, Turned, XoredInto};
+ghost use Rattle.word.specs.Zeros.{zeros, filled};
+ghost use Rattle.combinations.specs.Step.{step, steps, units};
+ghost use Rattle.turned_words.specs.Turned.{kept, Turns, HeldTurned, XoredInto, deadBehind};
 
 // XORs x into the words whose bit in `marks` is 1, bit i for word i. It goes from one such bit to the next.
 fn xor_into(words: &mut [u64], marks: u64, x: u64)
@@ -43,7 +43,7 @@ pub fn turn(words: &[u64]) -> [u64; 64]
 
 // One column more. Answers with the slots that are dead then: where a word is odd with the column, that of the first such word too.
 fn add_turned(words: &mut [u64], rows: &mut [u64], dead: u64, column: u64) -> u64
-    ensures { λ r. ⌜ ((l : List ℕ) → Turned (now (words .entry)) l (now (rows .entry)) dead → Turned (now (words .exit)) (step column l) (now (rows .exit)) r) ⌝ }
+    ensures { λ r. ⌜ ((l : List ℕ) → HeldTurned (now (words .entry)) l (now (rows .entry)) dead → HeldTurned (now (words .exit)) (step column l) (now (rows .exit)) r) ⌝ }
 {
     let odd = word::xor_marked(rows, column);
     if odd == 0 {
@@ -56,21 +56,49 @@ fn add_turned(words: &mut [u64], rows: &mut [u64], dead: u64, column: u64) -> u6
     dead ^ (1u64 << k)
 }
 
-// The columns one after the other, until every slot is dead. Answers with the slots that are.
-fn take_columns(words: &mut [u64], rows: &mut [u64], columns: &[u64]) -> u64
-    ensures { λ r. ⌜ (Turned (now (words .entry)) (now (words .entry)) (now (rows .entry)) 0 → Turned (now (words .exit)) (steps (now (columns .entry)) (now (words .entry))) (now (rows .exit)) r) ⌝ }
+// The columns one after the other, from slots of which those in `dead` are dead, until every slot is. Answers with the slots that are dead then.
+pub fn take_columns(words: &mut [u64], rows: &mut [u64], dead: u64, columns: &[u64]) -> u64
+    ensures { λ r. ⌜ ((l : List ℕ) → HeldTurned (now (words .entry)) l (now (rows .entry)) dead → HeldTurned (now (words .exit)) (steps (now (columns .entry)) l) (now (rows .exit)) r) ⌝ }
 {
     let all = word::low_mask(words.len() as u64);
-    let mut dead: u64 = 0;
+    let mut gone = dead;
     let mut i: usize = 0;
     while i < columns.len() {
-        if dead == all {
-            return dead;
+        if gone == all {
+            return gone;
         }
-        dead = add_turned(words, rows, dead, columns[i]);
+        gone = add_turned(words, rows, gone, columns[i]);
         i += 1;
     }
-    dead
+    gone
+}
+
+// How many of 64 slots aren't dead.
+pub fn held_count(dead: u64) -> usize
+    ensures { λ r. ⌜ ((ws : List ℕ) → length ws ≡ 64 → r ≡ length (kept dead ws)) ⌝ }
+{
+    64 - u64::count_ones(dead) as usize
+}
+
+// The words of m single bits, at most 64, in 64 slots, with 0 in those behind them. They are their own rows too.
+pub fn single_bits(m: usize) -> [u64; 64]
+    ensures { λ r. ⌜ r ≡ filled (units (min m 64)) 64 ⌝ }
+{
+    let count = word::at_most_64(m);
+    let mut words = no_rows();
+    let mut i: usize = 0;
+    while i < count {
+        words[i] = 1u64 << i;
+        i += 1;
+    }
+    words
+}
+
+// The slots behind the first m, which are dead where m words stand in 64 slots.
+pub fn dead_behind(m: usize) -> u64
+    ensures { λ r. ⌜ r ≡ deadBehind m ⌝ }
+{
+    0xffff_ffff_ffff_ffff - word::low_mask(m as u64)
 }
 
 // Moves the words of the slots that aren't dead to the front; answers with how many they are.
@@ -127,6 +155,6 @@ pub fn add_turned_columns(words: &mut [u64], columns: &[u64]) -> usize
         return words.len();
     }
     let mut rows = turn(words);
-    let dead = take_columns(words, &mut rows[..], columns);
+    let dead = take_columns(words, &mut rows[..], 0, columns);
     keep_alive(words, dead)
 }

@@ -1,102 +1,111 @@
 -- `pass_slices` meets its contract. The loop's invariant: the runs of the first `t` slices stand at the front of `starts`, the words that
--- the last of them leaves at the front of `held`, and the chains' words are undone one clock for each of those slices, in eights.
+-- the last of them leaves in the slots that aren't dead, and the chains' words are undone one clock for each of those slices, in eights.
 use mathlib.Core.Path.{_≡_, refl, sym, ap, _∙_}
 use Prim.Native.Nat.{_-_, _≤_, min}
 use native.Mathlib.Omega.{arith}
 use lib.ListN.{length}
-use Rattle.combinations.proofs.Units.{length-units}
 use Rattle.set_layout.proofs.LayoutLaws.{no-words-length}
+use Rattle.turned_words.specs.Turned.{kept}
 use Rattle.unclocking.specs.Unclocked.{EightBack}
 use Rattle.slice_columns.specs.Frame.{eights}
 use Rattle.slice_columns.proofs.FrameLaws.{earlierWords}
-use Rattle.cutter.specs.Turns.{Sound, seen}
+use Rattle.cutter.specs.Turns.{Sound, seen, Stands}
 use Rattle.cutter.proofs.RunLaws.{CutTo, cut-starts}
+use Rattle.cutter.proofs.TurnLaws.{stands-none, singles-length}
 use Rattle.cutter.proofs.SliceLaws.{earlier-words-none, slice-passed, sliced-all}
 use borrow.Author.Needs.{needs}
 use Rattle.cutter.proofs.pass_slices.Statement.{statement}
 use Rattle.cutter.proofs.pass_slices.Tie as tie
 
 abbrev Inv-loop : tie.InvT-loop
-Inv-loop register table list marks slices k words₀ starts₀ width columns₀ held₀ left₀ runs₀ t₀ words starts columns held left runs t =
+Inv-loop register table list marks slices k words₀ starts₀ width columns₀ slots₀ rows₀ dead₀ runs₀ t₀ words starts columns slots rows dead runs t =
     (t ≤ slices)
     × (runs ≤ t)
-    × (left ≤ 64)
+    × Stands slots rows dead
     × (length starts ≡ 512)
     × (length words ≡ length words₀)
     × (length columns ≡ 256)
-    × (length held ≡ 64)
+    × (length slots ≡ 64)
     × (width ≡ min (register .m) 64)
     × (EightBack (seen register words₀ slices list marks .wiring) table → words ≡ earlierWords (seen register words₀ slices list marks .wiring) (eights t) words₀)
-    × (Sound (seen register words₀ slices list marks .wiring) → EightBack (seen register words₀ slices list marks .wiring) table → 1 ≤ k → CutTo (seen register words₀ slices list marks) k t runs left held starts)
+    × (Sound (seen register words₀ slices list marks .wiring) → EightBack (seen register words₀ slices list marks .wiring) table → 1 ≤ k → CutTo (seen register words₀ slices list marks) k t runs (kept dead slots) starts)
 
 abbrev μ-loop : tie.MeasureT-loop
-μ-loop register table list marks slices k words₀ starts₀ width columns₀ held₀ left₀ runs₀ t₀ words starts columns held left runs t =
+μ-loop register table list marks slices k words₀ starts₀ width columns₀ slots₀ rows₀ dead₀ runs₀ t₀ words starts columns slots rows dead runs t =
     slices - t
 
+abbrev start-of : tie.At-loop Inv-loop μ-loop → tie.Start Inv-loop μ-loop
+start-of c = c .before .before .before .before .before .before .before .before .before
+
 loop-holds : tie.Need-loop-holds Inv-loop μ-loop
-loop-holds c = (
-  search needs,
-  search needs,
-  search needs,
-  c .before .before .before .before .before .before .pre .2,
-  refl,
-  ap length (c .before .no-words .ensures) ∙ no-words-length,
-  ap length (c .unit-words .ensures) ∙ length-units 64,
-  c .before .before .width-limit .ensures,
-  (λ right. earlier-words-none _ _),
-  (λ sound right some. cut-starts _ sound _ some _ _),
-)
+loop-holds c =
+    let none = stands-none _ _ _ (c .before .before .single-bits .ensures) (c .before .single-bits2 .ensures) (c .dead-behind .ensures) in (
+      search needs,
+      search needs,
+      none .0,
+      c .before .before .before .before .before .before .before .before .pre .2,
+      refl,
+      ap length (c .before .before .before .no-words .ensures) ∙ no-words-length,
+      singles-length _ (c .before .before .single-bits .ensures),
+      c .before .before .before .before .width-limit .ensures,
+      (λ right. earlier-words-none _ _),
+      (λ sound right some. cut-starts _ sound _ some _ _ (none .1)),
+    )
 
 slice-aggregate-next-columns : tie.Need-slice-aggregate-next-columns Inv-loop μ-loop
 slice-aggregate-next-columns c = sym (c .before .before .before .loop .inv .5)
 
 slice-aggregate-put-slice : tie.Need-slice-aggregate-put-slice Inv-loop μ-loop
-slice-aggregate-put-slice c =
-    let known = c .before .before .before .before .before .before .before .before .loop .inv in
-    sym (known .6)
+slice-aggregate-put-slice c = sym (c .before .before .before .before .before .before .before .before .loop .inv .6)
+
+slice-aggregate-put-slice-2 : tie.Need-slice-aggregate-put-slice-2 Inv-loop μ-loop
+slice-aggregate-put-slice-2 c = sym (c .before .before .before .before .before .before .before .before .before .loop .inv .2 .turns .long)
 
 put-slice-requires : tie.Need-put-slice-requires Inv-loop μ-loop
 put-slice-requires c κs =
-    let known = c .before .before .before .before .before .before .before .before .before .before .loop .inv in
-    (known .2, omega (arith, known .7), known .6)
+    let known = c .before .before .before .before .before .before .before .before .before .before .before .loop .inv in
+    (omega (arith, known .7), known .6, known .2)
 
 same-length : tie.Need-same-length Inv-loop μ-loop
-same-length c =
-    let known = c .before .before .before .before .before .before .before .before .before .before .before .before .before .loop .inv in
-    let listed = c .before .before .before .before .before .before .before .before .before .next-columns in
-    listed .kept .1 .1 .1 .1 .1 .0 ∙ known .4
+same-length c = c .before .before .before .before .before .before .before .before .before .before .before .next-columns .kept .1 .1 .1 .1 .1 .0 ∙ c .before .before .before .before .before .before .before .before .before .before .before .before .before .before .before .loop .inv .4
 
 same-length-2 : tie.Need-same-length-2 Inv-loop μ-loop
-same-length-2 c =
-    let turn = c .before .before .before .before .before .before .before .before .before .before .before .before .before in
-    let start = turn .before .before .before .before .before .before .before in
-    turn .loop .inv .3 ∙ sym (start .pre .2)
+same-length-2 c = c .before .before .before .before .before .before .before .before .before .before .before .before .before .before .before .loop .inv .3 ∙ sym (start-of (c .before .before .before .before .before .before .before .before .before .before .before .before .before .before .before) .pre .2)
 
 returns : tie.Need-returns Inv-loop μ-loop
 returns c =
-    let turn = c .before .before .before .before .before .before .before .before .before .before .before .before .before in
-    let start = turn .before .before .before .before .before .before .before in
+    let turn = c .before .before .before .before .before .before .before .before .before .before .before .before .before .before .before in
+    let start = start-of turn in
     let known = turn .loop .inv in
-    let inside = c .before .before .before .before .before .before .before .before .before .before .before .before .loop-test .taken in
-    let listed = c .before .before .before .before .before .before .before .before .before .next-columns in
-    let put = c .before .before .put-slice in
+    let inside = c .before .before .before .before .before .before .before .before .before .before .before .before .before .before .loop-test .taken in
+    let listed = c .before .before .before .before .before .before .before .before .before .before .before .next-columns in
+    let put = c .before .before .before .put-slice in
     let passed =
-    slice-passed _ _ _ _ _ _ _ (turn .loop .runs) (turn .loop .left) _ _ (start .args .words .now) (turn .loop .words) _ (turn .loop .columns) _ (turn .loop .held) _ (turn .loop .starts) _ (listed .ensures)
+    slice-passed _ _ _ _ _ _ _ (turn .loop .runs) _ _ (start .args .words .now) (turn .loop .words) _ (turn .loop .columns) _ _ _ (turn .loop .starts) _ (listed .ensures)
     (put .ensures .1 .1) (known .8) inside (omega (arith, inside, known .1, known .3, start .pre .0)) (omega (arith, known .4, known .5, start .pre .1))
     (listed .kept .1 .1 .1 .1 .1 .1 .0 ∙ known .5) (known .7)
     in
     λ sound right some. passed .short sound right some (c .if1 .taken)
 
+add-runs : tie.Need-add-runs Inv-loop μ-loop
+add-runs c = omega (arith, c .before .before .before .before .before .before .before .before .before .before .before .before .before .before .before .before .loop .inv .1, c .before .before .before .before .before .before .before .before .before .before .before .before .before .before .before .loop-test .taken, c .before .before .before .before .put-slice .ensures .1 .0, start-of (c .before .before .before .before .before .before .before .before .before .before .before .before .before .before .before .before) .pre .0)
+
+add-t : tie.Need-add-t Inv-loop μ-loop
+add-t c = omega (arith, c .before .before .before .before .before .before .before .before .before .before .before .before .before .before .before .loop-test .taken, start-of (c .before .before .before .before .before .before .before .before .before .before .before .before .before .before .before .before) .pre .0)
+
+loop-less : tie.Need-loop-less Inv-loop μ-loop
+loop-less c = omega (arith, c .before .before .before .before .before .before .before .before .before .before .before .before .before .before .before .loop-test .taken)
+
 loop-again : tie.Need-loop-again Inv-loop μ-loop
 loop-again c =
-    let turn = c .before .before .before .before .before .before .before .before .before .before .before .before .before .before in
-    let start = turn .before .before .before .before .before .before .before in
+    let turn = c .before .before .before .before .before .before .before .before .before .before .before .before .before .before .before .before in
+    let start = start-of turn in
     let known = turn .loop .inv in
-    let inside = c .before .before .before .before .before .before .before .before .before .before .before .before .before .loop-test .taken in
-    let listed = c .before .before .before .before .before .before .before .before .before .before .next-columns in
-    let put = c .before .before .before .put-slice in
+    let inside = c .before .before .before .before .before .before .before .before .before .before .before .before .before .before .before .loop-test .taken in
+    let listed = c .before .before .before .before .before .before .before .before .before .before .before .before .next-columns in
+    let put = c .before .before .before .before .put-slice in
     let passed =
-    slice-passed _ _ _ _ _ _ _ (turn .loop .runs) (turn .loop .left) _ _ (start .args .words .now) (turn .loop .words) _ (turn .loop .columns) _ (turn .loop .held) _ (turn .loop .starts) _ (listed .ensures)
+    slice-passed _ _ _ _ _ _ _ (turn .loop .runs) _ _ (start .args .words .now) (turn .loop .words) _ (turn .loop .columns) _ _ _ (turn .loop .starts) _ (listed .ensures)
     (put .ensures .1 .1) (known .8) inside (omega (arith, inside, known .1, known .3, start .pre .0)) (omega (arith, known .4, known .5, start .pre .1))
     (listed .kept .1 .1 .1 .1 .1 .1 .0 ∙ known .5) (known .7)
     in (
@@ -116,16 +125,13 @@ same-length-3 : tie.Need-same-length-3 Inv-loop μ-loop
 same-length-3 c = c .before .loop .inv .4
 
 same-length-4 : tie.Need-same-length-4 Inv-loop μ-loop
-same-length-4 c =
-    let start = c .before .before .before .before .before .before .before .before in
-    c .before .loop .inv .3 ∙ sym (start .pre .2)
+same-length-4 c = c .before .loop .inv .3 ∙ sym (start-of (c .before) .pre .2)
 
 returns-2 : tie.Need-returns-2 Inv-loop μ-loop
 returns-2 c =
     let turn = c .before .loop in
-    let start = c .before .before .before .before .before .before .before .before in
     λ sound right some.
-    sliced-all _ sound _ _ _ (turn .left) (turn .held) _ some (omega (arith, turn .inv .0)) (omega (arith, turn .inv .0, turn .inv .1, start .pre .0)) (turn .inv .3)
+    sliced-all _ sound _ _ _ _ _ some (omega (arith, turn .inv .0)) (omega (arith, turn .inv .0, turn .inv .1, start-of (c .before) .pre .0)) (turn .inv .3)
     (turn .inv .9 sound right some)
 
 pub pass-slices-spec : {M : Type 1} → statement M
@@ -137,10 +143,13 @@ pass-slices-spec =
     (λ c κs. search needs)
     (λ c κs. search needs)
     (λ c κs. search needs)
+    (λ c κs. search needs)
+    (λ c κs. search needs)
     loop-holds
     slice-aggregate-next-columns
     (λ c κs. search needs)
     slice-aggregate-put-slice
+    slice-aggregate-put-slice-2
     (λ c. search needs)
     (λ c. search needs)
     (λ c. search needs)
@@ -152,9 +161,9 @@ pass-slices-spec =
     (λ c. search needs)
     (λ c. search needs)
     (λ c. search needs)
-    (λ c. search needs)
-    (λ c. search needs)
-    (λ c. search needs)
+    add-runs
+    add-t
+    loop-less
     loop-again
     same-length-3
     same-length-4

@@ -1,25 +1,26 @@
 -- `take_columns` meets its contract: the list held, after the columns that are left, is the list after all of them.
 use mathlib.Core.Path.{_≡_, refl, _∙_}
-use Prim.Native.Nat.{_-_}
+use mathlib.Core.List.{List}
+use Prim.Native.Nat.{ℕ, _-_}
 use native.Mathlib.Omega.{arith}
 use lib.ListN.{length}
-use Rattle.turned_words.specs.Turned.{Turned}
+use Rattle.turned_words.specs.Turned.{HeldTurned}
 use Rattle.turned_words.proofs.LoopLaws.{Taking, taking-start, taking-turn, taking-empty, taking-end}
 use borrow.Author.Needs.{needs}
 use Rattle.turned_words.proofs.take_columns.Statement.{statement}
 use Rattle.turned_words.proofs.take_columns.Tie as tie
 
 abbrev Inv-loop : tie.InvT-loop
-Inv-loop words₀ rows₀ columns all dead₀ i₀ words rows dead i = (Turned words₀ words₀ rows₀ 0 → Taking columns words₀ words rows dead i) × (length words ≡ length words₀) × (length rows ≡ length rows₀)
+Inv-loop words₀ rows₀ dead columns all gone₀ i₀ words rows gone i = ((l : List ℕ) → HeldTurned words₀ l rows₀ dead → Taking columns l words rows gone i) × (length words ≡ length words₀) × (length rows ≡ length rows₀)
 
 abbrev μ-loop : tie.MeasureT-loop
-μ-loop words₀ rows₀ columns all dead₀ i₀ words rows dead i = length columns - i
+μ-loop words₀ rows₀ dead columns all gone₀ i₀ words rows gone i = length columns - i
 
 low-mask-requires : tie.Need-low-mask-requires Inv-loop μ-loop
 low-mask-requires c κs = search needs
 
 loop-holds : tie.Need-loop-holds Inv-loop μ-loop
-loop-holds c = ((λ t. taking-start _ _ _ _ t), refl, refl)
+loop-holds c = ((λ l t. taking-start _ l _ _ _ t), refl, refl)
 
 same-length : tie.Need-same-length Inv-loop μ-loop
 same-length c = c .before .before .loop .inv .1
@@ -28,8 +29,8 @@ same-length-2 : tie.Need-same-length-2 Inv-loop μ-loop
 same-length-2 c = c .before .before .loop .inv .2
 
 returns : tie.Need-returns Inv-loop μ-loop
-returns c = λ t.
-    taking-empty _ _ _ _ _ _ _ _ (c .before .before .loop .inv .0 t) (c .before .before .before .low-mask .ensures) (c .before .before .loop .inv .1) (c .if1 .taken)
+returns c = λ l t.
+    taking-empty _ l _ _ _ _ _ _ (c .before .before .loop .inv .0 l t) (c .before .before .before .low-mask .ensures) (c .before .before .loop .inv .1) (c .if1 .taken)
 
 mul-add-turned : tie.Need-mul-add-turned Inv-loop μ-loop
 mul-add-turned c = search needs
@@ -49,7 +50,7 @@ loop-less c = search needs
 loop-again : tie.Need-loop-again Inv-loop μ-loop
 loop-again c = let at = c .before .before .before .before .before .before .before .before .before .before .loop in
     let added = c .before .before .before .before .add-turned in (
-      (λ t. taking-turn _ _ _ _ _ _ _ _ _ (at .inv .0 t) (c .before .before .before .before .before .before .before .before .before .loop-test .taken) (added .ensures)),
+      (λ l t. taking-turn _ l _ _ _ _ _ _ _ (at .inv .0 l t) (c .before .before .before .before .before .before .before .before .before .loop-test .taken) (added .ensures)),
       added .kept .0 ∙ at .inv .1,
       added .kept .1 .0 ∙ at .inv .2,
     )
@@ -61,7 +62,7 @@ same-length-4 : tie.Need-same-length-4 Inv-loop μ-loop
 same-length-4 c = c .before .loop .inv .2
 
 returns-2 : tie.Need-returns-2 Inv-loop μ-loop
-returns-2 c = λ t. taking-end _ _ _ _ _ _ (c .before .loop .inv .0 t) (c .loop-test .left)
+returns-2 c = λ l t. taking-end _ l _ _ _ _ (c .before .loop .inv .0 l t) (c .loop-test .left)
 
 pub take-columns-spec : {M : Type 1} → statement M
 take-columns-spec =
