@@ -282,31 +282,43 @@ fn fill_by_eights(marks: Marks, read: Read, spread: &[u64; 256], columns: &mut [
     }
 }
 
-/// What so many columns cost made one by one, where one word advanced by one clock costs 1.
+/// From so many columns on a sweep costs least.
+const MANY: usize = 65_536;
+
+/// What so many columns cost by a sweep, where one word advanced by one clock costs 1.
+fn sweep_cost(read: Read) -> usize {
+    read.n * read.s + 16 * read.s
+}
+
+/// .. by eights of clocks.
+fn eights_cost(count: usize, read: Read) -> usize {
+    read.n * read.s / 4 + 20 * read.s + 2 * count + 128
+}
+
+/// .. one by one.
 fn ones_cost(count: usize, read: Read) -> usize {
-    128 * count + 4 * read.s + 256
+    (read.m as usize + 16) * count + 4 * read.s + 256
 }
 
-/// Whether so many columns take less time made one by one than with all chains' words advanced together.
-fn ones_pay(count: usize, read: Read) -> bool {
-    count < 1024 && ones_cost(count, read) < read.s * read.n
+/// Whether so many columns cost less by eights of clocks than by a sweep and than one by one.
+fn eights_least(count: usize, read: Read) -> bool {
+    let eights = eights_cost(count, read);
+    8 <= read.m && count < MANY && eights < sweep_cost(read) && eights < ones_cost(count, read)
 }
 
-/// Whether so many columns take less time made by eights of clocks than by a sweep and than one by one.
-fn eights_pay(count: usize, read: Read) -> bool {
-    let cells = read.s * read.n;
-    let eights = cells / 4 + 4 * read.s + 2 * count + 128;
-    8 <= read.m && count < 65_536 && eights < cells && eights < ones_cost(count, read)
+/// Whether they cost less one by one than by a sweep.
+fn ones_less(count: usize, read: Read) -> bool {
+    count < MANY && ones_cost(count, read) < sweep_cost(read)
 }
 
 /// Whether so many columns are to be made with all chains' words advanced together.
 pub fn needs_sweep(read: Read, spread: &[u64; 256], count: usize) -> bool {
-    !ones_pay(count, read) || is_bad_spread(read.m, spread[..read.n].iter().copied())
+    !ones_less(count, read) || is_bad_spread(read.m, spread[..read.n].iter().copied())
 }
 
 /// A few columns are made one by one; for many, all the chains' words are advanced together, by eights of clocks or by one for each slice.
 fn fill_columns(marks: Marks, read: Read, spread: &[u64; 256], columns: &mut [u64]) {
-    if eights_pay(columns.len(), read) {
+    if eights_least(columns.len(), read) {
         fill_by_eights(marks, read, spread, columns);
     } else if needs_sweep(read, spread, columns.len()) {
         fill_swept(marks, read, spread, 0..read.s, columns);
