@@ -20,7 +20,8 @@ use Rattle.word.proofs.XorLaws.{xor-below-none, xor-below-suc}
 use Rattle.word.proofs.FrontLaws.{length-zeros}
 use Rattle.word.proofs.Laws.{bit-cases, mod2-lt, parity-lt, parity-cases, parity-comm, parity-zero, parity-xor, parity-xor-right, parity-pow}
 use Rattle.combinations.specs.Combination.{xFree}
-use Rattle.combinations.proofs.XFree.{x-free-cons, x-free-head, x-free-tail}
+use Rattle.combinations.proofs.XFree.{x-free-head, x-free-tail}
+use Rattle.parity_table.proofs.SkipLaws.{x-free-all}
 use Rattle.chains.specs.Driven.{chosen}
 use Rattle.register.specs.Circuit.{circuit, advanced}
 use Rattle.signatures.specs.Later.{later}
@@ -108,11 +109,6 @@ x-free-at : (ws : List ℕ) (x i : ℕ) → xFree ws x ≡ true → i < length w
 x-free-at [] x i h l = let no : ⊥ = omega arith in absurd no
 x-free-at (w ∷ ws) x zero h l = x-free-head w ws x h
 x-free-at (w ∷ ws) x (suc i) h l = x-free-at ws x i (x-free-tail w ws x h) (omega arith)
-
-x-free-all : (ws : List ℕ) (x : ℕ) → ((i : ℕ) → i < length ws → parity x (getD ws i 0) ≡ 0) → xFree ws x ≡ true
-unfolding xFree
-x-free-all [] x h = refl
-x-free-all (w ∷ ws) x h = x-free-cons w ws x (h 0 (omega arith)) (x-free-all ws x (λ i l. h (suc i) (omega arith)))
 
 -- ---- what is left of a word
 

@@ -18,8 +18,7 @@ pub enum Eliminated {
 }
 
 // The place of the column to take next, `from` or later: the columns passed over leave the words as they are. It looks for such
-// columns where the last one taken was one, so that there are as many words as before it, and where so many words and columns
-// are left that the table pays.
+// columns where the last one taken was one, so that there are as many words as before it: by a table where that pays.
 fn next_place(words: &[u64], before: usize, columns: &[u64], from: usize) -> usize
     ensures { λ r. ⌜ (from ≤ r) × (steps (drop r (now (columns .entry))) (now (words .entry)) ≡ steps (drop from (now (columns .entry))) (now (words .entry))) ⌝ }
 {
@@ -31,7 +30,7 @@ fn next_place(words: &[u64], before: usize, columns: &[u64], from: usize) -> usi
         return from;
     }
     if !parity_table::pays(count, columns.len() - from) {
-        return from;
+        return parity_table::skip_plainly(words, columns, from);
     }
     parity_table::skip_even(words, columns, from)
 }

@@ -2,17 +2,23 @@
 use mathlib.Core.Path.{_≡_, refl, sym, ap, ap₂, _∙_, subst}
 use mathlib.Core.Bool.{Bool, true, false, not, cond, _&&_, _||_}
 use mathlib.Core.List.{List, [], _∷_}
-use Prim.Native.Nat.{ℕ, suc, _+_, _*_, _/_, _^_, _≤_, _<_}
+use Prim.Native.Nat.{ℕ, zero, suc, _+_, _-_, _*_, _/_, _^_, _≤_, _<_}
+use mathlib.Core.Logic.{dite}
+use native.Mathlib.Nat.{add-zero}
+use native.Mathlib.Decide.{decLt}
 use native.Mathlib.Numerals.{add-one}
 use native.Mathlib.Omega.{arith}
 use borrow.Author.Tests.{eq-eqb, ne-eqb, ltb-false}
 use lib.Dec.{eqb, leb, ltb}
 use lib.ListN.{length, getD, take, drop, drop-of-length-le, length-drop}
-use lib.Seq.{drop-cons, drop-drop, take-all, getD-drop}
+use lib.Seq.{drop-cons, drop-drop, take-all, getD-take, getD-drop, length-take-le}
 use Rattle.word.specs.Word.{parity}
 use Rattle.word.proofs.BoolLaws.{and-left, or-false-right}
+use Rattle.word.proofs.Laws.{or-zero-left, or-zero-right}
+use lib.Bits.{bitOr}
 use Rattle.combinations.specs.Combination.{xFree}
 use Rattle.combinations.specs.Step.{steps}
+use Rattle.combinations.proofs.XFree.{x-free-cons}
 use Rattle.parity_table.specs.Table.{ParityTable, tablePays, runOf, evenRun, tableRun}
 use Rattle.parity_table.proofs.TableLaws.{looked-parities}
 use Rattle.combinations.proofs.Agreeing.{even-exactly}
@@ -35,6 +41,14 @@ module _ (f : ℕ → Bool) (cs : List ℕ) (from : ℕ) where
   pub skipped-start : Skipped f cs from from
   unfolding Skipped
   skipped-start = refl
+
+  pub skipped-said : (i : ℕ) → Skipped f cs from i → from + runOf f (drop from cs) ≡ i + runOf f (drop i cs)
+  unfolding Skipped
+  skipped-said i s = s
+
+  pub said-skipped : (i : ℕ) → from + runOf f (drop from cs) ≡ i + runOf f (drop i cs) → Skipped f cs from i
+  unfolding Skipped
+  said-skipped i s = s
 
   pub skipped-turn : (i : ℕ) → Skipped f cs from i → i < length cs → f (getD cs i 0) ≡ true → Skipped f cs from (i + 1)
   unfolding Skipped
@@ -140,22 +154,71 @@ run-most f (c ∷ cs) = go (f c) (run-most f cs)
 pub skipped-inside : (f : ℕ → Bool) (cs : List ℕ) (from r : ℕ) → from ≤ length cs → r ≡ from + runOf f (drop from cs) → r ≤ length cs
 skipped-inside f cs from r h e = omega (arith, run-most f (drop from cs), length-drop from cs)
 
+-- ---- blocks of columns
+
+pub x-free-all : (ws : List ℕ) (x : ℕ) → ((i : ℕ) → i < length ws → parity x (getD ws i 0) ≡ 0) → xFree ws x ≡ true
+unfolding xFree
+x-free-all [] x h = refl
+x-free-all (w ∷ ws) x h = x-free-cons w ws x (h 0 (omega arith)) (x-free-all ws x (λ i l. h (suc i) (omega arith)))
+
+-- the columns before place j are even with the word
+abbrev pub NoneOdd : List ℕ → ℕ → ℕ → ℕ → Type 0
+NoneOdd cs w odd j = odd ≡ 0 → (i : ℕ) → i < j → parity (getD cs i 0) w ≡ 0
+
+pub none-odd-turn : (cs : List ℕ) (w odd j p : ℕ) → NoneOdd cs w odd j → p ≡ parity (getD cs j 0) w → NoneOdd cs w (bitOr odd p) (j + 1)
+none-odd-turn cs w odd j p so-far e z i l =
+    dite (decLt i j) (so-far (or-zero-left odd p z) i)
+    (λ (n : i < j → ⊥). let same : i ≡ j = omega arith in ap (λ (k : ℕ). parity (getD cs k 0) w) same ∙ sym e ∙ or-zero-right odd p z)
+
+-- the words before place i are even with all columns
+abbrev pub AllEven : List ℕ → List ℕ → ℕ → Type 0
+AllEven ws cs i = (k : ℕ) → k < i → (j : ℕ) → j < length cs → parity (getD cs j 0) (getD ws k 0) ≡ 0
+
+pub all-even-turn : (ws cs : List ℕ) (i : ℕ) → AllEven ws cs i → ((j : ℕ) → j < length cs → parity (getD cs j 0) (getD ws i 0) ≡ 0) → AllEven ws cs (i + 1)
+all-even-turn ws cs i so-far h k l j b =
+    dite (decLt k i) (λ (s : k < i). so-far k s j b)
+    (λ (n : k < i → ⊥). let same : k ≡ i = omega arith in ap (λ (x : ℕ). parity (getD cs j 0) (getD ws x 0)) same ∙ h j b)
+
+pub all-even-end : (ws cs : List ℕ) (i : ℕ) → AllEven ws cs i → length ws ≤ i → (j : ℕ) → j < length cs → xFree ws (getD cs j 0) ≡ true
+all-even-end ws cs i h past j b = x-free-all ws (getD cs j 0) (λ k l. h k (omega arith) j b)
+
+module _ (f : ℕ → Bool) (cs : List ℕ) (from i : ℕ) (s : Skipped f cs from i) where
+  skipped-on : (k : ℕ) → i + k ≤ length cs → ((j : ℕ) → j < k → f (getD cs (i + j) 0) ≡ true) → Skipped f cs from (i + k)
+  skipped-on zero h e = subst (Skipped f cs from) (sym (add-zero i)) s
+  skipped-on (suc k) h e =
+      let next : i + k + 1 ≡ i + suc k = omega arith in
+      subst (Skipped f cs from) next (skipped-turn f cs from (i + k) (skipped-on k (omega arith) (λ j l. e j (omega arith))) (omega arith) (e k (omega arith)))
+
+  -- a block, as the part that it is
+  pub skipped-block : i + 64 ≤ length cs → ((j : ℕ) → j < length (take (i + 64 - i) (drop i cs)) → f (getD (take (i + 64 - i) (drop i cs)) j 0) ≡ true)
+      → Skipped f cs from (i + 64)
+  skipped-block h e = skipped-on 64 h (λ j l. ap f (sym (part j l)) ∙ e j (omega (arith, long)))
+    where
+      width : i + 64 - i ≡ 64
+      width = omega arith
+
+      long : length (take (i + 64 - i) (drop i cs)) ≡ 64
+      long = ap (λ (n : ℕ). length (take n (drop i cs))) width ∙ length-take-le 64 (drop i cs) (omega (arith, length-drop i cs))
+
+      part : (j : ℕ) → j < 64 → getD (take (i + 64 - i) (drop i cs)) j 0 ≡ getD cs (i + j) 0
+      part j l = getD-take (i + 64 - i) (drop i cs) j 0 (omega (arith, width)) ∙ getD-drop i cs j 0
+
 -- ---- when a table pays
 
 -- only for at most 64 words
 pub pays-few : (n k : ℕ) (r : Bool) → r ≡ tablePays n k → r ≡ true → n ≤ 64
 unfolding tablePays
 pays-few n k r e h =
-    ltb-false 64 n (or-false-right (ltb n 2) (ltb 64 n) (not-not (ltb n 2 || ltb 64 n) (and-left (not (ltb n 2 || ltb 64 n)) (leb 24 (k / 64 * n)) (sym e ∙ h))))
+    ltb-false 64 n (or-false-right (ltb n 4) (ltb 64 n) (not-not (ltb n 4 || ltb 64 n) (and-left (not (ltb n 4 || ltb 64 n)) (leb 24 (k / 64 * n)) (sym e ∙ h))))
   where
     not-not : (b : Bool) → not b ≡ true → b ≡ false
     not-not true p = sym p
     not-not false p = refl
 
-pub pays-not : (n k : ℕ) → (ltb n 2 || ltb 64 n) ≡ true → false ≡ tablePays n k
+pub pays-not : (n k : ℕ) → (ltb n 4 || ltb 64 n) ≡ true → false ≡ tablePays n k
 unfolding tablePays
 pays-not n k h = rw h
 
-pub pays-then : (n k : ℕ) → (ltb n 2 || ltb 64 n) ≡ false → leb 24 (k / 64 * n) ≡ tablePays n k
+pub pays-then : (n k : ℕ) → (ltb n 4 || ltb 64 n) ≡ false → leb 24 (k / 64 * n) ≡ tablePays n k
 unfolding tablePays
 pays-then n k h = rw h

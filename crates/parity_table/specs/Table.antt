@@ -4,7 +4,7 @@
 --   byteParities ws e           the parities of the words ws with the column whose byte e ÷ 256 is e mod 256 and whose others are 0
 --   ParityTable ws table        the table's 2048 entries are these
 --   lookedParities table c b    the XOR of the entries of the table for the first b bytes of c, lowest first
---   tablePays n k               for k columns a table of n words, 2 to 64, is taken to cost less time than their parities by themselves
+--   tablePays n k               for k columns a table of n words, 4 to 64, is taken to cost less time than their parities by themselves
 --   runOf f cs                  how many columns stand before the first of cs of which f does not hold
 --   evenRun ws cs               .. that is odd with one of the words ws
 --   tableRun table cs           .. for which the XOR of the table's entries is not 0
@@ -29,7 +29,7 @@ lookedParities table c zero = 0
 lookedParities table c (suc b) = bitXor (lookedParities table c b) (getD table (256 * b + c / 2 ^ (8 * b) % 256) 0)
 
 unfoldable pub tablePays : ℕ → ℕ → Bool
-tablePays n k = not (ltb n 2 || ltb 64 n) && leb 24 (k / 64 * n)
+tablePays n k = not (ltb n 4 || ltb 64 n) && leb 24 (k / 64 * n)
 
 unfoldable pub runOf : (ℕ → Bool) → List ℕ → ℕ
 runOf f [] = 0

@@ -1,8 +1,10 @@
 // A table of the parities of some words with every byte of a column, by which columns that are even with all of the words are
 // passed over. It sees words, turned words and combinations, and knows nothing of the elimination that uses it.
 ghost use mathlib.Core.Path.{_≡_};
-ghost use Prim.Native.Nat.{_+_, _*_, _^_, _<_};
-ghost use lib.ListN.{take, drop};
+ghost use mathlib.Core.Bool.{true, false};
+ghost use Prim.Native.Nat.{ℕ, _+_, _<_};
+ghost use lib.ListN.{length, getD, take, drop};
+ghost use Rattle.word.specs.Word.{parity};
 ghost use Rattle.word.specs.Zeros.{zeros};
 ghost use Rattle.combinations.specs.Combination.{xFree};
 ghost use Rattle.parity_table.specs.Table.{ParityTable, lookedParities, tablePays, evenRun, tableRun};
@@ -74,7 +76,7 @@ const TABLE_COST: usize = 24;
 pub fn pays(words: usize, columns: usize) -> bool
     ensures { λ r. ⌜ r ≡ tablePays words columns ⌝ }
 {
-    if (words < 2) | (64 < words) {
+    if (words < 4) | (64 < words) {
         return false;
     }
     TABLE_COST <= columns / 64 * words
@@ -94,12 +96,60 @@ fn is_even(words: &[u64], column: u64) -> bool
     true
 }
 
-// The place of the first column, from place `from` on, that is odd with one of the words, without a table; the end where none is. For one
-// word or two it takes less time than looking a column up.
+// Whether some column is odd with the word. All are looked at, so that the loop has no way out.
+fn has_odd(columns: &[u64], w: u64) -> bool
+    ensures { λ r. ⌜ (r ≡ false → (j : ℕ) → j < length (now (columns .entry)) → parity (getD (now (columns .entry)) j 0) w ≡ 0) ⌝ }
+{
+    let mut odd: u64 = 0;
+    let mut j: usize = 0;
+    while j < columns.len() {
+        odd = odd | word::shared_parity(columns[j], w);
+        j += 1;
+    }
+    odd != 0
+}
+
+// Whether all columns are even with every word.
+fn are_even(words: &[u64], columns: &[u64]) -> bool
+    ensures { λ r. ⌜ (r ≡ true → (j : ℕ) → j < length (now (columns .entry)) → xFree (now (words .entry)) (getD (now (columns .entry)) j 0) ≡ true) ⌝ }
+{
+    let mut i: usize = 0;
+    while i < words.len() {
+        if has_odd(columns, words[i]) {
+            return false;
+        }
+        i += 1;
+    }
+    true
+}
+
+// The columns that are looked at together.
+const BLOCK: usize = 64;
+
+// A place from place `from` on, up to which all columns are even with every word: behind whole blocks of them.
+fn skip_blocks(words: &[u64], columns: &[u64], from: usize) -> usize
+    ensures { λ r. ⌜ from + evenRun (now (words .entry)) (drop from (now (columns .entry))) ≡ r + evenRun (now (words .entry)) (drop r (now (columns .entry))) ⌝ }
+{
+    let mut i = from;
+    while i < columns.len() {
+        if columns.len() - i < BLOCK {
+            return i;
+        }
+        let end = i + BLOCK;
+        if !are_even(words, &columns[i..end]) {
+            return i;
+        }
+        i = end;
+    }
+    i
+}
+
+// The place of the first column, from place `from` on, that is odd with one of the words, without a table; the end where none is. For a few
+// words it takes less time than looking a column up.
 pub fn skip_plainly(words: &[u64], columns: &[u64], from: usize) -> usize
     ensures { λ r. ⌜ r ≡ from + evenRun (now (words .entry)) (drop from (now (columns .entry))) ⌝ }
 {
-    let mut i = from;
+    let mut i = skip_blocks(words, columns, from);
     while i < columns.len() {
         if !is_even(words, columns[i]) {
             return i;

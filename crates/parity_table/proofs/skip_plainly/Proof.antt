@@ -4,7 +4,7 @@ use Prim.Native.Nat.{_-_}
 use borrow.Author.Tests.{not-true, not-false}
 use lib.ListN.{length}
 use Rattle.combinations.specs.Combination.{xFree}
-use Rattle.parity_table.proofs.SkipLaws.{Skipped, skipped-start, skipped-turn, skipped-stop, skipped-all}
+use Rattle.parity_table.proofs.SkipLaws.{Skipped, said-skipped, skipped-turn, skipped-stop, skipped-all}
 use borrow.Author.Needs.{needs}
 use Rattle.parity_table.proofs.skip_plainly.Statement.{statement}
 use Rattle.parity_table.proofs.skip_plainly.Tie as tie
@@ -16,7 +16,7 @@ abbrev μ-loop : tie.MeasureT-loop
 μ-loop words columns from i₀ i = length columns - i
 
 loop-holds : tie.Need-loop-holds Inv-loop μ-loop
-loop-holds c = skipped-start _ _ _
+loop-holds c = said-skipped _ _ _ _ (c .skip-blocks .ensures)
 
 returns : tie.Need-returns Inv-loop μ-loop
 returns c =
@@ -35,6 +35,7 @@ skip-plainly-spec =
     (tie.spec
     Inv-loop
     μ-loop
+    (λ c κs. search needs)
     loop-holds
     (λ c. search needs)
     (λ c. search needs)
