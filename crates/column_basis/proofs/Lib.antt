@@ -1,0 +1,5 @@
+pub mod KeptLaws
+pub mod BitLaws
+pub mod BasisLaws
+pub mod SettledLaws
+pub mod LoopLaws
