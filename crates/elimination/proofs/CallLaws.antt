@@ -10,12 +10,12 @@ use lib.Seq.{take-all, take-append-le, length-take-le}
 use Rattle.word.proofs.ReplyLaws.{Leaves, refusal-leaves, answer-leaves}
 use Rattle.word.specs.Word.{beyond, badWidth}
 use Rattle.word.specs.Some.{anyOf}
-use Rattle.word.specs.Reply.{Reply, answer, refusal, front, lent}
+use Rattle.word.specs.Reply.{answer, refusal, front}
 use Rattle.word.proofs.WordLaws.{good-width}
 use Rattle.combinations.specs.Combination.{rank, onlyEmpty}
 use Rattle.combinations.specs.Reduced.{reducedList}
 use Rattle.combinations.specs.Step.{steps, units}
-use Rattle.elimination.specs.Elimination.{Counts, eliminationReply, said}
+use Rattle.elimination.specs.Elimination.{eliminationReply, said}
 use Rattle.elimination.specs.declared.Eliminated.{Eliminated}
 use Rattle.elimination.specs.declared.Eliminated.the-variants.{Done, Refused}
 use Rattle.combinations.proofs.Theorems.{kept-list, words-and-rank, only-empty-list}

@@ -1,15 +1,15 @@
 -- The start, turn and end of the loops over columns and over words. Assumes nothing.
 use mathlib.Core.Path.{_≡_, refl, sym, ap, ap₂, _∙_, subst}
 use mathlib.Core.Bool.{Bool, true, false, _||_}
-use mathlib.Core.List.{List, [], _∷_, _++_, append-nil}
-use Prim.Native.Nat.{ℕ, zero, suc, _+_, _-_, _*_, _%_, _^_, _<_, _≤_}
+use mathlib.Core.List.{List, [], _++_, append-nil}
+use Prim.Native.Nat.{ℕ, zero, suc, _+_, _-_, _^_, _<_, _≤_}
 use native.Mathlib.Nat.{le-refl, lt-of-lt-of-le}
 use native.Mathlib.Numerals.{add-one}
 use native.Mathlib.Omega.{arith}
 use borrow.Author.Tests.{lt-leb, leb-false, le-leb, leb-true}
 use lib.Bits.{bitOr, or-lt, or-add-and, and-le-l, and-le-r}
 use lib.Dec.{leb}
-use lib.ListN.{length, getD, take, drop, set, length-append, length-drop, drop-of-length-le, take-append-drop}
+use lib.ListN.{length, getD, take, drop, length-append, length-drop, drop-of-length-le, take-append-drop}
 use lib.Pow.{pow-pos, pow-mono}
 use lib.Seq.{drop-cons, take-all, take-length, take-append-le, take-append-seam, length-take-le}
 use Rattle.word.specs.Word.{beyond}
@@ -18,11 +18,12 @@ use Rattle.word.specs.Reply.{front}
 use Rattle.word.specs.Zeros.{zeros, filled}
 use Rattle.word.proofs.SomeLaws.{any-of-below, any-of-none}
 use Rattle.word.proofs.WordLaws.{not-beyond}
-use Rattle.combinations.specs.Step.{step, steps, units}
+use Rattle.combinations.specs.Step.{step, steps}
+use Rattle.spread_words.specs.Spread.{FirstTaken}
+use Rattle.spread_words.specs.declared.Begun.{Begun}
 use Rattle.elimination.specs.Code.{orBelow}
 use Rattle.combinations.proofs.StepLaws.{steps-none, steps-append}
 use Rattle.combinations.proofs.Portions.{steps-most}
-use Rattle.combinations.proofs.Units.{one-bit, next-taken}
 
 -- ---- the OR of the columns
 
@@ -63,23 +64,6 @@ pub or-end : (ws : List ℕ) (i all : ℕ) → all ≡ orBelow ws i → i ≤ le
 or-end ws i all e a b =
     let same : i ≡ length ws = omega arith in
     e ∙ ap (orBelow ws) same
-
--- ---- the units
-
-pub units-start : (ws : List ℕ) → take 0 ws ≡ units 0
-unfolding units
-units-start ws = refl
-
-pub units-turn : (ws : List ℕ) (i : ℕ) → length ws ≡ 64 → i < 64 → take i ws ≡ units i → take (i + 1) (set ws i ((1 * 2 ^ i) % 18446744073709551616)) ≡ units (i + 1)
-unfolding units
-units-turn ws i long h e =
-    next-taken ws (units i) i ((1 * 2 ^ i) % 18446744073709551616) (2 ^ i) (subst (λ (n : ℕ). i < n) (sym long) h) e (one-bit i h)
-    ∙ ap units (sym (add-one i))
-
-pub units-end : (ws : List ℕ) (i : ℕ) → length ws ≡ 64 → i ≤ 64 → 64 ≤ i → take i ws ≡ units i → ws ≡ units 64
-units-end ws i long l h e =
-    let all : i ≡ 64 = omega arith in
-    sym (take-all i ws (omega arith)) ∙ e ∙ ap units all
 
 -- ---- the columns one after the other
 
@@ -137,30 +121,23 @@ reduced-end cs l ws left i r h =
     let all : take left ws ≡ steps cs l = ap (λ (x : List ℕ). steps x (take left ws)) (sym (drop-of-length-le cs h)) ∙ r .done in
     (sym (length-take-le left ws (r .left-long)) ∙ ap length all, all)
 
--- ---- the first columns by turned words, and the others
+-- ---- the first columns by a basis, and the others
 
--- the first `count` columns are taken: `left` words are left, at the front of `last`
-pub record Begun (cs l last : List ℕ) (count left : ℕ) : Type 0 where
-  pub inside : count ≤ length cs
-  pub left-long : left ≤ length last
-  pub done : take left last ≡ steps (take count cs) l
+pub begun-inside : (cs l last : List ℕ) (b : Begun) → FirstTaken cs l last b → length last ≡ length l → b .left ≤ length last
+begun-inside cs l last b f same = omega (arith, f .number, steps-most (take (b .count) cs) l)
 
-pub begun : (cs l last : List ℕ) (count left : ℕ) → length last ≡ length l → (count ≤ length cs) × (0 < count → length l ≤ 64)
-    → ((0 < length (take count cs) → length l ≤ 64) → (left ≡ length (steps (take count cs) l)) × (take left last ≡ steps (take count cs) l))
-    → Begun cs l last count left
-begun cs l last count left same counted taken =
-    let t = taken (λ p. counted .1 (omega (arith, length-take-le count cs (counted .0)))) in
-    record { inside = counted .0; left-long = omega (arith, t .0, steps-most (take count cs) l); done = t .1 }
-
--- `part` is what the other columns left where these words were lent
-pub begun-end : (cs l last part : List ℕ) (count left r : ℕ) → Begun cs l last count left → length part ≡ length (take left last)
-    → (r ≡ length (steps (take (length cs - count) (drop count cs)) (take left last))) × (take r part ≡ steps (take (length cs - count) (drop count cs)) (take left last))
-    → (r ≡ length (steps cs l)) × (take r (part ++ drop left last) ≡ steps cs l)
-begun-end cs l last part count left r b long e =
+-- `part` is what the other columns left where the words left by the first were lent
+pub begun-end : (cs l last part : List ℕ) (b : Begun) (r : ℕ) → FirstTaken cs l last b → length part ≡ length (take (b .left) last)
+    → (r ≡ length (steps (take (length cs - b .count) (drop (b .count) cs)) (take (b .left) last)))
+    × (take r part ≡ steps (take (length cs - b .count) (drop (b .count) cs)) (take (b .left) last))
+    → (r ≡ length (steps cs l)) × (take r (part ++ drop (b .left) last) ≡ steps cs l)
+begun-end cs l last part b r f long e =
+    let count = b .count in
+    let left = b .left in
     let rest = take (length cs - count) (drop count cs) in
     let all : rest ≡ drop count cs = take-all (length cs - count) (drop count cs) (omega (arith, length-drop count cs)) in
     let whole : steps rest (take left last) ≡ steps cs l =
-    ap₂ steps all (b .done) ∙ sym (steps-append (take count cs) (drop count cs) l) ∙ ap (λ (x : List ℕ). steps x l) (take-append-drop count cs) in
+    ap₂ steps all (f .done) ∙ sym (steps-append (take count cs) (drop count cs) l) ∙ ap (λ (x : List ℕ). steps x l) (take-append-drop count cs) in
     let short : r ≤ length part = omega (arith, e .0, long, steps-most rest (take left last)) in
     (e .0 ∙ ap length whole, take-append-le r part (drop left last) short ∙ e .1 ∙ whole)
 

@@ -53,13 +53,14 @@ fn reduce_plainly(held: &mut [u64], columns: &[u64]) -> usize
     left
 }
 
-// The columns one after the other, the first of them by turned words where that pays: answers with how many words are left, which stand at
+// The columns one after the other, the first of them by a basis where that pays: answers with how many words are left, which stand at
 // the front of `held`.
 fn reduce(held: &mut [u64], columns: &[u64]) -> usize
     ensures { λ r. ⌜ (r ≡ length (steps (now (columns .entry)) (now (held .entry)))) × (take r (now (held .exit)) ≡ steps (now (columns .entry)) (now (held .entry))) ⌝ }
 {
-    let count = turned_words::turned_count(held.len(), columns.len());
-    let left = turned_words::add_turned_columns(held, &columns[..count]);
+    let begun = spread_words::begin(held, columns);
+    let count = begun.count;
+    let left = begun.left;
     reduce_plainly(&mut held[..left], &columns[count..])
 }
 
@@ -97,23 +98,11 @@ fn has_column_beyond(m: u64, columns: &[u64]) -> bool
     word::is_beyond(m, or_all(columns))
 }
 
-fn no_words() -> [u64; 64]
-    ensures { λ r. ⌜ length r ≡ 64 ⌝ }
-{
-    [0u64; 64]
-}
-
 // The words of the 64 single bits: with no column, the first m of them are the words of width m.
 pub fn unit_words() -> [u64; 64]
     ensures { λ r. ⌜ r ≡ units 64 ⌝ }
 {
-    let mut words = no_words();
-    let mut i: usize = 0;
-    while i < 64 {
-        words[i] = 1u64 << i;
-        i += 1;
-    }
-    words
+    column_basis::unit_words()
 }
 
 // `from` over the front of `words`; as much of it as there is room for.

@@ -1,17 +1,17 @@
 -- The words of the slots that aren't dead, and one column's step on them. Assumes nothing.
-use mathlib.Core.Path.{_≡_, refl, sym, ap, ap₂, _∙_, subst}
-use mathlib.Core.Logic.{_⊎_, ⊎-elim}
-use mathlib.Core.List.{List, [], _∷_}
-use Prim.Native.Nat.{ℕ, zero, suc, _+_, _-_, _*_, _/_, _%_, _^_, _≤_, _<_}
-use native.Mathlib.Nat.{div-one, not-suc-le-zero, le-of-suc-le-suc, zero-lt-suc}
+use mathlib.Core.Path.{_≡_, refl, sym, ap, ap₂, _∙_}
+use mathlib.Core.Logic.{⊎-elim}
+use mathlib.Core.List.{List, [], _∷_, _++_}
+use Prim.Native.Nat.{ℕ, zero, suc, _+_, _-_, _/_, _%_, _^_, _≤_, _<_}
+use native.Mathlib.Nat.{div-one, not-suc-le-zero, le-of-suc-le-suc}
 use native.Mathlib.Numerals.{one-add}
 use native.Mathlib.Omega.{arith}
-use lib.Bits.{bitXor, xor-shr, xor-zero-r, xor-self, xor-step}
+use lib.Bits.{bitXor, xor-shr, xor-zero-r}
 use lib.ListN.{length, getD}
 use lib.Pow.{shr-shr, pow-pos}
 use Rattle.word.specs.Word.{digit, parity}
 use Rattle.word.specs.Parities.{parities}
-use Rattle.word.proofs.Laws.{bit-cases, mod2-lt, digit-xor, parity-cases, parity-zero}
+use Rattle.word.proofs.Laws.{bit-cases, mod2-lt, digit-xor, parity-zero}
 use Rattle.combinations.specs.Step.{byParity, cleared, step}
 use Rattle.combinations.proofs.StepLaws.{cleared-even, cleared-odd, step-even, step-odd}
 use Rattle.turned_words.specs.Turned.{kept}
@@ -21,7 +21,7 @@ use Rattle.turned_words.specs.Turned.{kept}
 pub digit-suc : (k a : ℕ) → digit (suc k) a ≡ digit k (a / 2)
 digit-suc k a = ap (λ (x : ℕ). x % 2) (sym (shr-shr a 1 k ∙ ap (λ (x : ℕ). a / 2 ^ x) (one-add k)))
 
-digit-zero : (a : ℕ) → digit 0 a ≡ a % 2
+pub digit-zero : (a : ℕ) → digit 0 a ≡ a % 2
 digit-zero a = ap (λ (x : ℕ). x % 2) (div-one a)
 
 -- ---- one slot more
@@ -85,13 +85,13 @@ cleared-kept c p dead (w ∷ ws) =
 
 -- ---- the pivot's slot becomes dead
 
-one-half : (dead : ℕ) → bitXor dead (2 ^ 0) / 2 ≡ dead / 2
+pub one-half : (dead : ℕ) → bitXor dead (2 ^ 0) / 2 ≡ dead / 2
 one-half dead = xor-shr dead 1 1 ∙ xor-zero-r (dead / 2)
 
 one-low : (dead : ℕ) → dead % 2 ≡ 0 → bitXor dead (2 ^ 0) % 2 ≡ 1
 one-low dead h = omega (arith, digit-xor 0 dead 1, digit-zero dead, digit-zero (bitXor dead 1), digit-zero 1)
 
-more-half : (dead k : ℕ) → bitXor dead (2 ^ suc k) / 2 ≡ bitXor (dead / 2) (2 ^ k)
+pub more-half : (dead k : ℕ) → bitXor dead (2 ^ suc k) / 2 ≡ bitXor (dead / 2) (2 ^ k)
 more-half dead k =
     let half : 2 ^ suc k / 2 ≡ 2 ^ k = omega arith in
     xor-shr dead (2 ^ suc k) 1 ∙ ap (bitXor (dead / 2)) half
@@ -99,13 +99,13 @@ more-half dead k =
 none-added : (d e : ℕ) → d < 2 → e ≡ 0 → (d + e) % 2 ≡ d
 none-added d e l h = omega arith
 
-more-low : (dead k : ℕ) → bitXor dead (2 ^ suc k) % 2 ≡ dead % 2
+pub more-low : (dead k : ℕ) → bitXor dead (2 ^ suc k) % 2 ≡ dead % 2
 more-low dead k =
     let even : 2 ^ suc k % 2 ≡ 0 = omega arith in
     sym (digit-zero (bitXor dead (2 ^ suc k))) ∙ digit-xor 0 dead (2 ^ suc k)
     ∙ none-added (digit 0 dead) (digit 0 (2 ^ suc k)) (mod2-lt (dead / 2 ^ 0)) (digit-zero (2 ^ suc k) ∙ even) ∙ digit-zero dead
 
-step-nil : (c : ℕ) → step c [] ≡ []
+pub step-nil : (c : ℕ) → step c [] ≡ []
 unfolding step
 step-nil c = refl
 
@@ -156,3 +156,24 @@ kept-same c (w ∷ ws) dead h =
     (λ (e : dead % 2 ≡ 0).
     ap (step c) (kept-alive dead w ws e) ∙ step-even c w (kept (dead / 2) ws) first ∙ ap (λ (l : List ℕ). w ∷ l) later ∙ sym (kept-alive dead w ws e))
     (λ (e : dead % 2 ≡ 1). ap (step c) (kept-dead dead w ws e) ∙ later ∙ sym (kept-dead dead w ws e)) (bit-cases (dead % 2) (mod2-lt dead))
+
+-- only the words of the slots that aren't dead count
+pub kept-alike : (dead : ℕ) (us ws : List ℕ) → length us ≡ length ws → ((i : ℕ) → i < length us → digit i dead ≡ 0 → getD us i 0 ≡ getD ws i 0) → kept dead us ≡ kept dead ws
+kept-alike dead [] [] e same = refl
+kept-alike dead [] (w ∷ ws) e same = let z : ⊥ = omega arith in absurd z
+kept-alike dead (u ∷ us) [] e same = let z : ⊥ = omega arith in absurd z
+kept-alike dead (u ∷ us) (w ∷ ws) e same =
+    let later : kept (dead / 2) us ≡ kept (dead / 2) ws = kept-alike (dead / 2) us ws (omega arith) (λ i l h. same (suc i) (omega arith) (digit-suc i dead ∙ h)) in
+    ⊎-elim
+    (λ (z : dead % 2 ≡ 0). kept-alive dead u us z ∙ ap₂ (λ (x : ℕ) (l : List ℕ). x ∷ l) (same 0 (omega arith) (digit-zero dead ∙ z)) later ∙ sym (kept-alive dead w ws z))
+    (λ (z : dead % 2 ≡ 1). kept-dead dead u us z ∙ later ∙ sym (kept-dead dead w ws z)) (bit-cases (dead % 2) (mod2-lt dead))
+
+-- the words in front, and behind them only dead slots
+pub kept-front : (dead : ℕ) (ws zs : List ℕ) → ((i : ℕ) → i < length ws → digit i dead ≡ 0) → ((i : ℕ) → length ws ≤ i → i < length ws + length zs → digit i dead ≡ 1) → kept dead (ws ++ zs) ≡ ws
+kept-front dead [] [] a d = kept-none dead
+kept-front dead [] (z ∷ zs) a d =
+    kept-dead dead z zs (sym (digit-zero dead) ∙ d 0 (omega arith) (omega arith))
+    ∙ kept-front (dead / 2) [] zs (λ i l. absurd (not-suc-le-zero l)) (λ i l h. sym (digit-suc i dead) ∙ d (suc i) (omega arith) (omega arith))
+kept-front dead (w ∷ ws) zs a d =
+    kept-alive dead w (ws ++ zs) (sym (digit-zero dead) ∙ a 0 (omega arith))
+    ∙ ap (λ (l : List ℕ). w ∷ l) (kept-front (dead / 2) ws zs (λ i l. sym (digit-suc i dead) ∙ a (suc i) (omega arith)) (λ i l h. sym (digit-suc i dead) ∙ d (suc i) (omega arith) (omega arith)))

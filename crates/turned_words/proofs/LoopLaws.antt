@@ -1,25 +1,23 @@
--- The start, turn and end of the loops over marks, over slots and over columns. Assumes nothing.
+-- The start, turn and end of the loops over marks and over columns. Assumes nothing.
 use mathlib.Core.Path.{_≡_, refl, sym, ap, ap₂, _∙_, subst}
-use mathlib.Core.Logic.{_⊎_, ⊎-elim, dite}
-use mathlib.Core.List.{List, [], _∷_, _++_, append-nil}
-use Prim.Native.Nat.{ℕ, zero, suc, _+_, _-_, _*_, _/_, _%_, _^_, _≤_, _<_, min}
-use native.Mathlib.Nat.{le-refl, zero-mul, one-mul, mod-lt}
+use mathlib.Core.Logic.{dite}
+use mathlib.Core.List.{List, []}
+use Prim.Native.Nat.{ℕ, _+_, _-_, _*_, _%_, _^_, _≤_, _<_, min}
+use native.Mathlib.Nat.{zero-mul, one-mul, mod-lt}
 use native.Mathlib.Numerals.{add-one}
 use native.Mathlib.Decide.{decLt, ℕ-discrete}
 use native.Mathlib.Omega.{arith}
 use lib.Bits.{bitXor, bitAnd, and-mask, xor-zero-r}
-use lib.ListN.{length, getD, take, drop, set, length-set, drop-of-length-le}
+use lib.ListN.{length, getD, drop, set, length-set, drop-of-length-le}
 use lib.Pow.{pow-pos}
-use lib.Seq.{drop-cons, take-suc-set, take-set-le, drop-set-lt, append-snoc, length-take-le, take-length, getD-set-same, getD-set-other}
+use lib.Seq.{drop-cons, getD-set-same, getD-set-other}
 use Rattle.word.specs.Word.{digit, lowMask}
-use Rattle.word.proofs.Laws.{bit-cases, mod2-lt}
 use Rattle.word.proofs.LowestLaws.{Lowest, digit-mod, digit-past, below-lowest, above-lowest, lowest-gone, lowest-less}
 use Rattle.word.proofs.MarkedLaws.{masked-below, mark-inside}
 use Rattle.combinations.specs.Step.{step, steps}
 use Rattle.combinations.proofs.StepLaws.{steps-none}
-use Rattle.turned_words.specs.Turned.{kept, Turns, HeldTurned, XoredInto}
-use Rattle.turned_words.proofs.KeptLaws.{kept-none, kept-alive, kept-dead}
-use Rattle.turned_words.proofs.TurnedLaws.{turned-empty, turned-start}
+use Rattle.turned_words.specs.Turned.{HeldTurned, XoredInto}
+use Rattle.turned_words.proofs.TurnedLaws.{turned-empty}
 
 -- ---- the loop over the marks: with x in the words of the bits in `left` too, it is in those of all marks
 
@@ -92,56 +90,7 @@ into-end l l′ marks x left t z =
           ∙ t .each i li;
     }
 
--- ---- the loop over the slots: the words kept stand at the front, and those from slot k on are as they were
-
-pub record Keeping (dead : ℕ) (l ws : List ℕ) (rest at k : ℕ) : Type 0 where
-  pub below : at ≤ k
-  pub inside : k ≤ length l
-  pub long : length ws ≡ length l
-  pub done : take at ws ++ kept rest (drop k ws) ≡ kept dead l
-
-pub keeping-start : (dead : ℕ) (l : List ℕ) → Keeping dead l l dead 0 0
-keeping-start dead l = record { below = le-refl 0; inside = omega arith; long = refl; done = refl }
-
-pub keeping-turn : (dead : ℕ) (l ws : List ℕ) (rest at k : ℕ) → Keeping dead l ws rest at k → k < length ws
-    → Keeping dead l (set ws at (getD ws k 0)) (rest / 2) (at + (1 - rest % 2)) (k + 1)
-keeping-turn dead l ws rest at k t h =
-    record {
-      below = omega (arith, t .below);
-      inside = omega (arith, t .long);
-      long = length-set ws at w ∙ t .long;
-      done = ⊎-elim alive gone (bit-cases (rest % 2) (mod2-lt rest)) ∙ t .done;
-    }
-  where
-    w : ℕ
-    w = getD ws k 0
-
-    later : drop (k + 1) (set ws at w) ≡ drop (suc k) ws
-    later = ap (λ (n : ℕ). drop n (set ws at w)) (add-one k) ∙ drop-set-lt (suc k) ws at w (omega (arith, t .below))
-
-    alive : rest % 2 ≡ 0 → take (at + (1 - rest % 2)) (set ws at w) ++ kept (rest / 2) (drop (k + 1) (set ws at w)) ≡ take at ws ++ kept rest (drop k ws)
-    alive e =
-        let next : at + (1 - rest % 2) ≡ suc at = omega arith in
-        ap₂ (λ (n : ℕ) (x : List ℕ). take n (set ws at w) ++ kept (rest / 2) x) next later
-        ∙ ap (λ (x : List ℕ). x ++ kept (rest / 2) (drop (suc k) ws)) (take-suc-set ws at w (omega (arith, t .below)))
-        ∙ append-snoc (take at ws) w (kept (rest / 2) (drop (suc k) ws))
-        ∙ ap (λ (x : List ℕ). take at ws ++ x) (sym (ap (kept rest) (drop-cons ws k 0 h) ∙ kept-alive rest w (drop (suc k) ws) e))
-
-    gone : rest % 2 ≡ 1 → take (at + (1 - rest % 2)) (set ws at w) ++ kept (rest / 2) (drop (k + 1) (set ws at w)) ≡ take at ws ++ kept rest (drop k ws)
-    gone e =
-        let next : at + (1 - rest % 2) ≡ at = omega arith in
-        ap₂ (λ (n : ℕ) (x : List ℕ). take n (set ws at w) ++ kept (rest / 2) x) next later
-        ∙ ap (λ (x : List ℕ). x ++ kept (rest / 2) (drop (suc k) ws)) (take-set-le at ws at w (le-refl at))
-        ∙ ap (λ (x : List ℕ). take at ws ++ x) (sym (ap (kept rest) (drop-cons ws k 0 h) ∙ kept-dead rest w (drop (suc k) ws) e))
-
-pub keeping-end : (dead : ℕ) (l ws : List ℕ) (rest at k : ℕ) → Keeping dead l ws rest at k → length ws ≤ k
-    → (at ≡ length (kept dead l)) × (take at ws ≡ kept dead l)
-keeping-end dead l ws rest at k t h =
-    let all : take at ws ≡ kept dead l =
-    sym (append-nil (take at ws)) ∙ ap (λ (x : List ℕ). take at ws ++ x) (sym (ap (kept rest) (drop-of-length-le ws h) ∙ kept-none rest)) ∙ t .done in
-    (sym (length-take-le at ws (omega (arith, t .below, t .inside, t .long))) ∙ ap length all, all)
-
--- ---- the loop over the columns: the list held, after the columns that are left, is the list after all of them
+-- ---- the loop over the columns: those from place i on are still to be put to the words held
 
 pub record Taking (cs l ws rows : List ℕ) (dead i : ℕ) : Type 0 where
   pub now-held : List ℕ
@@ -173,20 +122,3 @@ pub taking-end : (cs l ws rows : List ℕ) (dead i : ℕ) → Taking cs l ws row
 unfolding steps
 taking-end cs l ws rows dead i t h =
     subst (λ (x : List ℕ). HeldTurned ws x rows dead) (ap (λ (x : List ℕ). steps x (t .now-held)) (sym (drop-of-length-le cs h)) ∙ t .done) (t .turned)
-
--- ---- the words turned, after all the columns, and those that are kept
-
-pub columns-taken : (cs ws ws′ last rows rows′ : List ℕ) (dead r : ℕ) → length ws ≤ 64 → ((i : ℕ) → getD ws i 0 < 2 ^ 64) → Turns (take 64 ws) rows
-    → ((l : List ℕ) → HeldTurned ws l rows 0 → HeldTurned ws′ (steps cs l) rows′ dead) → (r ≡ length (kept dead ws′)) × (take r last ≡ kept dead ws′)
-    → (r ≡ length (steps cs ws)) × (take r last ≡ steps cs ws)
-columns-taken cs ws ws′ last rows rows′ dead r few small t f k =
-    let held : kept dead ws′ ≡ steps cs ws = f ws (turned-start ws rows few small t) .held in
-    (k .0 ∙ ap length held, k .1 ∙ held)
-
--- no column: the words as they are
-pub turned-none : (cs l : List ℕ) → length cs ≡ 0 → (length l ≡ length (steps cs l)) × (take (length l) l ≡ steps cs l)
-unfolding steps
-turned-none cs l h =
-    let none : cs ≡ [] = drop-of-length-le cs {i = 0} (omega arith) in
-    let same : l ≡ steps cs l = ap (λ (x : List ℕ). steps x l) (sym none) in
-    (ap length same, take-length l ∙ same)

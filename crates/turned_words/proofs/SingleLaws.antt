@@ -1,16 +1,16 @@
 -- The words of single bits in 64 slots are their own rows, and how many words 64 slots hold. Assumes nothing.
 use mathlib.Core.Path.{_≡_, refl, sym, ap, ap₂, _∙_, subst}
-use mathlib.Core.Logic.{_⊎_, ⊎-elim, dite}
+use mathlib.Core.Logic.{⊎-elim, dite}
 use mathlib.Core.List.{List, [], _∷_, _++_, append-nil}
 use Prim.Native.Nat.{ℕ, zero, suc, _+_, _-_, _*_, _/_, _%_, _^_, _≤_, _<_, min}
 use native.Mathlib.Nat.{zero-add, suc-mul, mul-assoc, mul-mod-left, pow-suc}
 use native.Mathlib.Numerals.{add-one}
 use native.Mathlib.Decide.{decLt, ℕ-discrete}
 use native.Mathlib.Omega.{arith}
-use lib.Count.{ones, ones-step, ones-le}
-use lib.ListN.{length, getD, set, replicate, length-append, getD-replicate, List·getD-eq-default, List·getD-append}
+use lib.Count.{ones, ones-step}
+use lib.ListN.{length, getD, set, length-append, getD-replicate, List·getD-eq-default, List·getD-append}
 use lib.Seq.{set-at, append-snoc}
-use lib.Pow.{pow-pos, pow-lt, pow-mono, pow-add}
+use lib.Pow.{pow-pos, pow-lt, pow-add}
 use Rattle.word.specs.Word.{digit, parity, lowMask}
 use Rattle.word.specs.Parities.{parities}
 use Rattle.word.specs.Zeros.{zeros, filled}
@@ -19,7 +19,7 @@ use Rattle.word.proofs.LowestLaws.{digit-mod, digit-past}
 use Rattle.word.proofs.FrontLaws.{length-zeros}
 use Rattle.combinations.specs.Step.{units}
 use Rattle.combinations.proofs.Units.{length-units, units-at, power-top, one-bit}
-use Rattle.turned_words.specs.Turned.{kept, turnedRow, Turns, HeldTurned, deadBehind}
+use Rattle.turned_words.specs.Turned.{kept, HeldTurned, deadBehind}
 use Rattle.turned_words.proofs.KeptLaws.{kept-none, kept-alive, kept-dead, kept-full}
 use Rattle.turned_words.proofs.TurnedLaws.{last-even, last-odd, power-other}
 

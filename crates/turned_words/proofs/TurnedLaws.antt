@@ -1,16 +1,16 @@
 -- Words held as their rows: a column's parities with all words at once, the step with a pivot, and the words read off again. Assumes
 -- nothing.
 use mathlib.Core.Path.{_≡_, refl, sym, ap, ap₂, _∙_, subst}
-use mathlib.Core.Logic.{_⊎_, ⊎-elim, dite}
+use mathlib.Core.Logic.{⊎-elim, dite}
 use mathlib.Core.List.{List, [], _∷_, _++_}
 use Prim.Native.Nat.{ℕ, zero, suc, _+_, _-_, _*_, _/_, _%_, _^_, _≤_, _<_, min}
-use native.Mathlib.Nat.{add-zero, zero-mul, one-mul, mod-lt, mod-one, mod-eq-of-lt, lt-of-lt-of-le, le-of-suc-le-suc}
+use native.Mathlib.Nat.{zero-mul, one-mul, mod-lt, mod-one, mod-eq-of-lt}
 use native.Mathlib.Numerals.{one-add, add-one}
 use native.Mathlib.Decide.{decLt, ℕ-discrete}
 use native.Mathlib.Omega.{arith}
 use lib.Bits.{bitXor, xor-comm, xor-zero-r, xor-self, xor-shifted, xor-lt}
 use lib.ListN.{length, getD, take, getD-replicate}
-use lib.Pow.{pow-pos, pow-lt, pow-mono, mod-pow-add}
+use lib.Pow.{pow-pos, pow-lt, mod-pow-add}
 use lib.Seq.{take-all, take-suc, length-take-le, ext-getD}
 use Rattle.word.specs.Word.{digit, parity, lowMask}
 use Rattle.word.specs.Parities.{parities}
@@ -23,7 +23,7 @@ use Rattle.word.proofs.LowestLaws.{Lowest, digit-past, below-lowest}
 use Rattle.word.proofs.FrontLaws.{length-zeros}
 use Rattle.word.proofs.MarkedLaws.{mark-inside}
 use Rattle.combinations.specs.Step.{byParity, cleared, step}
-use Rattle.combinations.proofs.StepLaws.{length-cleared, step-even}
+use Rattle.combinations.proofs.StepLaws.{length-cleared}
 use Rattle.combinations.proofs.Units.{power-digit, one-bit}
 use Rattle.turned_words.specs.Turned.{kept, turnedRow, Turns, HeldTurned, XoredInto}
 use Rattle.turned_words.proofs.KeptLaws.{Gone, kept-all, kept-full, kept-same, step-kept}

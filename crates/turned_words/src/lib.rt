@@ -3,14 +3,14 @@
 // the rows, go from one bit that is 1 to the next. A word that is dropped leaves its slot dead. It sees words and combinations.
 ghost use mathlib.Core.Path.{_≡_};
 ghost use mathlib.Core.List.{List};
-ghost use Prim.Native.Nat.{ℕ, min, _≤_, _<_};
+ghost use Prim.Native.Nat.{ℕ, min, _<_};
 ghost use lib.ListN.{length, take};
 ghost use Rattle.word.specs.Zeros.{zeros, filled};
 ghost use Rattle.combinations.specs.Step.{step, steps, units};
 ghost use Rattle.turned_words.specs.Turned.{kept, Turns, HeldTurned, XoredInto, deadBehind};
 
 // XORs x into the words whose bit in `marks` is 1, bit i for word i. It goes from one such bit to the next.
-fn xor_into(words: &mut [u64], marks: u64, x: u64)
+pub fn xor_into(words: &mut [u64], marks: u64, x: u64)
     ensures { λ _. ⌜ XoredInto (now (words .entry)) (now (words .exit)) marks x ⌝ }
 {
     let mut left = marks & word::low_mask(words.len() as u64);
@@ -99,62 +99,4 @@ pub fn dead_behind(m: usize) -> u64
     ensures { λ r. ⌜ r ≡ deadBehind m ⌝ }
 {
     0xffff_ffff_ffff_ffff - word::low_mask(m as u64)
-}
-
-// Moves the words of the slots that aren't dead to the front; answers with how many they are.
-fn keep_alive(words: &mut [u64], dead: u64) -> usize
-    ensures { λ r. ⌜ (r ≡ length (kept dead (now (words .entry)))) × (take r (now (words .exit)) ≡ kept dead (now (words .entry))) ⌝ }
-{
-    let mut rest = dead;
-    let mut at: usize = 0;
-    let mut k: usize = 0;
-    while k < words.len() {
-        let w = words[k];
-        words[at] = w;
-        at += 1 - (rest % 2) as usize;
-        rest = rest / 2;
-        k += 1;
-    }
-    at
-}
-
-// By turned words a column takes less time, but turning them in takes some. These are estimates: with how many words and for how many
-// columns it pays, and for how many of the columns. Behind these most of the rank is found, and a table passes over columns faster.
-const FEWEST_TURNED_WORDS: usize = 8;
-
-const FEWEST_TURNED_COLUMNS: usize = 16;
-
-const MOST_TURNED_COLUMNS: usize = 128;
-
-// How many of the columns, from the first on, are taken by turned words. More than 64 words can't be turned.
-pub fn turned_count(words: usize, columns: usize) -> usize
-    ensures { λ r. ⌜ (r ≤ columns) × (0 < r → words ≤ 64) ⌝ }
-{
-    if 64 < words {
-        return 0;
-    }
-    if words < FEWEST_TURNED_WORDS {
-        return 0;
-    }
-    if columns < FEWEST_TURNED_COLUMNS {
-        return 0;
-    }
-    if columns < MOST_TURNED_COLUMNS {
-        columns
-    } else {
-        MOST_TURNED_COLUMNS
-    }
-}
-
-// The columns one after the other, for a list of at most 64 words: answers with how many words are left, which stand at the front of
-// `words`. Without a column nothing is turned, and the list may have any length; of a longer list with columns nothing is promised.
-pub fn add_turned_columns(words: &mut [u64], columns: &[u64]) -> usize
-    ensures { λ r. ⌜ ((0 < length (now (columns .entry)) → length (now (words .entry)) ≤ 64) → (r ≡ length (steps (now (columns .entry)) (now (words .entry)))) × (take r (now (words .exit)) ≡ steps (now (columns .entry)) (now (words .entry)))) ⌝ }
-{
-    if columns.len() == 0 {
-        return words.len();
-    }
-    let mut rows = turn(words);
-    let dead = take_columns(words, &mut rows[..], 0, columns);
-    keep_alive(words, dead)
 }

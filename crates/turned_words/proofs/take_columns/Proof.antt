@@ -2,7 +2,6 @@
 use mathlib.Core.Path.{_≡_, refl, _∙_}
 use mathlib.Core.List.{List}
 use Prim.Native.Nat.{ℕ, _-_}
-use native.Mathlib.Omega.{arith}
 use lib.ListN.{length}
 use Rattle.turned_words.specs.Turned.{HeldTurned}
 use Rattle.turned_words.proofs.LoopLaws.{Taking, taking-start, taking-turn, taking-empty, taking-end}

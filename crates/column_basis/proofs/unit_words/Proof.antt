@@ -3,10 +3,10 @@ use mathlib.Core.Path.{_≡_}
 use Prim.Native.Nat.{_≤_, _-_}
 use lib.ListN.{length, take}
 use Rattle.combinations.specs.Step.{units}
-use Rattle.elimination.proofs.LoopLaws.{units-start, units-turn, units-end}
+use Rattle.column_basis.proofs.LoopLaws.{no-words-long, units-start, units-turn, units-end}
 use borrow.Author.Needs.{needs}
-use Rattle.elimination.proofs.unit_words.Statement.{statement}
-use Rattle.elimination.proofs.unit_words.Tie as tie
+use Rattle.column_basis.proofs.unit_words.Statement.{statement}
+use Rattle.column_basis.proofs.unit_words.Tie as tie
 
 abbrev Inv-loop : tie.InvT-loop
 Inv-loop words₀ i₀ words i = (i ≤ 64) × (length words ≡ 64) × (take i words ≡ units i)
@@ -18,7 +18,7 @@ no-words-requires : tie.Need-no-words-requires Inv-loop μ-loop
 no-words-requires c κs = search needs
 
 loop-holds : tie.Need-loop-holds Inv-loop μ-loop
-loop-holds c = (search needs, c .no-words .ensures, units-start (c .no-words .result))
+loop-holds c = (search needs, no-words-long _ (c .no-words .ensures), units-start (c .no-words .result))
 
 shl-words : tie.Need-shl-words Inv-loop μ-loop
 shl-words c = search needs

@@ -1,0 +1,4 @@
+pub mod BitLaws
+pub mod BasisLaws
+pub mod SettledLaws
+pub mod LoopLaws
