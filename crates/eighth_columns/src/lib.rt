@@ -18,8 +18,9 @@ use register::Register;
 use rows::Rows;
 use set_file::Taken;
 
-// The words of the row's marked cells over the end of the list, and then each of them as many clocks later as are left over from whole eights, by
-// the table. Answers with how many places stand before them. Where the list is shorter than the words, the first of them are lost.
+// The columns of a row's marked cells over the end of the list, for a slice that so many clocks follow, where `words` are the chains' words after
+// the whole eights of these: the words are listed, and then advanced by the clocks between. Answers with how many places stand before them.
+// Where the list is shorter than the columns, the first of them are lost.
 fn list_slice(
     register: Register,
     table: &[u64; 256],
@@ -36,8 +37,8 @@ fn list_slice(
     place
 }
 
-// The chains' words for the slice before one of which so many clocks are left: where these are one short of whole eights, the words are advanced
-// 8 clocks, by the table.
+// The chains' words for the slice before one that so many clocks follow, from those for it: eight slices share their words, and past the last of
+// these they are advanced by 8 clocks, by the table.
 fn pass_slice(register: Register, table: &[u64; 256], clocks: u16, words: &mut [u64])
     ensures { λ _. ⌜ now (words .exit) ≡ cond (eqb (clocks % 8) 7) (map (lookedOn (min (register .m) 64) (now (table .entry)) 8) (now (words .entry))) (now (words .entry)) ⌝ }
 {
