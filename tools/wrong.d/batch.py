@@ -1395,7 +1395,7 @@ class Batch:
             self.call("written_numbers::put_32", [self.pick([0, 1, 8]), self.pick([0, 1, 9])], a=self.junk(self.pick([31, 32, 41])), d=self.junk(self.pick([31, 32, 33, 40, 50])))
             self.call("sparse_columns::ones_pay", [self.pick([0, 1, 13, 14, 122, 123, 1006, 1023, 1024, self.pick(NUMBERS)]), self.pick([1, 8, 255, 256, 257, 65535]), self.pick([0, 1, 8, 64, 511, 512, 513])])
             costs = [self.pick([0, 7, 8, 64, 65, self.pick(NUMBERS)]),
-                     self.pick([0, 1, 5, 523, 524, 1711, 1712, 48063, 48064, 65535, 65536, self.pick(NUMBERS)]),
+                     self.pick([0, 1, 5, 439, 440, 1711, 1712, 51340, 51341, 65535, 65536, self.pick(NUMBERS)]),
                      self.pick([1, 8, 255, 256, 257, 65535]), self.pick([0, 1, 8, 64, 511, 512, 513])]
             self.call("column_costs::eights_least", costs)
             self.call("column_costs::ones_less", costs)

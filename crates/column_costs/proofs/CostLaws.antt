@@ -4,9 +4,8 @@ use mathlib.Core.Bool.{Bool, false, _&&_}
 use Prim.Native.Nat.{ℕ, _+_, _*_, _≤_, _<_, min}
 use native.Mathlib.Nat.{mul-le-mul-left, mul-le-mul-right}
 use native.Mathlib.Omega.{arith}
-use borrow.Author.Tests.{le-ltb, le-leb, lt-leb}
-use lib.Dec.{ltb, leb}
-use Rattle.word.proofs.BoolLaws.{and-none}
+use borrow.Author.Tests.{le-ltb}
+use lib.Dec.{ltb}
 use Rattle.column_costs.specs.Costs.{cells, sweepCost, eightsCost, onesCost, eightsLeast, onesLess}
 
 -- there are at most 131,072 cells
@@ -23,16 +22,11 @@ module _ (m k n s : ℕ) where
   most : cells n s ≤ 131072
   most = cells-most (min s 512) (min n 256) (omega arith) (omega arith)
 
-  pub narrow-not-by-eights : m < 8 → false ≡ eightsLeast m k n s
-  unfolding eightsLeast
-  narrow-not-by-eights h =
-      sym (ap (λ (b : Bool). b && (ltb (eightsCost k n s) (sweepCost n s) && ltb (eightsCost k n s) (onesCost m k s))) (lt-leb 8 m h))
-
   pub many-not-by-eights : 65536 ≤ k → false ≡ eightsLeast m k n s
   unfolding eightsLeast
   many-not-by-eights h =
       let over : ltb (eightsCost k n s) (sweepCost n s) ≡ false = le-ltb (eightsCost k n s) (sweepCost n s) (omega (arith, most)) in
-      sym (ap (λ (b : Bool). leb 8 m && (b && ltb (eightsCost k n s) (onesCost m k s))) over ∙ and-none (leb 8 m))
+      sym (ap (λ (b : Bool). b && ltb (eightsCost k n s) (onesCost m k s)) over)
 
   pub many-not-by-ones : 65536 ≤ k → false ≡ onesLess m k n s
   unfolding onesLess
@@ -41,12 +35,11 @@ module _ (m k n s : ℕ) where
       sym (le-ltb (onesCost m k s) (sweepCost n s) (omega (arith, most, ones-many (min m 64 + 16) k one h)))
 
   -- the tests of the costs
-  pub eights-tested : (eights sweep ones : ℕ) → 8 ≤ m → eights ≡ eightsCost k n s → sweep ≡ sweepCost n s → ones ≡ onesCost m k s
+  pub eights-tested : (eights sweep ones : ℕ) → eights ≡ eightsCost k n s → sweep ≡ sweepCost n s → ones ≡ onesCost m k s
       → (ltb eights sweep && ltb eights ones) ≡ eightsLeast m k n s
   unfolding eightsLeast
-  eights-tested eights sweep ones h ee es eo =
+  eights-tested eights sweep ones ee es eo =
       ap₂ (λ (x y : ℕ). ltb x y && ltb x ones) ee es ∙ ap (λ (x : ℕ). ltb (eightsCost k n s) (sweepCost n s) && ltb (eightsCost k n s) x) eo
-      ∙ sym (ap (λ (b : Bool). b && (ltb (eightsCost k n s) (sweepCost n s) && ltb (eightsCost k n s) (onesCost m k s))) (le-leb 8 m h))
 
   pub ones-tested : (ones sweep : ℕ) → ones ≡ onesCost m k s → sweep ≡ sweepCost n s → ltb ones sweep ≡ onesLess m k n s
   unfolding onesLess

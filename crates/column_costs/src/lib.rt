@@ -11,7 +11,7 @@ ghost use Rattle.column_costs.specs.Costs.{cells, sweepCost, eightsCost,
 const SWEPT_SLICE_COST: u64 = 16;
 
 // By eights of clocks so many cells cost 1, and so much costs each slice, each column, and the table of 8 clocks.
-const CELLS_FOR_ONE: u64 = 4;
+const CELLS_FOR_ONE: u64 = 5;
 
 const SLICE_COST: u64 = 20;
 
@@ -69,13 +69,9 @@ fn ones_cost(m: u64, count: usize, s: u16) -> u64
 }
 
 // Whether so many columns, of a register of width m and n chains in s slices, cost less by eights of clocks than by a sweep and than one by one.
-// A register of fewer than 8 bits can't be clocked by eights.
 pub fn eights_least(m: u64, count: usize, n: u16, s: u16) -> bool
     ensures { λ r. ⌜ r ≡ eightsLeast m count n s ⌝ }
 {
-    if m < 8 {
-        return false;
-    }
     if MANY <= count {
         return false;
     }

@@ -1,7 +1,8 @@
--- Up to 8 clocks at once. Of a register of at least 8 bits, whatever its tap word is, and of any word:
+-- Up to 8 clocks at once, of a register of at least 8 bits; its tap word and the words may have bits at or above the width:
 --
---   looked-later   a word moved up and looked up is the word some clocks later
---   table-turns    a bit more of the table, by doubling
+--   looked-later   a word moved up, with what is looked up for the bits that leave the width, is the word some clocks later
+--   entry-few      .. by one table for every number of clocks: bits that stand lower take some clocks to the top, where nothing comes back
+--   table-starts, table-turns, table-ends   the table made by doubling
 --
 -- Assumes nothing.
 use mathlib.Core.Path.{_≡_, refl, sym, ap, ap₂, _∙_, subst}
@@ -11,10 +12,10 @@ use Prim.Native.Nat.{ℕ, zero, suc, _+_, _-_, _*_, _/_, _%_, _^_, _≤_, _<_, m
 use native.Mathlib.Omega.{arith}
 use native.Mathlib.Decide.{decLt}
 use native.Mathlib.Numerals.{add-one}
-use native.Mathlib.Nat.{pow-suc, mod-lt, mod-self, mod-eq-of-lt, div-self, one-mul, zero-mul, mul-one, mul-comm, mul-assoc, lt-of-lt-of-le}
+use native.Mathlib.Nat.{pow-suc, mod-lt, mod-self, mod-eq-of-lt, div-self, one-mul, zero-mul, mul-one, mul-comm, mul-assoc, mul-mod-left, lt-of-lt-of-le}
 use lib.Bits.{bitXor, bitAnd, xor-comm, xor-shifted, xor-zero-r, xor-zero-l, and-mask, and-le-r}
 use lib.ListN.{length, getD}
-use lib.Pow.{pow-pos, pow-add, pow-mono, pow-lt, shl-lt, shl-shr, low, split, mod-pow-add, mod-mod-pow}
+use lib.Pow.{pow-pos, pow-add, pow-mono, pow-lt, shl-lt, shl-shr, split, mod-pow-add, mod-mod-pow}
 use Rattle.word.specs.Word.{digit, lowMask}
 use Rattle.word.specs.Zeros.{zeros}
 use Rattle.word.specs.Doubled.{Doubled}
@@ -37,9 +38,6 @@ advanced-up m t x some h =
     let under : x < 2 ^ (m - 1) = omega (arith, top-power m some) in
     ap₂ bitXor (mod-eq-of-lt h) (ap (λ (d : ℕ). chosen d t) (digit-past (m - 1) x (m - 1) under (omega arith))) ∙ xor-zero-r (x * 2)
 
-multiple : (h m : ℕ) → h * 2 ^ m % 2 ^ m ≡ 0
-multiple h m = let plain : h * 2 ^ m ≡ h * 2 ^ m + 0 = omega arith in ap (λ (x : ℕ). x % 2 ^ m) plain ∙ low h m (pow-pos m)
-
 advanced-past : (m t h : ℕ) → 1 ≤ m → advanced m t (h * 2 ^ m) ≡ 0
 unfolding advanced
 advanced-past m t h some =
@@ -49,7 +47,7 @@ advanced-past m t h some =
     let even : h * 2 % 2 ≡ 0 = omega arith in
     let clear : digit (m - 1) (h * 2 ^ m) ≡ 0 =
     ap (digit (m - 1)) half ∙ ap (λ (x : ℕ). x % 2) (shl-shr (h * 2) (m - 1)) ∙ even in
-    ap₂ (λ (x d : ℕ). bitXor x (chosen d t)) (ap (λ (x : ℕ). x % 2 ^ m) twice ∙ multiple (h * 2) m) clear
+    ap₂ (λ (x d : ℕ). bitXor x (chosen d t)) (ap (λ (x : ℕ). x % 2 ^ m) twice ∙ mul-mod-left (h * 2) (2 ^ m)) clear
 
 advanced-top : (m t : ℕ) → 1 ≤ m → advanced m t (2 ^ (m - 1)) ≡ t
 unfolding advanced
@@ -106,7 +104,7 @@ module _ (k : Circuit) (wide : 8 ≤ k .width) where
         let sum : m ≡ m - j + j = omega arith in
         let plain : w % 2 ^ (m - j) * 2 ^ j + 0 ≡ w % 2 ^ (m - j) * 2 ^ j = omega arith in
         ap (λ (y : ℕ). w * 2 ^ j % 2 ^ y) sum ∙ mod-pow-add (w * 2 ^ j) (m - j) j
-        ∙ ap₂ (λ (x y : ℕ). x % 2 ^ (m - j) * 2 ^ j + y) (shl-shr w j) (multiple w j) ∙ plain
+        ∙ ap₂ (λ (x y : ℕ). x % 2 ^ (m - j) * 2 ^ j + y) (shl-shr w j) (mul-mod-left w (2 ^ j)) ∙ plain
 
   pub looked-later : (l : List ℕ) → EightOn k l → (j w : ℕ) → j ≤ 8 → lookedOn (k .width) l j w ≡ later k j w
   unfolding lookedOn later

@@ -2,7 +2,7 @@
 use mathlib.Core.Path.{_≡_, refl, sym, ap, ap₂, _∙_}
 use mathlib.Core.Bool.{Bool, true, false, cond}
 use mathlib.Core.List.{List, [], _∷_, _++_, map}
-use Prim.Native.Nat.{ℕ, suc, _+_, _-_, _*_, _/_, _%_, _≤_, _<_}
+use Prim.Native.Nat.{ℕ, suc, _+_, _-_, _*_, _/_, _%_, _≤_, _<_, min}
 use native.Mathlib.Omega.{arith}
 use borrow.Author.Tests.{eqb-true, eqb-false, eq-eqb, ne-eqb}
 use lib.Dec.{eqb}
@@ -10,7 +10,8 @@ use lib.ListN.{length, take, drop, getD, length-map, length-append, length-drop}
 use lib.Seq.{take-at, length-take-le}
 use Rattle.rows.specs.Row.{cell}
 use Rattle.rows.specs.Marks.{markedWords}
-use Rattle.register.specs.Circuit.{Circuit}
+use Rattle.register.specs.Circuit.{Circuit, circuit}
+use Rattle.numbers.proofs.PartLaws.{take-limit}
 use Rattle.signatures.specs.Signature.{Response}
 use Rattle.signatures.specs.Later.{later}
 use Rattle.signatures.specs.Columns.{columnsBelow}
@@ -18,7 +19,7 @@ use Rattle.marked_words.specs.Back.{back}
 use Rattle.powers.proofs.PowerLaws.{later-add}
 use Rattle.eight_clocks.specs.Eight.{EightOn, lookedOn}
 use Rattle.eight_clocks.proofs.EightLaws.{looked-later, looked-all}
-use Rattle.swept_columns.proofs.FillLaws.{laterWords, later-words, later-words-none, later-words-get, later-words-length, later-words-suc, Filled, filled-inside, filled-room, filled-starts, filled-down, filled-ends}
+use Rattle.swept_columns.proofs.FillLaws.{laterWords, later-words, later-words-none, later-words-get, later-words-length, later-words-suc, Filled, filled-inside, filled-room, filled-starts, filled-down, filled-ends, filled-place}
 use Rattle.sparse_columns.proofs.SparseLaws.{map-chosen}
 
 -- so many clocks in whole eights
@@ -56,6 +57,10 @@ module _ (k : Circuit) (s : ℕ) (u : Response) where
   pub eighth-ends : (l₀ l ws : List ℕ) (place t : ℕ) → Eighth l₀ l place t ws → t ≡ 0 → l ≡ back (columnsBelow k s u s) l₀
   unfolding Eighth
   eighth-ends l₀ l ws place t f e = filled-ends k s u l₀ l (laterWords k (s - t) (k .spread)) place t (f .0) e
+
+  pub eighth-place : (l₀ l ws : List ℕ) (place t : ℕ) → Eighth l₀ l place t ws → t ≡ 0 → place ≡ length l₀ - length (columnsBelow k s u s)
+  unfolding Eighth
+  eighth-place l₀ l ws place t f e = filled-place k s u l₀ l (laterWords k (s - t) (k .spread)) place t (f .0) e
 
   module _ (table : List ℕ) (wide : 8 ≤ k .width) (right : EightOn k table) where
     -- the words for the slice before
@@ -125,3 +130,11 @@ looked-up t vs ws h = sym (ap (λ (b : Bool). cond b vs ws) (eq-eqb (t % 8) 7 h)
 
 pub left-alone : (t : ℕ) (vs ws : List ℕ) → (t % 8 ≡ 7 → ⊥) → ws ≡ cond (eqb (t % 8) 7) vs ws
 left-alone t vs ws h = sym (ap (λ (b : Bool). cond b vs ws) (ne-eqb (t % 8) 7 h))
+
+-- the limits on chains and slices, where the words are 256
+pub limited-columns : (m taps inversion n s chains slices : ℕ) (spread words : List ℕ) (u : Response) → chains ≡ min n 256 → slices ≡ min s 512
+    → (words ≡ spread) × (length words ≡ 256)
+    → columnsBelow (circuit m taps inversion (take chains words)) slices u slices ≡ columnsBelow (circuit m taps inversion (take n spread)) (min s 512) u (min s 512)
+limited-columns m taps inversion n s chains slices spread words u ec es ew =
+    ap₂ (λ (x : List ℕ) (y : ℕ). columnsBelow (circuit m taps inversion x) y u y)
+    (take-limit words n chains (ec ∙ ap (min n) (sym (ew .1))) ∙ ap (take n) (ew .0)) es

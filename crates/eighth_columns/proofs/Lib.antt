@@ -1,1 +1,2 @@
 pub mod EighthLaws
+pub mod RaisedLaws

@@ -198,6 +198,10 @@ module _ (k : Circuit) (s : ℕ) (u : Response) where
   unfolding Filled
   filled-ends l₀ l ws place t f e = f .2 ∙ ap (λ (x : List ℕ). back x l₀) (ap slicesFrom e ∙ slices-from-start)
 
+  pub filled-place : (l₀ l ws : List ℕ) (place t : ℕ) → Filled l₀ l place t ws → t ≡ 0 → place ≡ length l₀ - length (columnsBelow k s u s)
+  unfolding Filled
+  filled-place l₀ l ws place t f e = f .1 ∙ ap (λ (x : List ℕ). length l₀ - length x) (ap slicesFrom e ∙ slices-from-start)
+
 -- the first n words of a list through f, in place
 module _ (f : ℕ → ℕ) (vs ws : List ℕ) (n : ℕ) (h : n ≤ length ws) (e : vs ≡ map f (take n ws)) where
   part-length : length vs ≡ n

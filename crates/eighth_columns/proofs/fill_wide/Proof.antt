@@ -2,7 +2,7 @@
 -- spread words after the whole eights of as many clocks.
 use mathlib.Core.Path.{_≡_, refl, sym, ap, _∙_}
 use mathlib.Core.List.{List, [], _++_}
-use Prim.Native.Nat.{ℕ, _≤_, min}
+use Prim.Native.Nat.{ℕ, _-_, _≤_, min}
 use native.Mathlib.Omega.{arith}
 use lib.ListN.{length, take, drop}
 use lib.Seq.{length-take-le}
@@ -11,8 +11,8 @@ use Rattle.rows.specs.Lists.{cellsOf}
 use Rattle.register.specs.Circuit.{circuit}
 use Rattle.eight_clocks.specs.Eight.{EightOn}
 use Rattle.eight_clocks.proofs.EightLaws.{eight-on-same}
-use Rattle.swept_columns.proofs.FillLaws.{columns-limited}
-use Rattle.eighth_columns.proofs.EighthLaws.{Eighth, eighth-room, eighth-starts, eighth-turns, eighth-ends, first-changed, first-changed-length}
+use Rattle.marked_words.specs.Back.{back}
+use Rattle.eighth_columns.proofs.EighthLaws.{Eighth, eighth-room, eighth-starts, eighth-turns, eighth-ends, eighth-place, limited-columns, first-changed, first-changed-length}
 use borrow.Author.Needs.{needs}
 use Rattle.eighth_columns.proofs.fill_wide.Statement.{statement}
 use Rattle.eighth_columns.proofs.fill_wide.Tie as tie
@@ -101,9 +101,12 @@ same-length c = eighth-room _ _ _ _ _ _ _ _ (c .before .loop .inv .5) .0
 
 returns : tie.Need-returns Inv-loop μ-loop
 returns c =
-    eighth-ends _ _ _ _ _ _ _ _ (c .before .loop .inv .5) (omega arith)
-    ∙ columns-limited _ _ _ _ _ _ _ _ _ _ _ (c .before .before .before .before .before .before .chain-limit .ensures) (c .before .before .slice-limit .ensures)
-    (c .before .before .before .before .all-words .ensures)
+    let same =
+    limited-columns _ _ _ _ _ _ _ _ _ _ (c .before .before .before .before .before .before .chain-limit .ensures) (c .before .before .slice-limit .ensures)
+    (c .before .before .before .before .all-words .ensures) in (
+      eighth-place _ _ _ _ _ _ _ _ (c .before .loop .inv .5) (omega arith) ∙ ap (λ (x : List ℕ). length (c .before .before .before .before .before .before .before .before .before .before .args .columns .now) - length x) same,
+      eighth-ends _ _ _ _ _ _ _ _ (c .before .loop .inv .5) (omega arith) ∙ ap (λ (x : List ℕ). back x (c .before .before .before .before .before .before .before .before .before .before .args .columns .now)) same,
+    )
 
 pub fill-wide-spec : {M : Type 1} → statement M
 fill-wide-spec =
