@@ -59,12 +59,11 @@ pub singles-stand : (ws rows : List ℕ) (dead m : ℕ) → m ≤ 64 → ws ≡ 
     → HeldTurned ws (units m) rows dead
 singles-stand ws rows dead m lm ew er ed = rw ew (rw er (rw ed (singles-held m lm)))
 
--- where ws were the slots before, which the columns brought to tried, and vs are those of the words of single bits
-pub put-opened : (cs ws rows : List ℕ) (dead : ℕ) (wsᵗ rowsᵗ : List ℕ) (deadᵗ : ℕ) (vs rowsᵛ : List ℕ) (deadᵛ : ℕ) (ws′ rows′ : List ℕ) (dead′ m k tried left : ℕ)
+-- where ws were the slots before, which the columns brought to wsᵗ
+pub put-opened : (cs ws rows : List ℕ) (dead : ℕ) (wsᵗ rowsᵗ : List ℕ) (deadᵗ : ℕ) (ws′ rows′ : List ℕ) (dead′ m k tried left : ℕ)
     → Taken cs ws rows dead wsᵗ rowsᵗ deadᵗ → Stands ws rows dead → length wsᵗ ≡ 64 → Counts tried deadᵗ → tried < k
-    → HeldTurned vs (units m) rowsᵛ deadᵛ → Taken cs vs rowsᵛ deadᵛ ws′ rows′ dead′ → length ws′ ≡ 64 → Counts left dead′
+    → HeldTurned ws′ (steps cs (units m)) rows′ dead′ → length ws′ ≡ 64 → Counts left dead′
     → Stands ws′ rows′ dead′ × Turned cs m k (kept dead ws) (kept dead′ ws′) (record { dead = dead′; left = left; opened = 1 })
-put-opened cs ws rows dead wsᵗ rowsᵗ deadᵗ vs rowsᵛ deadᵛ ws′ rows′ dead′ m k tried left f t longᵗ countᵗ fewer start g long count =
+put-opened cs ws rows dead wsᵗ rowsᵗ deadᵗ ws′ rows′ dead′ m k tried left f t longᵗ countᵗ fewer after long count =
     let before : kept deadᵗ wsᵗ ≡ steps cs (kept dead ws) = f (kept dead ws) t .held in
-    let after : HeldTurned ws′ (steps cs (units m)) rows′ dead′ = g (units m) start in
     (stands-held ws′ (steps cs (units m)) rows′ dead′ after, opened (omega (arith, countᵗ wsᵗ longᵗ, ap length before)) refl (count ws′ long) (after .held))

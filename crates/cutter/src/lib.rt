@@ -6,7 +6,8 @@ ghost use mathlib.Core.Path.{_≡_};
 ghost use Prim.Native.Nat.{_≤_};
 ghost use lib.ListN.{length};
 ghost use Rattle.word.specs.Reply.{numberOf};
-ghost use Rattle.turned_words.specs.Turned.{kept};
+ghost use Rattle.combinations.specs.Step.{steps, units};
+ghost use Rattle.turned_words.specs.Turned.{kept, HeldTurned};
 ghost use Rattle.set_file.specs.Reading.{TakenFrom};
 ghost use Rattle.signatures.specs.Sets.{given};
 ghost use Rattle.unclocking.specs.Unclocked.{EightBack};
@@ -49,6 +50,18 @@ fn no_starts() -> [u64; 512]
     [0u64; 512]
 }
 
+// The columns of a slice that opens a run, put to the words of single bits. These are put into the slots first, and are their own rows.
+// Answers with the slots that are dead then.
+fn open_run(slots: &mut [u64], rows: &mut [u64], columns: &[u64], width: usize) -> u64
+    requires { ⌜ (width ≤ 64) × (length (now slots) ≡ 64) × (length (now rows) ≡ 64) ⌝ }
+    ensures { λ r. ⌜ HeldTurned (now (slots .exit)) (steps (now (columns .entry)) (units width)) (now (rows .exit)) r ⌝ }
+{
+    let bits = turned_words::single_bits(width);
+    elimination::write_front(slots, &bits);
+    elimination::write_front(rows, &bits);
+    turned_words::take_columns(slots, rows, turned_words::dead_behind(width), columns)
+}
+
 // The columns of one slice put to the words that the run so far leaves, which stand in the slots that aren't dead; where that leaves fewer
 // than k, to the words of single bits, for the slice then opens a run. The words stay turned from slice to slice: turning them in takes as
 // long as several columns.
@@ -74,11 +87,7 @@ fn put_slice(
             opened: 0,
         };
     }
-    let units = turned_words::single_bits(width);
-    elimination::write_front(slots, &units);
-    elimination::write_front(rows, &units);
-    let behind = turned_words::dead_behind(width);
-    let alone = turned_words::take_columns(slots, rows, behind, columns);
+    let alone = open_run(slots, rows, columns, width);
     Turn {
         dead: alone,
         left: turned_words::held_count(alone),
