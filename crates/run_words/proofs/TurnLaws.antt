@@ -11,7 +11,7 @@ use Rattle.word.proofs.FrontLaws.{front-all}
 use Rattle.combinations.specs.Step.{steps, units}
 use Rattle.turned_words.specs.Turned.{kept, HeldTurned, deadBehind}
 use Rattle.turned_words.proofs.SingleLaws.{singles-long, singles-held}
-use Rattle.cutter.specs.Turns.{Stands, Turned, joined, opened}
+use Rattle.run_words.specs.Joining.{Stands, Turned, joined, opened}
 
 -- slots and rows that hold some list hold that of the slots that aren't dead
 stands-held : (ws l rows : List ℕ) (dead : ℕ) → HeldTurned ws l rows dead → Stands ws rows dead
