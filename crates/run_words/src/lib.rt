@@ -26,8 +26,8 @@ fn open_run(slots: &mut [u64], rows: &mut [u64], columns: &[u64], width: usize) 
 }
 
 // The columns of one slice put to the words that the run so far leaves, which stand in the slots that aren't dead; where that leaves fewer
-// than k, to the words of single bits, for the slice then opens a run. Of slots and rows that don't stand so nothing is
-// promised.
+// than k, to the words of single bits, for the slice then opens a run. Of slots and rows that don't hold their words
+// so nothing is promised.
 pub fn put_slice(
     slots: &mut [u64],
     rows: &mut [u64],

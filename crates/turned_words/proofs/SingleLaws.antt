@@ -1,16 +1,16 @@
 -- The words of single bits in 64 slots are their own rows, and how many words 64 slots hold. Assumes nothing.
 use mathlib.Core.Path.{_≡_, refl, sym, ap, ap₂, _∙_, subst}
-use mathlib.Core.Logic.{_⊎_, ⊎-elim, dite}
+use mathlib.Core.Logic.{⊎-elim, dite}
 use mathlib.Core.List.{List, [], _∷_, _++_, append-nil}
 use Prim.Native.Nat.{ℕ, zero, suc, _+_, _-_, _*_, _/_, _%_, _^_, _≤_, _<_, min}
 use native.Mathlib.Nat.{zero-add, suc-mul, mul-assoc, mul-mod-left, pow-suc}
 use native.Mathlib.Numerals.{add-one}
 use native.Mathlib.Decide.{decLt, ℕ-discrete}
 use native.Mathlib.Omega.{arith}
-use lib.Count.{ones, ones-step, ones-le}
-use lib.ListN.{length, getD, set, replicate, length-append, getD-replicate, List·getD-eq-default, List·getD-append}
+use lib.Count.{ones, ones-step}
+use lib.ListN.{length, getD, set, length-append, getD-replicate, List·getD-eq-default, List·getD-append}
 use lib.Seq.{set-at, append-snoc}
-use lib.Pow.{pow-pos, pow-lt, pow-mono, pow-add}
+use lib.Pow.{pow-pos, pow-lt, pow-add}
 use Rattle.word.specs.Word.{digit, parity, lowMask}
 use Rattle.word.specs.Parities.{parities}
 use Rattle.word.specs.Zeros.{zeros, filled}
@@ -19,14 +19,14 @@ use Rattle.word.proofs.LowestLaws.{digit-mod, digit-past}
 use Rattle.word.proofs.FrontLaws.{length-zeros}
 use Rattle.combinations.specs.Step.{units}
 use Rattle.combinations.proofs.Units.{length-units, units-at, power-top, one-bit}
-use Rattle.turned_words.specs.Turned.{kept, turnedRow, Turns, HeldTurned, deadBehind}
+use Rattle.turned_words.specs.Turned.{kept, HeldTurned, deadBehind}
 use Rattle.turned_words.proofs.KeptLaws.{kept-none, kept-alive, kept-dead, kept-full}
 use Rattle.turned_words.proofs.TurnedLaws.{last-even, last-odd, power-other}
 
 -- ---- how many words are held
 
-sum-low : (n d : ℕ) → d < 2 ^ suc n → d / 2 < 2 ^ n
-sum-low n d h = omega arith
+half-low : (n d : ℕ) → d < 2 ^ suc n → d / 2 < 2 ^ n
+half-low n d h = omega arith
 
 no-ones : length {A = ℕ} [] + ones 0 ≡ 0
 unfolding ones
@@ -37,7 +37,7 @@ kept-count [] dead h =
     let none : dead ≡ 0 = omega arith in
     ap₂ (λ (l : List ℕ) (d : ℕ). length l + ones d) (kept-none dead) none ∙ no-ones
 kept-count (w ∷ ws) dead h =
-    let later : length (kept (dead / 2) ws) + ones (dead / 2) ≡ length ws = kept-count ws (dead / 2) (sum-low (length ws) dead h) in
+    let later : length (kept (dead / 2) ws) + ones (dead / 2) ≡ length ws = kept-count ws (dead / 2) (half-low (length ws) dead h) in
     ⊎-elim
     (λ (e : dead % 2 ≡ 0). ap (λ (l : List ℕ). length l + ones dead) (kept-alive dead w ws e) ∙ omega (arith, later, ones-step dead, e))
     (λ (e : dead % 2 ≡ 1). ap (λ (l : List ℕ). length l + ones dead) (kept-dead dead w ws e) ∙ omega (arith, later, ones-step dead, e))

@@ -2,7 +2,6 @@
 use native.Mathlib.Omega.{arith}
 use lib.Count.{ones-le}
 use Rattle.turned_words.proofs.SingleLaws.{count-held}
-use borrow.Author.Needs.{needs}
 use Rattle.turned_words.proofs.held_count.Statement.{statement}
 use Rattle.turned_words.proofs.held_count.Tie as tie
 

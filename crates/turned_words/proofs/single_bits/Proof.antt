@@ -1,7 +1,6 @@
 -- `single_bits` meets its contract: the places passed hold their bits.
-use mathlib.Core.Path.{_≡_, sym, ap, _∙_}
+use mathlib.Core.Path.{_≡_, _∙_}
 use Prim.Native.Nat.{_-_, _≤_, min}
-use native.Mathlib.Omega.{arith}
 use Rattle.word.specs.Zeros.{filled}
 use Rattle.combinations.specs.Step.{units}
 use Rattle.turned_words.proofs.SingleLaws.{singles-start, singles-turn, singles-end}
