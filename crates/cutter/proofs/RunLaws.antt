@@ -28,8 +28,9 @@ use Rattle.combinations.proofs.Theorems.{portion-after}
 use Rattle.combinations.proofs.Portions.{without-columns}
 use Rattle.signatures.specs.Given.{Given}
 use Rattle.cutter.specs.Cutting.{wordsLeft, leaves, longestEnd, startsFrom, startsFor, shortSlice}
-use Rattle.cutter.specs.Turns.{Sound, Turned, joined, opened}
-use Rattle.cutter.specs.declared.Turn.{Turn}
+use Rattle.run_words.specs.Joining.{Turned, joined, opened}
+use Rattle.run_words.specs.declared.Turn.{Turn}
+use Rattle.cutter.specs.Turns.{Sound}
 use Rattle.cutter.proofs.GreatestLaws.{greatest-at}
 use Rattle.cutter.proofs.FrameLaws.{framed, frames, frames-none, frames-suc, left-framed, longer-fewer, slice-most}
 

@@ -24,9 +24,10 @@ use Rattle.unclocking.specs.Unclocked.{earlier, EightBack}
 use Rattle.slice_columns.specs.Frame.{eights, markedEarlier, NextFrom}
 use Rattle.slice_columns.proofs.FrameLaws.{earlierWords}
 use Rattle.cutter.specs.Cutting.{shortSlice, startsFor}
-use Rattle.cutter.specs.Turns.{Sound, seen, Turned, SlicedFor}
+use Rattle.run_words.specs.Joining.{Turned}
+use Rattle.run_words.specs.declared.Turn.{Turn}
+use Rattle.cutter.specs.Turns.{Sound, seen, SlicedFor}
 use Rattle.cutter.specs.declared.Slices.{Slices}
-use Rattle.cutter.specs.declared.Turn.{Turn}
 use Rattle.cutter.proofs.FrameLaws.{framed, framed-words}
 use Rattle.cutter.proofs.RunLaws.{CutTo, cut-turns, cut-short, cut-ends}
 use Rattle.cutter.proofs.SameLaws.{same-starts, same-short, sound-set}

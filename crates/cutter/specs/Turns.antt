@@ -1,9 +1,5 @@
--- What the work on one slice does, and on all of them.
+-- What the work on all slices does.
 --
---   Stands ws rows dead   the slots ws that aren't dead hold the words that the run so far leaves, and the rows are those of the slots
---   Turned cs m k h h′ r  the columns cs of a slice have been put to the words h that the run so far leaves: where at least k of them are left,
---                         these are h′; else h′ are those that the columns leave of all words of width m, in a run of their own. r says how
---                         many there are, and whether the slice opened a run (1) or joined one (0)
 --   saidSlices r          the paper's reading of what the work on all slices hands back
 --   Sound k               a circuit whose clock loses no state, and chains within it. Document 01: "With bit 0 set a clock loses no state."
 --   seen r ws s l rows    what is given by a register r, which counts as at most 64 bits wide, with chains of the spread words ws, s slices
@@ -14,8 +10,6 @@ use mathlib.Core.List.{List, [], _∷_}
 use Prim.Native.Nat.{ℕ, _^_, _≤_, _<_, min}
 use lib.ListN.{length, take, getD}
 use Rattle.word.specs.Word.{digit}
-use Rattle.combinations.specs.Step.{steps, units}
-use Rattle.turned_words.specs.Turned.{kept, HeldTurned}
 use Rattle.word.specs.Reply.{_when_, Reply, answer, refusal, reply}
 use Rattle.rows.specs.Lists.{cellsOf}
 use Rattle.rows.specs.declared.Rows.{Rows}
@@ -24,16 +18,8 @@ use Rattle.register.specs.Circuit.{Circuit, circuit}
 use Rattle.register.specs.declared.Register.{Register}
 use Rattle.signatures.specs.Given.{Given}
 use Rattle.cutter.specs.Cutting.{shortSlice, startsFor}
-use Rattle.cutter.specs.declared.Turn.{Turn}
 use Rattle.cutter.specs.declared.Slices.{Slices}
 use Rattle.cutter.specs.declared.Slices.the-variants.{Cut, Refused}
-
-abbrev pub Stands : List ℕ → List ℕ → ℕ → Type 0
-Stands ws rows dead = HeldTurned ws (kept dead ws) rows dead
-
-pub data Turned (cs : List ℕ) (m k : ℕ) (h h′ : List ℕ) (r : Turn) : Type 0 where
-  joined : k ≤ length (steps cs h) → r .opened ≡ 0 → r .left ≡ length h′ → h′ ≡ steps cs h → Turned cs m k h h′ r
-  opened : length (steps cs h) < k → r .opened ≡ 1 → r .left ≡ length h′ → h′ ≡ steps cs (units m) → Turned cs m k h h′ r
 
 abbrev pub saidSlices : Slices → Reply ℕ
 saidSlices (Cut n) = answer n

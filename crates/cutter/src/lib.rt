@@ -1,17 +1,16 @@
 // Cutting: the slices of a set cut into runs, each of which leaves at least k words, and the control bits of them all. It sees a taken set,
-// the columns of one slice after the other and the elimination's step. It goes through the slices once: all columns of a run clocked together
+// the columns of one slice after the other and the words of a run. It goes through the slices once: all columns of a run clocked together
 // have the rank that they had, so each slice's columns may stand in one frame, whatever run it falls in; and only the slice that doesn't
 // fit into a run is put to the words twice.
 ghost use mathlib.Core.Path.{_≡_};
 ghost use Prim.Native.Nat.{_≤_};
 ghost use lib.ListN.{length};
 ghost use Rattle.word.specs.Reply.{numberOf};
-ghost use Rattle.turned_words.specs.Turned.{kept};
 ghost use Rattle.set_file.specs.Reading.{TakenFrom};
 ghost use Rattle.signatures.specs.Sets.{given};
 ghost use Rattle.unclocking.specs.Unclocked.{EightBack};
 ghost use Rattle.cutter.specs.Cutting.{badShare, cutReply, cutsAfter, saidCut};
-ghost use Rattle.cutter.specs.Turns.{Sound, seen, Stands, Turned, saidSlices, SlicedFor};
+ghost use Rattle.cutter.specs.Turns.{Sound, seen, saidSlices, SlicedFor};
 use register::Register;
 use rows::Rows;
 use set_file::SetAnswer;
@@ -29,13 +28,6 @@ enum Slices {
     Refused { number: u64 },
 }
 
-// What one slice comes to: the slots that are dead then, so many words are left of the run, and 1 run more was opened or 0.
-struct Turn {
-    dead: u64,
-    left: usize,
-    opened: usize,
-}
-
 // Number 26: whether k isn't 1 to m.
 fn is_bad_share(m: u64, k: u64) -> bool
     ensures { λ r. ⌜ r ≡ badShare m k ⌝ }
@@ -47,43 +39,6 @@ fn no_starts() -> [u64; 512]
     ensures { λ r. ⌜ length r ≡ 512 ⌝ }
 {
     [0u64; 512]
-}
-
-// The columns of one slice put to the words that the run so far leaves, which stand in the slots that aren't dead; where that leaves fewer
-// than k, to the words of single bits, for the slice then opens a run. The words stay turned from slice to slice: turning them in takes as
-// long as several columns.
-fn put_slice(
-    slots: &mut [u64],
-    rows: &mut [u64],
-    dead: u64,
-    columns: &[u64],
-    width: usize,
-    k: usize,
-) -> Turn
-    requires { ⌜ (width ≤ 64) × (length (now slots) ≡ 64) × Stands (now slots) (now rows) dead ⌝ }
-    ensures stands { λ r. ⌜ Stands (now (slots .exit)) (now (rows .exit)) (r .dead) ⌝ }
-    ensures one { λ r. ⌜ r .opened ≤ 1 ⌝ }
-    ensures turn { λ r. ⌜ Turned (now (columns .entry)) width k (kept dead (now (slots .entry))) (kept (r .dead) (now (slots .exit))) r ⌝ }
-{
-    let joined = turned_words::take_columns(slots, rows, dead, columns);
-    let left = turned_words::held_count(joined);
-    if k <= left {
-        return Turn {
-            dead: joined,
-            left,
-            opened: 0,
-        };
-    }
-    let units = turned_words::single_bits(width);
-    elimination::write_front(slots, &units);
-    elimination::write_front(rows, &units);
-    let behind = turned_words::dead_behind(width);
-    let alone = turned_words::take_columns(slots, rows, behind, columns);
-    Turn {
-        dead: alone,
-        left: turned_words::held_count(alone),
-        opened: 1,
-    }
 }
 
 // The slices one after the other, as many as there are rows of marks to go through: the first slice of each run over the front of `starts`, and
@@ -118,7 +73,7 @@ fn pass_slices(
             words,
             &mut columns,
         );
-        let turn = put_slice(&mut slots, &mut rows, dead, &columns[place..], width, k);
+        let turn = run_words::put_slice(&mut slots, &mut rows, dead, &columns[place..], width, k);
         dead = turn.dead;
         let left = turn.left;
         if left < k {

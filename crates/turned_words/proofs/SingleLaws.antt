@@ -25,8 +25,8 @@ use Rattle.turned_words.proofs.TurnedLaws.{last-even, last-odd, power-o
 
 -- ---- how many words are held
 
-sum-low : (n d : ℕ) → d < 2 ^ suc n → d / 2 < 2 ^ n
-sum-low n d h = omega arith
+half-low : (n d : ℕ) → d < 2 ^ suc n → d / 2 < 2 ^ n
+half-low n d h = omega arith
 
 no-ones : length {A = ℕ} [] + ones 0 ≡ 0
 unfolding ones
@@ -37,7 +37,7 @@ kept-count [] dead h =
     let none : dead ≡ 0 = omega arith in
     ap₂ (λ (l : List ℕ) (d : ℕ). length l + ones d) (kept-none dead) none ∙ no-ones
 kept-count (w ∷ ws) dead h =
-    let later : length (kept (dead / 2) ws) + ones (dead / 2) ≡ length ws = kept-count ws (dead / 2) (sum-low (length ws) dead h) in
+    let later : length (kept (dead / 2) ws) + ones (dead / 2) ≡ length ws = kept-count ws (dead / 2) (half-low (length ws) dead h) in
     ⊎-elim
     (λ (e : dead % 2 ≡ 0). ap (λ (l : List ℕ). length l + ones dead) (kept-alive dead w ws e) ∙ omega (arith, later, ones-step dead, e))
     (λ (e : dead % 2 ≡ 1). ap (λ (l : List ℕ). length l + ones dead) (kept-dead dead w ws e) ∙ omega (arith, later, ones-step dead, e))

@@ -56,7 +56,7 @@ fn add_turned(words: &mut [u64], rows: &mut [u64], dead: u64, column: u64) -> u6
     dead ^ (1u64 << k)
 }
 
-// The columns one after the other, from slots of which those in `dead` are dead, until every slot is. Answers with the slots that are dead then.
+// The columns one after the other, until every slot is dead; those in `dead` are before. Answers with the slots that are dead then.
 pub fn take_columns(words: &mut [u64], rows: &mut [u64], dead: u64, columns: &[u64]) -> u64
     ensures { λ r. ⌜ ((l : List ℕ) → HeldTurned (now (words .entry)) l (now (rows .entry)) dead → HeldTurned (now (words .exit)) (steps (now (columns .entry)) l) (now (rows .exit)) r) ⌝ }
 {

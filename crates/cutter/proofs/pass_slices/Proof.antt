@@ -6,12 +6,13 @@ use native.Mathlib.Omega.{arith}
 use lib.ListN.{length}
 use Rattle.set_layout.proofs.LayoutLaws.{no-words-length}
 use Rattle.turned_words.specs.Turned.{kept}
+use Rattle.run_words.specs.Joining.{Stands}
+use Rattle.run_words.proofs.TurnLaws.{stands-none, singles-length}
 use Rattle.unclocking.specs.Unclocked.{EightBack}
 use Rattle.slice_columns.specs.Frame.{eights}
 use Rattle.slice_columns.proofs.FrameLaws.{earlierWords}
-use Rattle.cutter.specs.Turns.{Sound, seen, Stands}
+use Rattle.cutter.specs.Turns.{Sound, seen}
 use Rattle.cutter.proofs.RunLaws.{CutTo, cut-starts}
-use Rattle.cutter.proofs.TurnLaws.{stands-none, singles-length}
 use Rattle.cutter.proofs.SliceLaws.{earlier-words-none, slice-passed, sliced-all}
 use borrow.Author.Needs.{needs}
 use Rattle.cutter.proofs.pass_slices.Statement.{statement}
@@ -61,11 +62,6 @@ slice-aggregate-put-slice c = sym (c .before .before .before .before .before .be
 slice-aggregate-put-slice-2 : tie.Need-slice-aggregate-put-slice-2 Inv-loop μ-loop
 slice-aggregate-put-slice-2 c = sym (c .before .before .before .before .before .before .before .before .before .loop .inv .2 .turns .long)
 
-put-slice-requires : tie.Need-put-slice-requires Inv-loop μ-loop
-put-slice-requires c κs =
-    let known = c .before .before .before .before .before .before .before .before .before .before .before .loop .inv in
-    (omega (arith, known .7), known .6, known .2)
-
 same-length : tie.Need-same-length Inv-loop μ-loop
 same-length c = c .before .before .before .before .before .before .before .before .before .before .before .next-columns .kept .1 .1 .1 .1 .1 .0 ∙ c .before .before .before .before .before .before .before .before .before .before .before .before .before .before .before .loop .inv .4
 
@@ -80,15 +76,16 @@ returns c =
     let inside = c .before .before .before .before .before .before .before .before .before .before .before .before .before .before .loop-test .taken in
     let listed = c .before .before .before .before .before .before .before .before .before .before .before .next-columns in
     let put = c .before .before .before .put-slice in
+    let stood = put .ensures .1 (omega (arith, known .7)) (known .6) (known .2) in
     let passed =
     slice-passed _ _ _ _ _ _ _ (turn .loop .runs) _ _ (start .args .words .now) (turn .loop .words) _ (turn .loop .columns) _ _ _ (turn .loop .starts) _ (listed .ensures)
-    (put .ensures .1 .1) (known .8) inside (omega (arith, inside, known .1, known .3, start .pre .0)) (omega (arith, known .4, known .5, start .pre .1))
+    (stood .1) (known .8) inside (omega (arith, inside, known .1, known .3, start .pre .0)) (omega (arith, known .4, known .5, start .pre .1))
     (listed .kept .1 .1 .1 .1 .1 .1 .0 ∙ known .5) (known .7)
     in
     λ sound right some. passed .short sound right some (c .if1 .taken)
 
 add-runs : tie.Need-add-runs Inv-loop μ-loop
-add-runs c = omega (arith, c .before .before .before .before .before .before .before .before .before .before .before .before .before .before .before .before .loop .inv .1, c .before .before .before .before .before .before .before .before .before .before .before .before .before .before .before .loop-test .taken, c .before .before .before .before .put-slice .ensures .1 .0, start-of (c .before .before .before .before .before .before .before .before .before .before .before .before .before .before .before .before) .pre .0)
+add-runs c = omega (arith, c .before .before .before .before .before .before .before .before .before .before .before .before .before .before .before .before .loop .inv .1, c .before .before .before .before .before .before .before .before .before .before .before .before .before .before .before .loop-test .taken, c .before .before .before .before .put-slice .ensures .0, start-of (c .before .before .before .before .before .before .before .before .before .before .before .before .before .before .before .before) .pre .0)
 
 add-t : tie.Need-add-t Inv-loop μ-loop
 add-t c = omega (arith, c .before .before .before .before .before .before .before .before .before .before .before .before .before .before .before .loop-test .taken, start-of (c .before .before .before .before .before .before .before .before .before .before .before .before .before .before .before .before) .pre .0)
@@ -104,14 +101,15 @@ loop-again c =
     let inside = c .before .before .before .before .before .before .before .before .before .before .before .before .before .before .before .loop-test .taken in
     let listed = c .before .before .before .before .before .before .before .before .before .before .before .before .next-columns in
     let put = c .before .before .before .before .put-slice in
+    let stood = put .ensures .1 (omega (arith, known .7)) (known .6) (known .2) in
     let passed =
     slice-passed _ _ _ _ _ _ _ (turn .loop .runs) _ _ (start .args .words .now) (turn .loop .words) _ (turn .loop .columns) _ _ _ (turn .loop .starts) _ (listed .ensures)
-    (put .ensures .1 .1) (known .8) inside (omega (arith, inside, known .1, known .3, start .pre .0)) (omega (arith, known .4, known .5, start .pre .1))
+    (stood .1) (known .8) inside (omega (arith, inside, known .1, known .3, start .pre .0)) (omega (arith, known .4, known .5, start .pre .1))
     (listed .kept .1 .1 .1 .1 .1 .1 .0 ∙ known .5) (known .7)
     in (
       omega (arith, inside),
-      omega (arith, known .1, put .ensures .1 .0),
-      put .ensures .0,
+      omega (arith, known .1, put .ensures .0),
+      stood .0,
       search needs,
       listed .kept .1 .1 .1 .1 .1 .0 ∙ known .4,
       listed .kept .1 .1 .1 .1 .1 .1 .0 ∙ known .5,
@@ -154,7 +152,7 @@ pass-slices-spec =
     (λ c. search needs)
     (λ c. search needs)
     (λ c. search needs)
-    put-slice-requires
+    (λ c κs. search needs)
     same-length
     same-length-2
     returns

@@ -28,21 +28,81 @@ fn unclock_eight(table: &[u64; 256], words: &mut [u64]) {
     }
 }
 
-/// A slice's columns put to the words that its run leaves; where that leaves fewer than k, to the words of single bits, for the slice
-/// opens a run. How many words are left, and whether it opened one.
-fn put_slice(
-    held: &mut [u64; 64],
-    left: usize,
-    columns: &[u64],
-    width: usize,
-    k: usize,
-) -> (usize, bool) {
-    let joined = reduce(&mut held[..left], columns);
-    if k <= joined {
-        return (joined, false);
+/// XORs x into the words whose bit in `marks` is 1, bit i for word i.
+fn xor_into(words: &mut [u64; 64], mut marks: u64, x: u64) {
+    while marks != 0 {
+        words[marks.trailing_zeros() as usize] ^= x;
+        marks &= marks - 1;
     }
-    *held = unit_words();
-    (reduce(&mut held[..width], columns), true)
+}
+
+/// The XOR of the words whose bit in `marks` is 1.
+fn xor_marked(words: &[u64; 64], mut marks: u64) -> u64 {
+    let mut all = 0;
+    while marks != 0 {
+        all ^= words[marks.trailing_zeros() as usize];
+        marks &= marks - 1;
+    }
+    all
+}
+
+/// The words that a run so far leaves, in 64 slots, and turned: row b has bit b of every slot. A word that is dropped leaves its slot dead,
+/// with 0 in it.
+struct Held {
+    slots: [u64; 64],
+    rows: [u64; 64],
+    dead: u64,
+}
+
+impl Held {
+    /// The words of so many single bits, which are their own rows.
+    fn single_bits(width: usize) -> Held {
+        let bits = std::array::from_fn(|i| if i < width { 1 << i } else { 0 });
+        let dead = !bits.iter().fold(0, |all, bit| all | bit);
+        Held {
+            slots: bits,
+            rows: bits,
+            dead,
+        }
+    }
+
+    fn count(&self) -> usize {
+        64 - self.dead.count_ones() as usize
+    }
+
+    fn add_column(&mut self, column: u64) {
+        let odd = xor_marked(&self.rows, column);
+        if odd == 0 {
+            return;
+        }
+        let first = odd.trailing_zeros() as usize;
+        let pivot = self.slots[first];
+        xor_into(&mut self.slots, odd, pivot);
+        xor_into(&mut self.rows, pivot, odd);
+        self.dead ^= 1 << first;
+    }
+
+    /// .. until every slot is dead.
+    fn take_columns(&mut self, columns: &[u64]) {
+        for &column in columns {
+            if self.dead == u64::MAX {
+                return;
+            }
+            self.add_column(column);
+        }
+    }
+}
+
+/// A slice's columns put to the words that its run leaves; where that leaves fewer than k, to the words of single bits, for the slice
+/// opens a run. Whether it opened one.
+fn put_slice(held: &mut Held, columns: &[u64], width: usize, k: usize) -> bool {
+    held.take_columns(columns);
+    if k <= held.count() {
+        return false;
+    }
+    *held = Held::single_bits(width);
+    held.take_columns(columns);
+    true
 }
 
 /// The first slice of each run over the front of `starts`, and how many there are.
@@ -68,18 +128,17 @@ fn cut_slices(
     let words = &mut all[..read.n];
     let table = eight_back(read);
     let mut columns = [0; 256];
-    let mut held = unit_words();
+    let mut held = Held::single_bits(0);
     let marks = Marks::of_set(set, read.n);
-    let (mut left, mut runs) = (0, 0);
+    let mut runs = 0;
     for t in 0..read.s {
         let place = list_row(&mut columns, words, marks.row(t));
         unclock_words(read, t % 8, &mut columns[place..]);
-        let turn = put_slice(&mut held, left, &columns[place..], read.m as usize, k);
-        left = turn.0;
-        if left < k {
+        let opened = put_slice(&mut held, &columns[place..], read.m as usize, k);
+        if held.count() < k {
             return Err(27);
         }
-        if turn.1 {
+        if opened {
             starts[runs] = t as u64;
             runs += 1;
         }

@@ -1,5 +1,5 @@
 -- One slice's columns put to the words that stand turned in 64 slots: they leave enough, or the slice opens a run. Assumes nothing.
-use mathlib.Core.Path.{_≡_, refl, sym, ap, ap₂, _∙_, subst}
+use mathlib.Core.Path.{_≡_, refl, sym, ap, _∙_, subst}
 use mathlib.Core.List.{List, []}
 use Prim.Native.Nat.{ℕ, _≤_, _<_, min}
 use native.Mathlib.Omega.{arith}
@@ -11,7 +11,7 @@ use Rattle.word.proofs.FrontLaws.{front-all}
 use Rattle.combinations.specs.Step.{steps, units}
 use Rattle.turned_words.specs.Turned.{kept, HeldTurned, deadBehind}
 use Rattle.turned_words.proofs.SingleLaws.{singles-long, singles-held}
-use Rattle.cutter.specs.Turns.{Stands, Turned, joined, opened}
+use Rattle.run_words.specs.Joining.{Stands, Turned, joined, opened}
 
 -- slots and rows that hold some list hold that of the slots that aren't dead
 stands-held : (ws l rows : List ℕ) (dead : ℕ) → HeldTurned ws l rows dead → Stands ws rows dead
@@ -59,12 +59,11 @@ pub singles-stand : (ws rows : List ℕ) (dead m : ℕ) → m ≤ 64 → ws ≡ 
     → HeldTurned ws (units m) rows dead
 singles-stand ws rows dead m lm ew er ed = rw ew (rw er (rw ed (singles-held m lm)))
 
--- where ws were the slots before, which the columns brought to tried, and vs are those of the words of single bits
-pub put-opened : (cs ws rows : List ℕ) (dead : ℕ) (wsᵗ rowsᵗ : List ℕ) (deadᵗ : ℕ) (vs rowsᵛ : List ℕ) (deadᵛ : ℕ) (ws′ rows′ : List ℕ) (dead′ m k tried left : ℕ)
+-- where ws were the slots before, which the columns brought to wsᵗ
+pub put-opened : (cs ws rows : List ℕ) (dead : ℕ) (wsᵗ rowsᵗ : List ℕ) (deadᵗ : ℕ) (ws′ rows′ : List ℕ) (dead′ m k tried left : ℕ)
     → Taken cs ws rows dead wsᵗ rowsᵗ deadᵗ → Stands ws rows dead → length wsᵗ ≡ 64 → Counts tried deadᵗ → tried < k
-    → HeldTurned vs (units m) rowsᵛ deadᵛ → Taken cs vs rowsᵛ deadᵛ ws′ rows′ dead′ → length ws′ ≡ 64 → Counts left dead′
+    → HeldTurned ws′ (steps cs (units m)) rows′ dead′ → length ws′ ≡ 64 → Counts left dead′
     → Stands ws′ rows′ dead′ × Turned cs m k (kept dead ws) (kept dead′ ws′) (record { dead = dead′; left = left; opened = 1 })
-put-opened cs ws rows dead wsᵗ rowsᵗ deadᵗ vs rowsᵛ deadᵛ ws′ rows′ dead′ m k tried left f t longᵗ countᵗ fewer start g long count =
+put-opened cs ws rows dead wsᵗ rowsᵗ deadᵗ ws′ rows′ dead′ m k tried left f t longᵗ countᵗ fewer after long count =
     let before : kept deadᵗ wsᵗ ≡ steps cs (kept dead ws) = f (kept dead ws) t .held in
-    let after : HeldTurned ws′ (steps cs (units m)) rows′ dead′ = g (units m) start in
     (stands-held ws′ (steps cs (units m)) rows′ dead′ after, opened (omega (arith, countᵗ wsᵗ longᵗ, ap length before)) refl (count ws′ long) (after .held))
