@@ -1,17 +1,21 @@
 -- The slices of a response run through the register: the start, the turn and the end of the loops. Assumes nothing.
 use mathlib.Core.Path.{_≡_, refl, sym, ap, ap₂, _∙_}
 use mathlib.Core.List.{List}
-use Prim.Native.Nat.{ℕ, _+_, _*_, min}
+use Prim.Native.Nat.{ℕ, _+_, _*_, _≤_, _<_, min}
 use native.Mathlib.Nat.{zero-add, mul-zero}
 use native.Mathlib.Numerals.{add-one}
 use native.Mathlib.Omega.{arith}
 use lib.Bits.{bitXor}
-use lib.ListN.{length, take, drop}
+use lib.ListN.{length, take, drop, getD}
+use lib.Seq.{take-all}
 use Rattle.numbers.proofs.PartLaws.{take-limit}
+use Rattle.numbers.proofs.FileLaws.{part-small}
 use Rattle.rows.specs.Row.{cell, rowBytes}
 use Rattle.rows.specs.Lists.{rowOf, cellsOf, listRow}
 use Rattle.rows.specs.declared.Rows.{Rows}
 use Rattle.chains.specs.Driven.{driven}
+use Rattle.chains.specs.Table.{HalfBytes, lookedUp}
+use Rattle.chains.proofs.TableLaws.{table-drives}
 use Rattle.register.specs.Circuit.{Circuit, circuit, advanced, clocked}
 use Rattle.register.proofs.ClockLaws.{clocked-driven}
 use Rattle.set_layout.specs.Layout.{rowsAt, valueAt}
@@ -57,6 +61,14 @@ module _ (m t v : ℕ) (ws : List ℕ) (x : Response) where
 pub row-driven : (ws l row : List ℕ) (r : Rows) (t drive : ℕ) → row ≡ rowOf l r t → drive ≡ driven ws (cell row) (length ws)
     → drive ≡ driven ws (cellsOf l r t) (length ws)
 row-driven ws l row r t drive er ed = ed ∙ ap (λ (y : List ℕ). driven ws (cell y) (length ws)) er
+
+-- .. by the table of half bytes
+pub row-looked : (ws table l row : List ℕ) (r : Rows) (t drive : ℕ) → length ws ≤ 256 → HalfBytes ws table → ((i : ℕ) → getD l i 0 < 256)
+    → row ≡ rowOf l r t → drive ≡ lookedUp table row (min (length row) 32) → drive ≡ driven ws (cellsOf l r t) (length ws)
+row-looked ws table l row r t drive few right bytes er ed =
+    ed ∙ ap (λ (y : List ℕ). lookedUp table y (min (length y) 32)) er
+    ∙ table-drives ws table (rowOf l r t) right (part-small l bytes (r .at + r .stride * t) (r .bytes))
+    ∙ ap (λ (vs : List ℕ). driven vs (cellsOf l r t) (length vs)) (take-all 256 ws few)
 
 -- the limit on chains, where the words are 256
 pub signed-limited : (m t v n m′ t′ v′ chains y s : ℕ) (spread words : List ℕ) (x : Response)

@@ -3,6 +3,7 @@
 ghost use mathlib.Core.Path.{_≡_};
 ghost use mathlib.Core.List.{List};
 ghost use Prim.Native.Nat.{ℕ, min, _≤_};
+ghost use lib.ListN.{length};
 ghost use Rattle.rows.specs.Row.{rowBytes};
 ghost use Rattle.rows.specs.Lists.{cellsOf};
 ghost use Rattle.rows.specs.declared.Rows.{Rows};
@@ -22,9 +23,13 @@ pub enum Signed {
     Refused { number: u64 },
 }
 
-// From so many slices on the drives of all slices by tables take less time than going from one cell that is 1 to the next: the tables of 256
-// chains take some 16,000 instructions, and a slice half of whose cells are 1 takes some 700.
-const MANY_SLICES: u16 = 24;
+// Three ways to the same signature. Below FEW_SLICES it takes the least time to go from one cell that is 1 to the next, and from MANY_SLICES on
+// to list what the chains drive in all slices, 64 chains at a time by a table of bytes; in between it is a table of half bytes. With 256 chains, half
+// of whose cells are 1, the tables take some 16,000 instructions of bytes and 4,000 of half bytes; a slice takes 830 by its cells, 246 by half bytes and
+// 97 by bytes. Clearing the memory of the tables comes to that.
+const FEW_SLICES: u16 = 8;
+
+const MANY_SLICES: u16 = 192;
 
 // The signature of the first s rows that stand in `list`, from a register that holds 0: each row is lent to the chains as it stands there.
 fn sign_by_cells(register: Register, spread: &[u64], list: &[u8], rows: Rows, s: u16) -> u64
@@ -35,6 +40,21 @@ fn sign_by_cells(register: Register, spread: &[u64], list: &[u8], rows: Rows, s:
     let mut t: u16 = 0;
     while t < s {
         held = held.clock_driven(chains::driven_word(spread, rows::row_of(list, rows, t)));
+        t += 1;
+    }
+    held.state
+}
+
+// The same for 256 chains at most by the table of half bytes of their spread words.
+fn sign_by_half_bytes(register: Register, spread: &[u64], list: &[u8], rows: Rows, s: u16) -> u64
+    requires { ⌜ (register .state ≡ 0) × (length (now spread) ≤ 256) ⌝ }
+    ensures { λ r. ⌜ r ≡ signature (circuit (min (register .m) 64) (register .taps) (register .inversion) (now (spread .entry))) (cellsOf (now (list .entry)) rows) s ⌝ }
+{
+    let table = chains::half_bytes(spread);
+    let mut held = register;
+    let mut t: u16 = 0;
+    while t < s {
+        held = held.clock_driven(chains::looked_up(&table, rows::row_of(list, rows, t)));
         t += 1;
     }
     held.state
@@ -65,8 +85,11 @@ pub fn sign_rows(taken: Taken, list: &[u8], rows: Rows) -> u64
     let given = taken.register;
     let s = taken.s;
     let register = Register::fresh(given.m, given.taps, given.inversion);
-    if (s < MANY_SLICES) | (drives::PLACES < s as usize) {
+    if s < FEW_SLICES {
         return sign_by_cells(register, &spread[..chains], list, rows, s);
+    }
+    if (s < MANY_SLICES) | (drives::PLACES < s as usize) {
+        return sign_by_half_bytes(register, &spread[..chains], list, rows, s);
     }
     let driven = drives::slice_drives(&spread[..chains], list, rows, s);
     sign_by_drives(register, &driven, s)
