@@ -3,9 +3,9 @@ use Prim.Native.Nat.{_-_, _≤_}
 use native.Mathlib.Omega.{arith}
 use borrow.Author.Needs.{needs}
 use Rattle.rows.specs.Lists.{cellsOf}
-use Rattle.signing.proofs.RunLaws.{Running, running-starts, running-turns, running-ends, row-looked}
-use Rattle.signing.proofs.sign_by_half_bytes.Statement.{statement}
-use Rattle.signing.proofs.sign_by_half_bytes.Tie as tie
+use Rattle.slice_signing.proofs.RunLaws.{Running, running-starts, running-turns, running-ends, row-looked}
+use Rattle.slice_signing.proofs.sign_by_half_bytes.Statement.{statement}
+use Rattle.slice_signing.proofs.sign_by_half_bytes.Tie as tie
 
 abbrev Inv-loop : tie.InvT-loop
 Inv-loop spread list rows s table held₀ t₀ held t =
