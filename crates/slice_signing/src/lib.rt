@@ -13,9 +13,9 @@ use register::Register;
 use rows::Rows;
 
 // Three ways to the same signature: below FEW_SLICES it takes the least time to go from one cell that is 1 to the next, and from MANY_SLICES on
-// to list what the chains drive in all slices, 64 chains at a time by a table of bytes; in between it is a table of half bytes. With 256 chains, half
-// of whose cells are 1, the tables take some 16,000 instructions of bytes and 4,000 of half bytes; a slice takes 830 by its cells, 246 by half bytes and
-// 97 by bytes. Clearing the memory of the tables comes to that.
+// to list what the chains drive in all slices, 64 chains at a time by a table of bytes, where each row is of whole words of 64 cells. Else it is a table
+// of half bytes. With 256 chains, half of whose cells are 1, the tables take some 17,000 instructions of bytes and 4,000 of half bytes; a slice takes 830
+// by its cells, 246 by half bytes and 97 by bytes. Clearing the tables' 16 and 8 KiB comes to that.
 const FEW_SLICES: u16 = 8;
 
 const MANY_SLICES: u16 = 192;
@@ -72,7 +72,7 @@ pub fn sign_slices(given: Register, spread: &[u64], list: &[u8], rows: Rows, s: 
     if (s < FEW_SLICES) | (256 < spread.len()) {
         return sign_by_cells(register, spread, list, rows, s);
     }
-    if (s < MANY_SLICES) | (drives::PLACES < s as usize) {
+    if (s < MANY_SLICES) | (drives::PLACES < s as usize) | (rows.bytes % 8 != 0) {
         return sign_by_half_bytes(register, spread, list, rows, s);
     }
     let driven = drives::slice_drives(spread, list, rows, s);
