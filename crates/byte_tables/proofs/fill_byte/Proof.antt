@@ -35,7 +35,7 @@ shl-double-entries : tie.Need-shl-double-entries Inv-loop μ-loop
 shl-double-entries c = search needs
 
 double-entries-requires : tie.Need-double-entries-requires Inv-loop μ-loop
-double-entries-requires c κs = bits-room (length (c .before .before .before .loop .table)) (c .before .before .before .before .before .before .args .e) (c .before .before .before .loop .t) (c .before .before .loop-test .taken) (c .before .before .before .loop .inv .1)
+double-entries-requires c κs = bits-room (length (c .before .before .before .loop .table)) (c .before .before .before .before .before .before .args .e) (c .before .before .before .loop .t) (omega arith) (c .before .before .before .loop .inv .1)
 
 add-t : tie.Need-add-t Inv-loop μ-loop
 add-t c = search needs
@@ -49,7 +49,7 @@ loop-again c =
     let made = c .before .before .double-entries .ensures in (
       search needs,
       omega (arith, made .long, at .inv .1),
-      (λ l k. filled-turns _ l _ _ (at .table) _ (at .t) _ (c .before .before .before .before .before .loop-test .taken) (at .inv .2 l k) (c .before .before .before .before .word-at .ensures) made),
+      (λ l k. filled-turns _ l _ _ (at .table) _ (at .t) _ (omega arith) (at .inv .2 l k) (c .before .before .before .before .word-at .ensures) made),
     )
 
 same-length : tie.Need-same-length Inv-loop μ-loop

@@ -33,7 +33,7 @@ slice-drives-requires : tie.Need-slice-drives-requires
 slice-drives-requires c κs = search needs
 
 sign-by-drives-requires : tie.Need-sign-by-drives-requires
-sign-by-drives-requires c κs = (c .before .before .before .before .before .fresh .ensures .3, few (c .before .before))
+sign-by-drives-requires c κs = (c .before .before .before .before .before .fresh .ensures .3, omega (arith, few (c .before .before)))
 
 returns-3 : tie.Need-returns-3
 returns-3 c =
