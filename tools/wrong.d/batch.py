@@ -650,6 +650,7 @@ class Batch:
             self.fill(taken, spread, data, rows, self.pick([0, 1, 5, 64, 300]), None if s < 100 else [self.pick(FILLERS)])
             self.reduce(taken, spread, data, rows)
             self.call("signing::sign_rows", taken + rows, a=data, v=spread)
+            self.slices_of(taken, spread, data, rows)
             self.call("marked_rows::count_marks", rows + [s], a=data)
             self.call("marked_rows::last_marked", rows + [self.pick([0, 1, s, self.pick(NUMBERS)])], a=data)
             self.call("rows::row_of", rows + [self.pick([0, 1, 2, self.pick(NUMBERS)])], a=data, d=self.junk(40))
@@ -916,7 +917,7 @@ class Batch:
                         self.pick([inversion, self.inversion(m), self.bits(64)]), self.pick([state, self.bits(64), ALL])]
             self.call("register::advance", register + [self.pick([0, self.bits(m), self.bits(64)])])
             self.call("register::holding", register + [self.bits(64)])
-            self.call("register::clock_by_table", register, u=self.junk_words(1024), a=self.pick([row, self.junk(32), self.junk(33)]))
+            self.call("register::clock_driven", register + [self.pick([0, self.bits(m), self.bits(64)])])
             self.call("powers::powers", register + [self.pick([0, 1, 65, 575, 576, 577, self.pick(NUMBERS)])], v=self.junk_words(576))
             self.call("powers::advance_words", register, v=self.junk_words(self.pick([0, 1, 3, 20])))
             self.call("powers::next_state", register + [self.pick([self.bits(m), self.bits(64)])])
@@ -1311,6 +1312,16 @@ class Batch:
                 self.call("rows::share_a_bit", a=both[0], b=both[1])
                 self.call("rows::share_a_bit", a=both[0][:at], b=both[1])
 
+    def slices_of(self, taken, spread, data, rows):
+        """The drives and the signature of slices, with rows of any place and with rows that are all there: by the cells, by half bytes and
+        by bytes."""
+        register, words = taken[:3] + [self.bits(64)], spread[:self.pick([0, 1, 63, 64, 65, 100, 128, 200, 256])]
+        b, s = row_bytes(len(words)), self.pick([7, 8, 9, 190, 191, 192, 193, 300])
+        whole, long = [self.random.randrange(9), 8 * self.pick([1, 2, 4, 5]), 8 * self.pick([1, 2, 4])], self.junk(40 * s + 50)
+        for at, several, slices in ((rows, data, taken[4]), (whole, long, s), ([3, 2 * b, b], long, s), (whole, long[:-60], s)):
+            self.call("slice_signing::sign_slices", register + at + [slices], a=several, v=words)
+            self.call("drives::slice_drives", at + [slices], a=several, v=words, u=self.junk_words(512))
+
     def chain_words(self, count):
         """The tables of the chains, and the words of a row's marked cells."""
         for _ in range(count):
@@ -1331,6 +1342,10 @@ class Batch:
             self.call("chains::half_bytes", v=words, u=self.junk_words(1024))
             self.call("chains::looked_up", u=self.junk_words(1024), a=self.pick([row, self.junk(32), self.junk(40)]))
             self.call("chains::all_words", v=self.junk_words(256))
+            if self.random.random() < 0.3:
+                self.call("byte_tables::fill_table", v=words, u=self.junk_words(self.pick([2048, 2050])))
+                self.call("byte_tables::no_entries", u=self.junk_words(2048))
+            self.call("byte_tables::looked_up", [self.bits(64)], u=self.junk_words(2048))
             self.call("powers::power_words", u=self.junk_words(self.pick([0, 1, 3, 63, 64, 65, 70])), v=self.junk_words(self.pick([0, 1, 4])))
 
     def skips(self, count):

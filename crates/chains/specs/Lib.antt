@@ -1,1 +1,2 @@
 pub mod Driven
+pub mod Table

@@ -11,7 +11,6 @@ use native.Mathlib.Omega.{arith}
 use lib.Bits.{bitXor}
 use lib.ListN.{length, getD, set, drop, length-set, getD-replicate}
 use lib.Seq.{getD-set-same, getD-set-other}
-use Rattle.word.specs.Marked.{xorMarked}
 use Rattle.word.specs.Zeros.{zeros}
 use Rattle.word.proofs.FrontLaws.{length-zeros}
 use Rattle.byte_tables.specs.Table.{ByteTable, looked}
@@ -94,21 +93,10 @@ pub looked-of-whole : (table l : List ℕ) (place there marks drive : ℕ) → p
     → drive ≡ looked table (wordAt l there) 8
 looked-of-whole table l place there marks drive ep em ed = ed ∙ ap (λ (x : ℕ). looked table x 8) (em ∙ ap (wordAt l) ep)
 
--- ---- what is looked up for a group of chains
-
-module _ (l : List ℕ) (bytes : (i : ℕ) → getD l i 0 < 256) (r : Rows) where
-  marks-lt : (from t : ℕ) → marksAt l r from t < 2 ^ 64
-  marks-lt from t = number-at-lt 8 (rowOf l r t) from (part-small l bytes (r .at + r .stride * t) (r .bytes))
-
-  module _ (ws table drives drives′ : List ℕ) (from s : ℕ) (right : ByteTable ws table) where
-    pub any-marked : Added drives drives′ s (λ t. looked table (marksAt l r from t) 8) → Added drives drives′ s (λ t. xorMarked ws (marksAt l r from t))
-    any-marked a =
-        added-as drives _ drives′ s _ (λ t h. looked-marked ws table (marksAt l r from t) right (marks-lt from t)) a
-
-    pub whole-marked : from + 8 ≤ r .bytes → Added drives drives′ s (λ t. looked table (wordAt l (r .at + from + r .stride * t)) 8)
-        → Added drives drives′ s (λ t. xorMarked ws (marksAt l r from t))
-    whole-marked h a =
-        any-marked (added-as drives _ drives′ s _ (λ t k. ap (λ (x : ℕ). looked table x 8) (marks-inside l r from t h)) a)
+pub whole-looked : (table l drives drives′ : List ℕ) (r : Rows) (from s : ℕ) → from + 8 ≤ r .bytes
+    → Added drives drives′ s (λ t. looked table (wordAt l (r .at + from + r .stride * t)) 8) → Added drives drives′ s (λ t. looked table (marksAt l r from t) 8)
+whole-looked table l drives drives′ r from s h a =
+    added-as drives _ drives′ s _ (λ t k. ap (λ (x : ℕ). looked table x 8) (marks-inside l r from t h)) a
 
 -- ---- one group after the other
 
@@ -117,18 +105,21 @@ pub Driving : List ℕ → Rows → List ℕ → ℕ → ℕ → List ℕ → Ty
 Driving l r ws s g ds = (t : ℕ) → t < s → getD ds t 0 ≡ driven ws (cellsOf l r t) (64 * g)
 
 module _ (l : List ℕ) (r : Rows) where
+  marks-lt : ((i : ℕ) → getD l i 0 < 256) → (from t : ℕ) → marksAt l r from t < 2 ^ 64
+  marks-lt bytes from t = number-at-lt 8 (rowOf l r t) from (part-small l bytes (r .at + r .stride * t) (r .bytes))
+
   pub driving-starts : (ws ds : List ℕ) (s : ℕ) → s ≤ 512 → ds ≡ zeros 512 → Driving l r ws s 0 ds
   unfolding Driving
   driving-starts ws ds s h e t k =
       ap (λ (x : List ℕ). getD x t 0) e ∙ getD-replicate 512 t 0 0 (omega arith) ∙ sym (driven-none ws (cellsOf l r t))
 
-  pub driving-turns : ((i : ℕ) → getD l i 0 < 256) → (ws part ds ds′ : List ℕ) (s g : ℕ) → part ≡ drop (64 * g) ws → Driving l r ws s g ds
-      → Added ds ds′ s (λ t. xorMarked part (marksAt l r (8 * g) t)) → Driving l r ws s (g + 1) ds′
+  pub driving-turns : ((i : ℕ) → getD l i 0 < 256) → (ws part table ds ds′ : List ℕ) (s g : ℕ) → part ≡ drop (64 * g) ws → ByteTable part table → Driving l r ws s g ds
+      → Added ds ds′ s (λ t. looked table (marksAt l r (8 * g) t) 8) → Driving l r ws s (g + 1) ds′
   unfolding Driving
-  driving-turns bytes ws part ds ds′ s g ep k a t h =
+  driving-turns bytes ws part table ds ds′ s g ep right k a t h =
       a .new t h
       ∙ driven-turn ws (rowOf l r t) part (part-small l bytes (r .at + r .stride * t) (r .bytes)) g (marksAt l r (8 * g) t) (getD ds t 0) _ (k t h) refl
-      (marks-lt l bytes r (8 * g) t) ep refl
+      (marks-lt bytes (8 * g) t) ep (looked-marked part table right (marksAt l r (8 * g) t) (marks-lt bytes (8 * g) t))
 
   pub driving-ends : (ws ds : List ℕ) (s s′ g : ℕ) → length ws ≤ 64 * g → s ≡ s′ → Driving l r ws s g ds → Drives ws l r s′ ds
   unfolding Driving

@@ -5,7 +5,6 @@ ghost use mathlib.Core.Bool.{true};
 ghost use Prim.Native.Nat.{min, _+_, _*_, _≤_};
 ghost use lib.ListN.{length};
 ghost use Rattle.word.specs.Zeros.{zeros};
-ghost use Rattle.word.specs.Marked.{xorMarked};
 ghost use Rattle.byte_tables.specs.Table.{looked};
 ghost use Rattle.numbers.specs.Bytes.{wordAt};
 ghost use Rattle.drives.specs.Drives.{Added, marksAt, Drives};
@@ -87,36 +86,30 @@ fn are_whole(list: &[u8], rows: Rows, from: usize, s: u16) -> bool
     end + 8 <= list.len() + stride
 }
 
-// XORs into each of the first s drives the words, of 64 chains, whose cells in the 8 bytes of the slice's row from byte `from` on are 1.
-fn add_group(drives: &mut [u64], words: &[u64], list: &[u8], rows: Rows, from: usize, s: u16)
+// XORs into each of the first s drives what the table gives for the 8 bytes of its slice's row from byte `from` on.
+fn add_looked(drives: &mut [u64], table: &[u64; 2048], list: &[u8], rows: Rows, from: usize, s: u16)
     requires { ⌜ s ≤ length (now drives) ⌝ }
-    ensures { λ _. ⌜ Added (now (drives .entry)) (now (drives .exit)) s (λ t. xorMarked (now (words .entry)) (marksAt (now (list .entry)) rows from t)) ⌝ }
+    ensures { λ _. ⌜ Added (now (drives .entry)) (now (drives .exit)) s (λ t. looked (now (table .entry)) (marksAt (now (list .entry)) rows from t) 8) ⌝ }
 {
-    let table = byte_tables::byte_table(words);
     if are_whole(list, rows, from, s) {
-        add_of_whole(
-            drives,
-            &table,
-            list,
-            rows.at as usize + from,
-            rows.stride,
-            s,
-        );
+        add_of_whole(drives, table, list, rows.at as usize + from, rows.stride, s);
         return;
     }
-    add_of_any(drives, &table, list, rows, from, s);
+    add_of_any(drives, table, list, rows, from, s);
 }
 
-// What the chains drive in each of the first s slices, 512 at most, by the spread words of 64 chains after the other. Each 64 chains
-// take about as long for their table as for 100 slices.
+// What the chains drive in each of the first s slices, 512 at most, by the spread words of 64 chains after the other: the table of their
+// bytes' drives is made, and each slice's cells are looked up in it. A table takes as many instructions as 190 slices.
 pub fn slice_drives(spread: &[u64], list: &[u8], rows: Rows, s: u16) -> [u64; PLACES]
     ensures { λ r. ⌜ Drives (now (spread .entry)) (now (list .entry)) rows (min s 512) r ⌝ }
 {
     let count = place_limit(s);
     let mut drives = no_drives();
+    let mut table = byte_tables::no_entries();
     let mut g = 0;
     while 64 * g < spread.len() {
-        add_group(&mut drives[..], &spread[64 * g..], list, rows, 8 * g, count);
+        byte_tables::fill_table(&mut table[..], &spread[64 * g..]);
+        add_looked(&mut drives[..], &table, list, rows, 8 * g, count);
         g += 1;
     }
     drives

@@ -1,17 +1,11 @@
 // Signing: the signature of a response whose rows stand in a list of bytes, of a record, and of a set's values. It sees the
-// register, which it clocks with what the chains drive in each row, and the set file. Every function is total.
+// register, the signature of slices, and the set file. Every function is total.
 ghost use mathlib.Core.Path.{_≡_};
-ghost use mathlib.Core.List.{List};
-ghost use Prim.Native.Nat.{ℕ, min, _≤_};
 ghost use Rattle.rows.specs.Row.{rowBytes};
 ghost use Rattle.rows.specs.Lists.{cellsOf};
-ghost use Rattle.rows.specs.declared.Rows.{Rows};
-ghost use Rattle.drives.specs.Drives.{Drives};
-ghost use Rattle.register.specs.Circuit.{circuit};
 ghost use Rattle.set_file.specs.Reading.{takenCircuit};
 ghost use Rattle.signatures.specs.Signature.{signature};
 ghost use Rattle.signing.specs.Signing.{valueCells, signReply, saidSigned};
-use register::Register;
 use rows::Rows;
 use set_file::SetAnswer;
 use set_file::Taken;
@@ -20,38 +14,6 @@ use set_file::Taken;
 pub enum Signed {
     Signature { signature: u64 },
     Refused { number: u64 },
-}
-
-// From so many slices on the drives of all slices by tables take less time than going from one cell that is 1 to the next: the tables of 256
-// chains take some 16,000 instructions, and a slice half of whose cells are 1 takes some 700.
-const MANY_SLICES: u16 = 24;
-
-// The signature of the first s rows that stand in `list`, from a register that holds 0: each row is lent to the chains as it stands there.
-fn sign_by_cells(register: Register, spread: &[u64], list: &[u8], rows: Rows, s: u16) -> u64
-    requires { ⌜ register .state ≡ 0 ⌝ }
-    ensures { λ r. ⌜ r ≡ signature (circuit (min (register .m) 64) (register .taps) (register .inversion) (now (spread .entry))) (cellsOf (now (list .entry)) rows) s ⌝ }
-{
-    let mut held = register;
-    let mut t: u16 = 0;
-    while t < s {
-        held = held.clock_driven(chains::driven_word(spread, rows::row_of(list, rows, t)));
-        t += 1;
-    }
-    held.state
-}
-
-// The signature of s slices by what the chains drive in each, from a register that holds 0.
-fn sign_by_drives(register: Register, drives: &[u64; drives::PLACES], s: u16) -> u64
-    requires { ⌜ (register .state ≡ 0) × (s ≤ 512) ⌝ }
-    ensures { λ r. ⌜ ((ws l : List ℕ) (rows : Rows) → Drives ws l rows s (now (drives .entry)) → r ≡ signature (circuit (min (register .m) 64) (register .taps) (register .inversion) ws) (cellsOf l rows) s) ⌝ }
-{
-    let mut held = register;
-    let mut t: u16 = 0;
-    while t < s {
-        held = held.clock_driven(drives[t as usize]);
-        t += 1;
-    }
-    held.state
 }
 
 // The signature of the response of a taken set's shape whose rows stand in `list`, from the fresh register on. It meets no number: a width
@@ -64,12 +26,7 @@ pub fn sign_rows(taken: Taken, list: &[u8], rows: Rows) -> u64
     let spread = chains::all_words(words);
     let given = taken.register;
     let s = taken.s;
-    let register = Register::fresh(given.m, given.taps, given.inversion);
-    if (s < MANY_SLICES) | (drives::PLACES < s as usize) {
-        return sign_by_cells(register, &spread[..chains], list, rows, s);
-    }
-    let driven = drives::slice_drives(&spread[..chains], list, rows, s);
-    sign_by_drives(register, &driven, s)
+    slice_signing::sign_slices(given, &spread[..chains], list, rows, s)
 }
 
 // The signature of a taken set's value rows as they stand: an unknown cell's value bit is 0. It meets no number.

@@ -3,9 +3,9 @@ use Prim.Native.Nat.{_-_, _≤_}
 use native.Mathlib.Omega.{arith}
 use borrow.Author.Needs.{needs}
 use Rattle.rows.specs.Lists.{cellsOf}
-use Rattle.signing.proofs.RunLaws.{Running, running-starts, running-turns, running-ends, row-driven}
-use Rattle.signing.proofs.sign_by_cells.Statement.{statement}
-use Rattle.signing.proofs.sign_by_cells.Tie as tie
+use Rattle.slice_signing.proofs.RunLaws.{Running, running-starts, running-turns, running-ends, row-driven}
+use Rattle.slice_signing.proofs.sign_by_cells.Statement.{statement}
+use Rattle.slice_signing.proofs.sign_by_cells.Tie as tie
 
 abbrev Inv-loop : tie.InvT-loop
 Inv-loop spread list rows s held₀ t₀ held t =

@@ -7,9 +7,9 @@ use borrow.Author.Needs.{needs}
 use Rattle.rows.specs.Lists.{cellsOf}
 use Rattle.rows.specs.declared.Rows.{Rows}
 use Rattle.drives.specs.Drives.{Drives}
-use Rattle.signing.proofs.RunLaws.{Running, running-starts, running-turns, running-ends}
-use Rattle.signing.proofs.sign_by_drives.Statement.{statement}
-use Rattle.signing.proofs.sign_by_drives.Tie as tie
+use Rattle.slice_signing.proofs.RunLaws.{Running, running-starts, running-turns, running-ends}
+use Rattle.slice_signing.proofs.sign_by_drives.Statement.{statement}
+use Rattle.slice_signing.proofs.sign_by_drives.Tie as tie
 
 abbrev Inv-loop : tie.InvT-loop
 Inv-loop drives s held₀ t₀ held t =

@@ -1,0 +1,65 @@
+-- `sign_by_half_bytes` meets its contract. The loop's invariant: the register holds the state after the first `t` rows.
+use Prim.Native.Nat.{_-_, _≤_}
+use native.Mathlib.Omega.{arith}
+use borrow.Author.Needs.{needs}
+use Rattle.rows.specs.Lists.{cellsOf}
+use Rattle.slice_signing.proofs.RunLaws.{Running, running-starts, running-turns, running-ends, row-looked}
+use Rattle.slice_signing.proofs.sign_by_half_bytes.Statement.{statement}
+use Rattle.slice_signing.proofs.sign_by_half_bytes.Tie as tie
+
+abbrev Inv-loop : tie.InvT-loop
+Inv-loop spread list rows s table held₀ t₀ held t =
+    (t ≤ s) × Running (held₀ .m) (held₀ .taps) (held₀ .inversion) spread (cellsOf list rows) (held .m) (held .taps) (held .inversion) (held .state) t
+
+abbrev μ-loop : tie.MeasureT-loop
+μ-loop spread list rows s table held₀ t₀ held t = s - t
+
+half-bytes-requires : tie.Need-half-bytes-requires Inv-loop μ-loop
+half-bytes-requires c κs = search needs
+
+loop-holds : tie.Need-loop-holds Inv-loop μ-loop
+loop-holds c = (search needs, running-starts _ _ _ _ _ _ (c .before .before .before .pre .0))
+
+row-of-requires : tie.Need-row-of-requires Inv-loop μ-loop
+row-of-requires c κs = search needs
+
+looked-up-requires : tie.Need-looked-up-requires Inv-loop μ-loop
+looked-up-requires c κs = search needs
+
+clock-driven-requires : tie.Need-clock-driven-requires Inv-loop μ-loop
+clock-driven-requires c κs = search needs
+
+add-t : tie.Need-add-t Inv-loop μ-loop
+add-t c = search needs
+
+loop-less : tie.Need-loop-less Inv-loop μ-loop
+loop-less c = search needs
+
+loop-again : tie.Need-loop-again Inv-loop μ-loop
+loop-again c =
+    let args = c .before .before .before .before .before .before .before .before .before .args in
+    let bytes = c .before .before .before .before .before .before .before .shared-slice-known2 .given in
+    let row = c .before .before .row-of in (
+      search needs,
+      running-turns _ _ _ _ _ _ _ _ _ _ _ _ _ _ _ (c .before .before .before .before .before .loop .inv .1) (c .clock-driven .ensures)
+          (row-looked (args .spread .now) (c .before .before .before .before .before .before .half-bytes .result) (args .list .now) (row .result .now) (args .rows) _ _ (c .before .before .before .before .before .before .before .before .before .pre .1) (c .before .before .before .before .before .before .half-bytes .ensures) (λ i. bytes i .fits) (row .ensures) (c .before .looked-up .ensures)),
+    )
+
+returns : tie.Need-returns Inv-loop μ-loop
+returns c = running-ends _ _ _ _ _ _ _ _ _ _ _ (c .before .loop .inv .1) (omega arith)
+
+pub sign-by-half-bytes-spec : {M : Type 1} → statement M
+sign-by-half-bytes-spec =
+    tie.close
+    (tie.spec
+    Inv-loop
+    μ-loop
+    half-bytes-requires
+    loop-holds
+    row-of-requires
+    looked-up-requires
+    clock-driven-requires
+    add-t
+    loop-less
+    loop-again
+    returns)
