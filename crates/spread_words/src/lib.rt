@@ -103,12 +103,12 @@ fn reduce_spread(slots: &[u64], dead: u64, columns: &[u64], words: &mut [u64]) -
     keep_alive(&made[..], gone, words)
 }
 
-// Where by a basis a column takes less time, though it takes some to make it and to make the words from it again. These are estimates:
-// with how many words and for how many columns it pays, and for how many of the columns. Behind these most of the rank is found, and a
-// table passes over columns faster.
+// Where the basis pays: it takes some time to make it, and to make the words from it again. These are estimates: of how many words and how
+// many pairs of a word and a column on it takes less time than a parity for each pair, and for how many of the columns it is used. Behind
+// these most of the rank is found, and a table passes over columns faster.
 const FEWEST_WORDS: usize = 16;
 
-const FEWEST_COLUMNS: usize = 16;
+const FEWEST_PAIRS: usize = 700;
 
 const MOST_COLUMNS: usize = 128;
 
@@ -122,14 +122,13 @@ fn taken_count(words: usize, columns: usize) -> usize
     if words < FEWEST_WORDS {
         return 0;
     }
-    if columns < FEWEST_COLUMNS {
+    if MOST_COLUMNS <= columns {
+        return MOST_COLUMNS;
+    }
+    if words * columns < FEWEST_PAIRS {
         return 0;
     }
-    if columns < MOST_COLUMNS {
-        columns
-    } else {
-        MOST_COLUMNS
-    }
+    columns
 }
 
 // How many columns were taken, and how many words are left.
