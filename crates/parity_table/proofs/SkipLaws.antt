@@ -20,7 +20,6 @@ use Rattle.combinations.specs.Combination.{xFree}
 use Rattle.combinations.specs.Step.{steps}
 use Rattle.combinations.proofs.XFree.{x-free-cons}
 use Rattle.parity_table.specs.Table.{ParityTable, tablePays, runOf, evenRun, tableRun}
-use Rattle.parity_table.proofs.TableLaws.{looked-parities}
 use Rattle.combinations.proofs.Agreeing.{even-exactly}
 use Rattle.combinations.proofs.StepLaws.{step-same}
 
@@ -79,7 +78,7 @@ run-ext f g (c ∷ cs) h = ap₂ (λ (b : Bool) (n : ℕ). cond b (suc n) 0) (h 
 pub table-run : (ws table cs : List ℕ) → ParityTable ws table → ((i : ℕ) → getD cs i 0 < 2 ^ 64) → tableRun table cs ≡ evenRun ws cs
 table-run ws table cs right small =
     run-ext _ _ cs
-    (λ i l. ap (λ (x : ℕ). eqb x 0) (looked-parities ws table right (getD cs i 0) (small i)) ∙ sym (even-exactly ws (getD cs i 0)))
+    (λ i l. ap (λ (x : ℕ). eqb x 0) (right (getD cs i 0) (small i)) ∙ sym (even-exactly ws (getD cs i 0)))
 
 pub table-run-from : (ws table cs : List ℕ) (from r : ℕ) → ParityTable ws table → ((i : ℕ) → getD cs i 0 < 2 ^ 64)
     → r ≡ from + tableRun table (drop from cs) → r ≡ from + evenRun ws (drop from cs)

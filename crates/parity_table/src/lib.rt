@@ -5,45 +5,18 @@ ghost use mathlib.Core.Bool.{true, false};
 ghost use Prim.Native.Nat.{ℕ, _+_, _<_};
 ghost use lib.ListN.{length, getD, take, drop};
 ghost use Rattle.word.specs.Word.{parity};
-ghost use Rattle.word.specs.Zeros.{zeros};
 ghost use Rattle.combinations.specs.Combination.{xFree};
-ghost use Rattle.parity_table.specs.Table.{ParityTable, lookedParities, tablePays, evenRun, tableRun};
+ghost use Rattle.parity_table.specs.Table.{ParityTable, tablePays, evenRun, tableRun};
 
-fn no_entries() -> [u64; 2048]
-    ensures { λ r. ⌜ r ≡ zeros 2048 ⌝ }
-{
-    [0u64; 2048]
-}
-
-// The table of bytes: for each of the eight bytes of a column and each value of it, its parities with the first 64 words. Bit i doubles
-// the entries that its byte has so far. It takes about as long to make as five hundred parities.
+// The table of the parities of the first 64 words with every byte of a column: that of their rows (`turned_words::turn`). It takes about as
+// long to make as five hundred parities.
 pub fn byte_table(words: &[u64]) -> [u64; 2048]
     ensures { λ r. ⌜ ParityTable (take 64 (now (words .entry))) r ⌝ }
 {
-    let bits = turned_words::turn(words);
-    let mut table = no_entries();
-    let mut i: usize = 0;
-    while i < 64 {
-        let bit = bits[i];
-        word::double_entries(&mut table[..], 256 * (i / 8), 1usize << (i % 8), bit);
-        i += 1;
-    }
+    let rows = turned_words::turn(words);
+    let mut table = byte_tables::no_entries();
+    byte_tables::fill_table(&mut table[..], &rows[..]);
     table
-}
-
-// The XOR of the table's entries for the eight bytes of a column.
-fn looked_up(table: &[u64; 2048], column: u64) -> u64
-    ensures { λ r. ⌜ r ≡ lookedParities (now (table .entry)) column 8 ⌝ }
-{
-    let mut all: u64 = 0;
-    let mut rest = column;
-    let mut b: usize = 0;
-    while b < 8 {
-        all = all ^ table[256 * b + (rest % 256) as usize];
-        rest = rest / 256;
-        b += 1;
-    }
-    all
 }
 
 // The place of the first column, from place `from` on, for which the table doesn't give 0; the end where none is. By the table of some
@@ -53,7 +26,7 @@ pub fn skip_by_table(table: &[u64; 2048], columns: &[u64], from: usize) -> usize
 {
     let mut i = from;
     while i < columns.len() {
-        if looked_up(table, columns[i]) != 0 {
+        if byte_tables::looked_up(table, columns[i]) != 0 {
             return i;
         }
         i += 1;

@@ -57,7 +57,7 @@ module _ (ws : List ℕ) where
       (bit-cases d h)
 
   -- the XOR of the rows of a column's bits is its parities with all the words
-  rows-marked : (rows : List ℕ) (c : ℕ) → Turns ws rows → c < 2 ^ 64 → xorMarked rows c ≡ parities ws c
+  pub rows-marked : (rows : List ℕ) (c : ℕ) → Turns ws rows → c < 2 ^ 64 → xorMarked rows c ≡ parities ws c
   unfolding xorMarked
   rows-marked rows c t h =
       ap (λ (n : ℕ). xorBelow n (λ i. digit i c * getD rows i 0)) (t .long)

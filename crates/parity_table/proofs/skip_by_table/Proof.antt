@@ -4,14 +4,14 @@ use Prim.Native.Nat.{_-_}
 use borrow.Author.Tests.{eq-eqb, ne-eqb}
 use lib.Dec.{eqb}
 use lib.ListN.{length}
-use Rattle.parity_table.specs.Table.{lookedParities}
+use Rattle.byte_tables.specs.Table.{looked}
 use Rattle.parity_table.proofs.SkipLaws.{Skipped, skipped-start, skipped-turn, skipped-stop, skipped-all}
 use borrow.Author.Needs.{needs}
 use Rattle.parity_table.proofs.skip_by_table.Statement.{statement}
 use Rattle.parity_table.proofs.skip_by_table.Tie as tie
 
 abbrev Inv-loop : tie.InvT-loop
-Inv-loop table columns from i₀ i = Skipped (λ x. eqb (lookedParities table x 8) 0) columns from i
+Inv-loop table columns from i₀ i = Skipped (λ x. eqb (looked table x 8) 0) columns from i
 
 abbrev μ-loop : tie.MeasureT-loop
 μ-loop table columns from i₀ i = length columns - i
