@@ -1004,10 +1004,21 @@ class Batch:
             self.call("elimination::add_columns", v=self.pick([words, [1 << b for b in range(m)]]), u=few)
             for room in (0, 1, len(words), len(words) + 1, 64):
                 self.call("elimination::write_front", v=self.junk_words(room), u=words)
+            many = [self.bits(m) for _ in range(self.pick([11, 16, 30, 64, 127, 128, 140]))]
+            wide = self.word_list(64, self.pick([31, 32, 40, 54, 63, 64]))
+            other = list(wide)
+            other[self.random.randrange(len(other))] ^= self.pick([0, 1 << 63, wide[-1], wide[0], self.bits(64)])
+            for held in (wide, other, [1 << b for b in range(self.pick([32, 40, 64]))], self.junk_words(self.pick([40, 65]))):
+                self.call("spread_words::begin", v=held, u=self.pick([many, few, [self.bits(64) for _ in range(24)]]))
+            for name in ("column_basis::slot_words", "column_basis::take_columns"):
+                self.call(name, [self.pick([0, ALL, ALL ^ low(m), self.bits(64)])], u=self.pick([few, many]), v=self.junk_words(64))
+            self.call("column_basis::xor_into", [self.pick([0, ALL, self.bits(64)]), self.bits(64)], v=self.junk_words(self.pick([0, 1, 40, 64, 70])))
             self.call("word::clear_words", v=self.junk_words(self.pick([0, 1, 2, 63, 64, 65, 200])))
             self.call("powers::from_powers", [self.pick([self.bits(64), self.bits(m), self.pick(NUMBERS)])],
                       u=self.pick([powers_of(m, self.taps(m))[:m], self.junk_words(self.pick([0, 1, 3, 63, 64, 65, 70]))]))
         self.call("elimination::unit_words", v=self.junk_words(64))
+        self.call("column_basis::unit_words", v=self.junk_words(64))
+        self.call("column_basis::no_words", v=self.junk_words(64))
         self.call("powers::no_powers", v=self.junk_words(576))
         for seen, w in ((0, 0), (0, 1), (1, 1), (1, 2), (1, 3), (2, 1)):
             self.call("reduced_list::is_next", [seen, w])
