@@ -3,13 +3,17 @@
 --   looked-later   a word moved up, with what is looked up for the bits that leave the width, is the word some clocks later
 --   entry-few      .. by one table for every number of clocks: bits that stand lower take some clocks to the top, where nothing comes back
 --   table-starts, table-turns, table-ends   the table made by doubling
+--   eights-on      words that are looked up for 8 clocks at the last of eight are the words after whole eights of clocks
 --
 -- Assumes nothing.
 use mathlib.Core.Path.{_≡_, refl, sym, ap, ap₂, _∙_, subst}
+use mathlib.Core.Bool.{Bool, true, false, cond}
 use mathlib.Core.Logic.{dite}
 use mathlib.Core.List.{List, [], _∷_, map}
 use Prim.Native.Nat.{ℕ, zero, suc, _+_, _-_, _*_, _/_, _%_, _^_, _≤_, _<_, min}
 use native.Mathlib.Omega.{arith}
+use borrow.Author.Tests.{eqb-true, eqb-false, eq-eqb, ne-eqb}
+use lib.Dec.{eqb}
 use native.Mathlib.Decide.{decLt}
 use native.Mathlib.Numerals.{add-one}
 use native.Mathlib.Nat.{pow-suc, mod-lt, mod-self, mod-eq-of-lt, div-self, one-mul, zero-mul, mul-one, mul-comm, mul-assoc, mul-mod-left, lt-of-lt-of-le}
@@ -247,3 +251,33 @@ module _ (k : Circuit) (wide : 8 ≤ k .width) where
 
   pub table-ends : (table : List ℕ) (bit i : ℕ) → i ≡ 8 → Made k table bit i → EightOn k table
   table-ends table bit i e m = (subst (Made k table bit) e m) .right
+
+-- ---- whole eights of clocks
+
+pub later-twice : (k : Circuit) (i j : ℕ) (ws : List ℕ) → map (later k j) (map (later k i) ws) ≡ map (later k (i + j)) ws
+later-twice k i j [] = refl
+later-twice k i j (w ∷ ws) = ap₂ _∷_ (sym (later-add k i j w)) (later-twice k i j ws)
+
+-- words after the whole eights of n clocks, and then of one clock more: looked up where it is the last of eight
+module _ (k : Circuit) (wide : 8 ≤ k .width) (table : List ℕ) (right : EightOn k table) where
+  pub eights-on : (n : ℕ) (spread ws ws′ : List ℕ) → ws ≡ map (later k (8 * (n / 8))) spread
+      → ws′ ≡ cond (eqb (n % 8) 7) (map (lookedOn (k .width) table 8) ws) ws → ws′ ≡ map (later k (8 * (suc n / 8))) spread
+  eights-on n spread ws ws′ ew e = go (eqb (n % 8) 7) refl
+    where
+      go : (b : Bool) → eqb (n % 8) 7 ≡ b → ws′ ≡ map (later k (8 * (suc n / 8))) spread
+      go true h =
+          let last : n % 8 ≡ 7 = eqb-true (n % 8) 7 h in
+          let more : 8 * (n / 8) + 8 ≡ 8 * (suc n / 8) = omega arith in
+          e ∙ ap (λ (b : Bool). cond b (map (lookedOn (k .width) table 8) ws) ws) h ∙ looked-all k wide table right 8 (omega arith) ws
+          ∙ ap (map (later k 8)) ew ∙ later-twice k (8 * (n / 8)) 8 spread ∙ ap (λ (j : ℕ). map (later k j) spread) more
+      go false h =
+          let other : n % 8 ≡ 7 → ⊥ = eqb-false (n % 8) 7 h in
+          let same : 8 * (n / 8) ≡ 8 * (suc n / 8) = omega (arith, other) in
+          e ∙ ap (λ (b : Bool). cond b (map (lookedOn (k .width) table 8) ws) ws) h ∙ ew ∙ ap (λ (j : ℕ). map (later k j) spread) same
+
+-- the test for the last of eight
+pub looked-up : (t : ℕ) (vs ws : List ℕ) → t % 8 ≡ 7 → vs ≡ cond (eqb (t % 8) 7) vs ws
+looked-up t vs ws h = sym (ap (λ (b : Bool). cond b vs ws) (eq-eqb (t % 8) 7 h))
+
+pub left-alone : (t : ℕ) (vs ws : List ℕ) → (t % 8 ≡ 7 → ⊥) → ws ≡ cond (eqb (t % 8) 7) vs ws
+left-alone t vs ws h = sym (ap (λ (b : Bool). cond b vs ws) (ne-eqb (t % 8) 7 h))

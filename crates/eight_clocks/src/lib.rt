@@ -3,6 +3,7 @@
 ghost use mathlib.Core.Path.{_≡_};
 ghost use mathlib.Core.List.{[], map};
 ghost use Prim.Native.Nat.{min, _≤_, _-_, _%_};
+ghost use lib.ListN.{length};
 ghost use Rattle.word.specs.Zeros.{zeros};
 ghost use Rattle.register.specs.Circuit.{Circuit, circuit};
 ghost use Rattle.signatures.specs.Later.{later};
@@ -42,12 +43,13 @@ fn below_top(m: u64, bits: u64) -> u64
     width - bits
 }
 
-// Puts for each word what it is 8 clocks later, by the table (`eight_on`) of a register of width m, which counts as at most 64. The register has at
-// least 8 bits; the words may have bits above it.
-pub fn advance_eight(m: u64, table: &[u64; 256], words: &mut [u64])
-    ensures looked { λ _. ⌜ now (words .exit) ≡ map (lookedOn (min m 64) (now (table .entry)) 8) (now (words .entry)) ⌝ }
-    ensures eight { λ _. ⌜ ((k : Circuit) → k .width ≡ min m 64 → 8 ≤ k .width → EightOn k (now (table .entry)) → now (words .exit) ≡ map (later k 8) (now (words .entry))) ⌝ }
+// Looks each word up for 8 clocks in a table of a register of width m, which counts as at most 64. With fewer than 256 entries it does nothing.
+pub fn look_eight(m: u64, table: &[u64], words: &mut [u64])
+    ensures { λ _. ⌜ (256 ≤ length (now (table .entry)) → now (words .exit) ≡ map (lookedOn (min m 64) (now (table .entry)) 8) (now (words .entry))) ⌝ }
 {
+    if table.len() < 256 {
+        return;
+    }
     let mask = word::low_mask(m);
     let down = below_top(m, 8);
     let mut c = 0;
@@ -58,13 +60,15 @@ pub fn advance_eight(m: u64, table: &[u64; 256], words: &mut [u64])
     }
 }
 
-// Puts for each word what it is so many clocks later, without whole eights of them: 0 to 7, by the same table.
-pub fn advance_few(m: u64, clocks: u16, table: &[u64; 256], words: &mut [u64])
-    ensures looked { λ _. ⌜ now (words .exit) ≡ map (lookedOn (min m 64) (now (table .entry)) (clocks % 8)) (now (words .entry)) ⌝ }
-    ensures few { λ _. ⌜ ((k : Circuit) → k .width ≡ min m 64 → 8 ≤ k .width → EightOn k (now (table .entry)) → now (words .exit) ≡ map (later k (clocks % 8)) (now (words .entry))) ⌝ }
+// Looks each word up for so many clocks, without whole eights of them: 0 to 7, in the same table.
+pub fn look_few(m: u64, clocks: usize, table: &[u64], words: &mut [u64])
+    ensures { λ _. ⌜ (256 ≤ length (now (table .entry)) → now (words .exit) ≡ map (lookedOn (min m 64) (now (table .entry)) (clocks % 8)) (now (words .entry))) ⌝ }
 {
     let few = (clocks % 8) as u64;
     if few == 0 {
+        return;
+    }
+    if table.len() < 256 {
         return;
     }
     let mask = word::low_mask(m);
@@ -76,4 +80,21 @@ pub fn advance_few(m: u64, clocks: u16, table: &[u64; 256], words: &mut [u64])
         words[c] = ((w << few) & mask) ^ table[((w >> down) & out) as usize];
         c += 1;
     }
+}
+
+// Puts for each word what it is 8 clocks later, by the table (`eight_on`) of a register of width m, which counts as at most 64. The register has at
+// least 8 bits; the words may have bits above it.
+pub fn advance_eight(m: u64, table: &[u64; 256], words: &mut [u64])
+    ensures looked { λ _. ⌜ now (words .exit) ≡ map (lookedOn (min m 64) (now (table .entry)) 8) (now (words .entry)) ⌝ }
+    ensures eight { λ _. ⌜ ((k : Circuit) → k .width ≡ min m 64 → 8 ≤ k .width → EightOn k (now (table .entry)) → now (words .exit) ≡ map (later k 8) (now (words .entry))) ⌝ }
+{
+    look_eight(m, &table[..], words);
+}
+
+// Puts for each word what it is so many clocks later, without whole eights of them: 0 to 7, by the same table.
+pub fn advance_few(m: u64, clocks: u16, table: &[u64; 256], words: &mut [u64])
+    ensures looked { λ _. ⌜ now (words .exit) ≡ map (lookedOn (min m 64) (now (table .entry)) (clocks % 8)) (now (words .entry)) ⌝ }
+    ensures few { λ _. ⌜ ((k : Circuit) → k .width ≡ min m 64 → 8 ≤ k .width → EightOn k (now (table .entry)) → now (words .exit) ≡ map (later k (clocks % 8)) (now (words .entry))) ⌝ }
+{
+    look_few(m, clocks as usize, &table[..], words);
 }

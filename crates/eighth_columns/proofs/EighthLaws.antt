@@ -1,10 +1,9 @@
 -- The columns of all slices by eights of clocks, written from the end: the start, the turn and the end of the loop over the slices. Assumes nothing.
-use mathlib.Core.Path.{_≡_, refl, sym, ap, ap₂, _∙_}
-use mathlib.Core.Bool.{Bool, true, false, cond}
-use mathlib.Core.List.{List, [], _∷_, _++_, map}
+use mathlib.Core.Path.{_≡_, sym, ap, ap₂, _∙_}
+use mathlib.Core.Bool.{cond}
+use mathlib.Core.List.{List, _++_, map}
 use Prim.Native.Nat.{ℕ, suc, _+_, _-_, _*_, _/_, _%_, _≤_, _<_, min}
 use native.Mathlib.Omega.{arith}
-use borrow.Author.Tests.{eqb-true, eqb-false, eq-eqb, ne-eqb}
 use lib.Dec.{eqb}
 use lib.ListN.{length, take, drop, getD, length-map, length-append, length-drop}
 use lib.Seq.{take-at, length-take-le}
@@ -18,20 +17,13 @@ use Rattle.signatures.specs.Columns.{columnsBelow}
 use Rattle.marked_words.specs.Back.{back}
 use Rattle.powers.proofs.PowerLaws.{later-add}
 use Rattle.eight_clocks.specs.Eight.{EightOn, lookedOn}
-use Rattle.eight_clocks.proofs.EightLaws.{looked-later, looked-all}
+use Rattle.eight_clocks.proofs.EightLaws.{looked-later, eights-on}
 use Rattle.swept_columns.proofs.FillLaws.{laterWords, later-words, later-words-none, later-words-get, later-words-length, later-words-suc, Filled, filled-inside, filled-room, filled-starts, filled-down, filled-ends, filled-place}
 use Rattle.sparse_columns.proofs.SparseLaws.{map-chosen}
 
 -- so many clocks in whole eights
 abbrev eights : ℕ → ℕ
 eights n = 8 * (n / 8)
-
-later-words-add : (k : Circuit) (i j : ℕ) (ws : List ℕ) → map (later k j) (laterWords k i ws) ≡ laterWords k (i + j) ws
-later-words-add k i j ws = ap (map (later k j)) (later-words k i ws) ∙ all ws ∙ sym (later-words k (i + j) ws)
-  where
-    all : (l : List ℕ) → map (later k j) (map (later k i) l) ≡ map (later k (i + j)) l
-    all [] = refl
-    all (w ∷ l) = ap₂ _∷_ (sym (later-add k i j w)) (all l)
 
 module _ (k : Circuit) (s : ℕ) (u : Response) where
   -- what the loop knows: the columns of the slices from t on stand at the list's end, `place` places stand before them, and the words are the
@@ -66,18 +58,9 @@ module _ (k : Circuit) (s : ℕ) (u : Response) where
     -- the words for the slice before
     passed : (n : ℕ) (ws ws′ : List ℕ) → ws ≡ laterWords k (eights n) (k .spread)
         → ws′ ≡ cond (eqb (n % 8) 7) (map (lookedOn (k .width) table 8) ws) ws → ws′ ≡ laterWords k (eights (suc n)) (k .spread)
-    passed n ws ws′ ew e = go (eqb (n % 8) 7) refl
-      where
-        go : (b : Bool) → eqb (n % 8) 7 ≡ b → ws′ ≡ laterWords k (eights (suc n)) (k .spread)
-        go true h =
-            let last : n % 8 ≡ 7 = eqb-true (n % 8) 7 h in
-            let more : eights n + 8 ≡ eights (suc n) = omega arith in
-            e ∙ ap (λ (b : Bool). cond b (map (lookedOn (k .width) table 8) ws) ws) h ∙ looked-all k wide table right 8 (omega arith) ws
-            ∙ ap (map (later k 8)) ew ∙ later-words-add k (eights n) 8 (k .spread) ∙ ap (λ (j : ℕ). laterWords k j (k .spread)) more
-        go false h =
-            let other : n % 8 ≡ 7 → ⊥ = eqb-false (n % 8) 7 h in
-            let same : eights n ≡ eights (suc n) = omega (arith, other) in
-            e ∙ ap (λ (b : Bool). cond b (map (lookedOn (k .width) table 8) ws) ws) h ∙ ew ∙ ap (λ (j : ℕ). laterWords k j (k .spread)) same
+    passed n ws ws′ ew e =
+        eights-on k wide table right n (k .spread) ws ws′ (ew ∙ later-words k (eights n) (k .spread)) e
+        ∙ sym (later-words k (eights (suc n)) (k .spread))
 
     -- the words of marked cells, for the clocks between
     between : (n : ℕ) (ws : List ℕ) (x : ℕ → ℕ) → ws ≡ laterWords k (eights n) (k .spread)
@@ -123,13 +106,6 @@ module _ (vs ws : List ℕ) (n : ℕ) (h : n ≤ length ws) (e : length vs ≡ l
 
   pub first-changed-length : length (vs ++ drop n ws) ≡ length ws
   first-changed-length = length-append vs (drop n ws) ∙ omega (arith, e, length-take-le n ws h, length-drop n ws)
-
--- the test for the last of eight slices
-pub looked-up : (t : ℕ) (vs ws : List ℕ) → t % 8 ≡ 7 → vs ≡ cond (eqb (t % 8) 7) vs ws
-looked-up t vs ws h = sym (ap (λ (b : Bool). cond b vs ws) (eq-eqb (t % 8) 7 h))
-
-pub left-alone : (t : ℕ) (vs ws : List ℕ) → (t % 8 ≡ 7 → ⊥) → ws ≡ cond (eqb (t % 8) 7) vs ws
-left-alone t vs ws h = sym (ap (λ (b : Bool). cond b vs ws) (ne-eqb (t % 8) 7 h))
 
 -- the limits on chains and slices, where the words are 256
 pub limited-columns : (m taps inversion n s chains slices : ℕ) (spread words : List ℕ) (u : Response) → chains ≡ min n 256 → slices ≡ min s 512

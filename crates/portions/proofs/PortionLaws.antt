@@ -1,20 +1,19 @@
 -- A portion of the columns: the columns of one row, whichever way they are made, and the start, the turn and the ends of the loop over the
 -- slices. Assumes nothing.
 use mathlib.Core.Path.{_≡_, refl, sym, ap, ap₂, _∙_, subst}
-use mathlib.Core.Bool.{false}
+use mathlib.Core.Bool.{cond}
 use mathlib.Core.Logic.{_⊎_, inl, inr, ⊎-elim, dite}
-use mathlib.Core.List.{List, [], _∷_, _++_, map, map-append, map-map, append-assoc, append-nil}
-use Prim.Native.Nat.{ℕ, zero, suc, _+_, _-_, _*_, _≤_, _<_, min}
+use mathlib.Core.List.{List, _++_, map, map-append, append-assoc, append-nil}
+use Prim.Native.Nat.{ℕ, zero, suc, _+_, _-_, _*_, _/_, _%_, _≤_, _<_, min}
 use native.Mathlib.Decide.{ℕ-discrete}
 use native.Mathlib.Omega.{arith}
+use lib.Dec.{eqb}
 use lib.ListN.{length, take, drop, getD, length-append, length-drop, length-map, drop-of-length-le}
 use lib.Seq.{take-at, drop-at, take-all, take-take, drop-length, take-append-le, drop-append-le, length-take-le, length-front, getD-take}
-use Rattle.numbers.specs.Joined.{joined}
 use Rattle.numbers.proofs.JoinLaws.{joined-ext}
 use Rattle.rows.specs.Row.{Cells, cell}
 use Rattle.rows.specs.Marks.{listed, markedWords}
 use Rattle.register.specs.Circuit.{Circuit, chains, advanced}
-use Rattle.chains.specs.Driven.{badSpread}
 use Rattle.chains.proofs.Laws.{good-spread}
 use Rattle.signatures.specs.Signature.{Response}
 use Rattle.rows.specs.Lists.{cellsOf}
@@ -22,14 +21,16 @@ use Rattle.rows.specs.declared.Rows.{Rows}
 use Rattle.signatures.specs.Later.{later}
 use Rattle.signatures.specs.Columns.{sliceColumns, columnsBelow}
 use Rattle.powers.specs.Powers.{fromPowers}
-use Rattle.powers.proofs.PowerLaws.{from-powers, powers-part}
+use Rattle.powers.proofs.PowerLaws.{from-powers, powers-part, later-add}
+use Rattle.eight_clocks.specs.Eight.{lookedOn}
+use Rattle.eight_clocks.proofs.EightLaws.{looked-later, eights-on}
 use Rattle.marked_words.specs.Fitting.{FittedIn}
 use Rattle.marked_words.specs.declared.Fitted.{Fitted}
 use Rattle.marked_rows.specs.Last.{lastMarked}
-use Rattle.marked_rows.proofs.LastLaws.{last-le, blank-cells}
-use Rattle.swept_columns.proofs.FillLaws.{columns-skipped, laterWords, later-words, later-words-none, later-words-suc, later-words-get, later-words-length, first-words}
+use Rattle.marked_rows.proofs.LastLaws.{blank-cells}
+use Rattle.swept_columns.proofs.FillLaws.{columns-skipped, laterWords, later-words, later-words-suc, later-words-get, first-words}
 use Rattle.sparse_columns.proofs.SparseLaws.{map-chosen}
-use Rattle.portions.specs.Portions.{columnsLeft, Way, swept, sparse, Ready, RowFits, PortionOf}
+use Rattle.portions.specs.Portions.{columnsLeft, Way, swept, eights, sparse, Ready, RowLater, SliceDone, RowFits, PortionOf}
 use Rattle.portions.specs.declared.Portion.{Portion}
 
 -- ---- the columns that are left
@@ -55,35 +56,46 @@ front-words ws x c n h =
 module _ (k : Circuit) (j : ℕ) (ps ws : List ℕ) where
   pub way-length : Way k j ps ws → length ws ≡ chains k
   way-length (swept none e) = ap length e ∙ length-map (k .spread) (later k j)
+  way-length (eights many wide right e) = ap length e ∙ length-map (k .spread) (later k (8 * (j / 8)))
   way-length (sparse many right good e) = ap length e
 
-  -- what was listed, us, and what was made of it where there are powers, vs
-  module _ (x : Cells) (c n width : ℕ) (us vs : List ℕ) (inside : c ≤ chains k) (h : n ≤ c) (wide : width ≡ k .width) (room : j + k .width ≤ 576)
-      (split : markedWords (take c ws) x c ≡ markedWords (take c ws) x n ++ us) (stay : length ps ≡ 0 → vs ≡ us)
-      (put : 0 < length ps → j + width ≤ length ps → vs ≡ map (fromPowers (take width (drop j ps))) us) where
+  -- what was listed, us, and what was made of it, vs
+  module _ (x : Cells) (c n : ℕ) (us vs : List ℕ) (inside : c ≤ chains k) (h : n ≤ c) (room : j + k .width ≤ 576)
+      (split : markedWords (take c ws) x c ≡ markedWords (take c ws) x n ++ us) (made : RowLater ps j (k .width) us vs) where
+    -- each word was made its chain's word by f
+    made-by : (f : ℕ → ℕ) → ((d : ℕ) → f (getD ws d 0) ≡ later k j (getD (k .spread) d 0)) → vs ≡ map f us
+        → markedWords (laterWords k j (k .spread)) x c ≡ markedWords (laterWords k j (k .spread)) x n ++ vs
+    made-by f right e =
+        sym (through c (omega arith)) ∙ ap (map f) split ∙ map-append f (markedWords (take c ws) x n) us
+        ∙ ap₂ (λ (a b : List ℕ). a ++ b) (through n h) (sym e)
+      where
+        through : (i : ℕ) → i ≤ c → map f (markedWords (take c ws) x i) ≡ markedWords (laterWords k j (k .spread)) x i
+        through i l =
+            map-chosen f (take c ws) (laterWords k j (k .spread)) x i
+            (λ d m. ap f (getD-take c ws d 0 (omega arith)) ∙ right d ∙ sym (later-words-get k j (k .spread) d))
+
     pub row-made : Way k j ps ws → markedWords (laterWords k j (k .spread)) x c ≡ markedWords (laterWords k j (k .spread)) x n ++ vs
     row-made (swept none e) =
         let same : ws ≡ laterWords k j (k .spread) = e ∙ sym (later-words k j (k .spread)) in
         ap (λ (l : List ℕ). markedWords l x c) (sym same) ∙ sym (front-words ws x c c (omega arith)) ∙ split
-        ∙ ap₂ (λ (a b : List ℕ). a ++ b) (front-words ws x c n h ∙ ap (λ (l : List ℕ). markedWords l x n) same) (sym (stay none))
+        ∙ ap₂ (λ (a b : List ℕ). a ++ b) (front-words ws x c n h ∙ ap (λ (l : List ℕ). markedWords l x n) same) (sym (made .stays none))
+    row-made (eights many wide right e) =
+        let sum : 8 * (j / 8) + j % 8 ≡ j = omega arith in
+        made-by (lookedOn (k .width) ps (j % 8))
+        (λ d.
+        looked-later k wide ps right (j % 8) (getD ws d 0) (omega arith)
+        ∙ ap (later k (j % 8)) (ap (λ (y : List ℕ). getD y d 0) (e ∙ sym (later-words k (8 * (j / 8)) (k .spread))) ∙ later-words-get k (8 * (j / 8)) (k .spread) d)
+        ∙ sym (later-add k (8 * (j / 8)) (j % 8) (getD (k .spread) d 0)) ∙ ap (λ (i : ℕ). later k i (getD (k .spread) d 0)) sum)
+        (made .looked many)
     row-made (sparse many right good e) =
-        sym (through c (omega arith)) ∙ ap (map f) split ∙ map-append f (markedWords (take c ws) x n) us
-        ∙ ap₂ (λ (a b : List ℕ). a ++ b) (through n h) (sym (put (omega arith) (omega arith)))
+        made-by (fromPowers (take (k .width) (drop j ps)))
+        (λ d.
+        ap (λ (y : List ℕ). fromPowers (take (k .width) (drop j ps)) (getD y d 0)) e
+        ∙ from-powers k (take (k .width) (drop j ps)) j (getD (k .spread) d 0) (part .1) (part .0) (good-spread (k .width) (k .spread) good d))
+        (made .powered many room)
       where
-        f : ℕ → ℕ
-        f = fromPowers (take width (drop j ps))
-
         part : (length (take (k .width) (drop j ps)) ≡ k .width) × ((i : ℕ) → i < k .width → getD (take (k .width) (drop j ps)) i 0 ≡ later k (i + j) 1)
         part = powers-part k ps j many (λ i l. right i (omega arith)) room
-
-        through : (i : ℕ) → i ≤ c → map f (markedWords (take c ws) x i) ≡ markedWords (laterWords k j (k .spread)) x i
-        through i l =
-            map-chosen f (take c ws) (laterWords k j (k .spread)) x i
-            (λ d m.
-            ap f (getD-take c ws d 0 (omega arith) ∙ ap (λ (y : List ℕ). getD y d 0) e)
-            ∙ ap (λ (w : ℕ). fromPowers (take w (drop j ps)) (getD (k .spread) d 0)) wide
-            ∙ from-powers k (take (k .width) (drop j ps)) j (getD (k .spread) d 0) (part .1) (part .0) (good-spread (k .width) (k .spread) good d)
-            ∙ sym (later-words-get k j (k .spread) d))
 
 -- ---- a row's list
 
@@ -114,23 +126,19 @@ rest-whole part start = take-all (length part - start) (drop start part) (omega 
 
 -- the row of slice t, of as many chains as there are words, listed and made the columns: ws₀ are the words, the first of ws
 module _ (k : Circuit) (s : ℕ) (u : Response) (ps ws ws₀ : List ℕ) (t : ℕ) (ready : Ready k s (suc t) ps ws) (few : length ws₀ ≤ chains k)
-    (first : ws₀ ≡ take (length ws₀) ws) (l part vs l₂ row : List ℕ) (width clocks : ℕ) (r : Fitted) (er : cell row ≡ u t)
-    (fit : FittedIn ws₀ (cell row) l part r) (ec : clocks ≡ s - suc t) (wide : width ≡ k .width)
-    (stay : length ps ≡ 0 → vs ≡ take (length part - r .place) (drop (r .place) part))
-    (put : 0 < length ps → clocks + width ≤ length ps → vs ≡ map (fromPowers (take width (drop clocks ps))) (take (length part - r .place) (drop (r .place) part)))
+    (first : ws₀ ≡ take (length ws₀) ws) (l part vs l₂ row : List ℕ) (clocks : ℕ) (r : Fitted) (er : cell row ≡ u t)
+    (fit : FittedIn ws₀ (cell row) l part r) (ec : clocks ≡ s - suc t) (made : RowLater ps clocks (k .width) (take (length part - r .place) (drop (r .place) part)) vs)
     (e : l₂ ≡ take (r .place) part ++ (vs ++ drop (length part - r .place) (drop (r .place) part))) where
   pub row-columns : sliceColumns k s u t (length ws₀) ≡ sliceColumns k s u t (r .chains) ++ drop (r .place) l₂
   row-columns =
       let within : t < s = ready .inside in
       first-words k s u t (length ws₀) within few
       ∙ ap (λ (x : Cells). markedWords (laterWords k (s - suc t) (k .spread)) x (length ws₀)) (sym er)
-      ∙ row-made k (s - suc t) ps ws (cell row) (length ws₀) (r .chains) width (drop (r .place) part) vs few (fit .chains) wide
+      ∙ row-made k (s - suc t) ps ws (cell row) (length ws₀) (r .chains) (drop (r .place) part) vs few (fit .chains)
       (omega (arith, ready .slices, ready .narrow))
       (ap (λ (x : List ℕ). markedWords x (cell row) (length ws₀)) (sym first) ∙ fit .listed ∙ ap (λ (x : List ℕ). markedWords x (cell row) (r .chains) ++ drop (r .place) part) first)
-      (λ z. stay z ∙ rest-whole part (r .place))
-      (λ z m.
-      put z (omega arith) ∙ ap (λ (i : ℕ). map (fromPowers (take width (drop i ps))) (take (length part - r .place) (drop (r .place) part))) ec
-      ∙ ap (map (fromPowers (take width (drop (s - suc t) ps)))) (rest-whole part (r .place)))
+      (subst (λ (x : List ℕ). RowLater ps (s - suc t) (k .width) x vs) (rest-whole part (r .place))
+      (subst (λ (i : ℕ). RowLater ps i (k .width) (take (length part - r .place) (drop (r .place) part)) vs) ec made))
       (ready .way)
       ∙ ap₂ (λ (a b : List ℕ). a ++ b)
       (ap (λ (x : Cells). markedWords (laterWords k (s - suc t) (k .spread)) x (r .chains)) er
@@ -139,15 +147,13 @@ module _ (k : Circuit) (s : ℕ) (u : Response) (ps ws ws₀ : List ℕ) (t : �
 
 -- .. of the slice before the t-th
 pub row-before : (k : Circuit) (s : ℕ) (u : Response) (ps ws ws₀ : List ℕ) (t : ℕ) → 0 < t → Ready k s t ps ws → length ws₀ ≤ chains k → ws₀ ≡ take (length ws₀) ws
-    → (l part vs l₂ row : List ℕ) (width clocks : ℕ) (r : Fitted) → cell row ≡ u (t - 1)
-    → FittedIn ws₀ (cell row) l part r → clocks ≡ s - t → width ≡ k .width
-    → (length ps ≡ 0 → vs ≡ take (length part - r .place) (drop (r .place) part))
-    → (0 < length ps → clocks + width ≤ length ps → vs ≡ map (fromPowers (take width (drop clocks ps))) (take (length part - r .place) (drop (r .place) part)))
+    → (l part vs l₂ row : List ℕ) (clocks : ℕ) (r : Fitted) → cell row ≡ u (t - 1)
+    → FittedIn ws₀ (cell row) l part r → clocks ≡ s - t → RowLater ps clocks (k .width) (take (length part - r .place) (drop (r .place) part)) vs
     → l₂ ≡ take (r .place) part ++ (vs ++ drop (length part - r .place) (drop (r .place) part))
     → sliceColumns k s u (t - 1) (length ws₀) ≡ sliceColumns k s u (t - 1) (r .chains) ++ drop (r .place) l₂
-row-before k s u ps ws ws₀ t h ready few first l part vs l₂ row width clocks r er fit ec wide stay put e =
+row-before k s u ps ws ws₀ t h ready few first l part vs l₂ row clocks r er fit ec made e =
     let back-up : t ≡ suc (t - 1) = omega arith in
-    row-columns k s u ps ws ws₀ (t - 1) (subst (λ (x : ℕ). Ready k s x ps ws) back-up ready) few first l part vs l₂ row width clocks r er fit (omega arith) wide stay put e
+    row-columns k s u ps ws ws₀ (t - 1) (subst (λ (x : ℕ). Ready k s x ps ws) back-up ready) few first l part vs l₂ row clocks r er fit (omega arith) made e
 
 -- ---- the loop over the slices
 
@@ -226,9 +232,11 @@ module _ (k : Circuit) (s : ℕ) (u : Response) (ps l₀ : List ℕ) (t₀ c₀ 
     }
 
   -- the row is done
-  pub filling-down : (ws ws′ l : List ℕ) (place t : ℕ) → Filling k s u ps l₀ t₀ c₀ ws l place (suc t) 0
-      → (length ps ≡ 0 → ws′ ≡ map (advanced (k .width) (k .taps)) ws) → (0 < length ps → ws′ ≡ ws) → Filling k s u ps l₀ t₀ c₀ ws′ l place t (chains k)
-  filling-down ws ws′ l place t f step stay = record {
+  filling-down : (ws ws′ l : List ℕ) (place t : ℕ) → Filling k s u ps l₀ t₀ c₀ ws l place (suc t) 0
+      → (length ps ≡ 0 → ws′ ≡ map (advanced (k .width) (k .taps)) ws)
+      → (length ps ≡ 256 → ws′ ≡ cond (eqb ((s - suc t) % 8) 7) (map (lookedOn (k .width) ps 8) ws) ws) → (length ps ≡ 576 → ws′ ≡ ws)
+      → Filling k s u ps l₀ t₀ c₀ ws′ l place t (chains k)
+  filling-down ws ws′ l place t f step pass stay = record {
     ready = record {
       inside = omega (arith, f .ready .inside);
       slices = f .ready .slices;
@@ -252,47 +260,61 @@ module _ (k : Circuit) (s : ℕ) (u : Response) (ps l₀ : List ℕ) (t₀ c₀ 
           (step none
           ∙ ap (map (advanced (k .width) (k .taps))) (e ∙ sym (later-words k (s - suc t) (k .spread)))
           ∙ later-words-suc k (s - suc t) (k .spread) ∙ later-words k (suc (s - suc t)) (k .spread) ∙ ap (λ (j : ℕ). map (later k j) (k .spread)) more)
-      way-on (sparse many right good e) = sparse many right good (stay (omega arith) ∙ e)
+      way-on (eights many wide right e) =
+          eights many wide right
+          (eights-on k wide ps right (s - suc t) (k .spread) ws ws′ e (pass many) ∙ ap (λ (j : ℕ). map (later k (8 * (j / 8))) (k .spread)) more)
+      way-on (sparse many right good e) = sparse many right good (stay many ∙ e)
 
   -- .. of a loop that counts down from t
-  pub filling-goes : (ws ws′ l : List ℕ) (place t c n : ℕ) → 0 < t → Filling k s u ps l₀ t₀ c₀ ws l place t c → c ≡ 0 → n ≡ chains k
-      → (length ps ≡ 0 → ws′ ≡ map (advanced (k .width) (k .taps)) ws) → (0 < length ps → ws′ ≡ ws) → Filling k s u ps l₀ t₀ c₀ ws′ l place (t - 1) n
-  filling-goes ws ws′ l place t c n h f z e step stay =
-      let back-up : t ≡ suc (t - 1) = omega arith in
-      subst (λ (x : ℕ). Filling k s u ps l₀ t₀ c₀ ws′ l place (t - 1) x) (sym e)
-      (filling-down ws ws′ l place (t - 1) (subst (λ (x : ℕ). Filling k s u ps l₀ t₀ c₀ ws l place x 0) back-up (subst (λ (x : ℕ). Filling k s u ps l₀ t₀ c₀ ws l place t x) z f)) step stay)
+  module _ (list : List ℕ) (rows : Rows) (ws ws′ l : List ℕ) (place t c n r : ℕ) (eu : u ≡ cellsOf list rows) (h : 0 < t) (z : c ≡ 0) (en : n ≡ chains k)
+      (done : SliceDone (k .width) (k .taps) s list rows ps t ws ws′ r) where
+    back-up : t ≡ suc (t - 1)
+    back-up = omega arith
 
-  -- slices without a marked cell are passed over, where there are powers
-  pub filling-skips : (list : List ℕ) (rows : Rows) (ws l : List ℕ) (place t n r : ℕ) → u ≡ cellsOf list rows → n ≡ chains k
-      → Filling k s u ps l₀ t₀ c₀ ws l place t n → (length ps ≡ 0 → r ≡ t) → (0 < length ps → r ≡ lastMarked list rows t)
-      → Filling k s u ps l₀ t₀ c₀ ws l place r n
-  filling-skips list rows ws l place t n r eu en f stay skip = go (f .ready .way)
-    where
-      go : Way k (s - t) ps ws → Filling k s u ps l₀ t₀ c₀ ws l place r n
-      go (swept none e) = subst (λ (x : ℕ). Filling k s u ps l₀ t₀ c₀ ws l place x n) (sym (stay none)) f
-      go (sparse many right good e) =
-          let last : r ≡ lastMarked list rows t = skip (omega arith) in
-          let down : r ≤ t = omega (arith, last-le list rows t) in
-          let all : (i : ℕ) → columnsLeft k s u i n ≡ columnsBelow k s u i = λ i. ap (columnsLeft k s u i) en ∙ left-all k s u i in record {
-            ready = record {
-              inside = omega (arith, f .ready .inside);
-              slices = f .ready .slices;
-              few = f .ready .few;
-              narrow = f .ready .narrow;
-              way = sparse many right good e;
-            };
-            few = f .few;
-            place = f .place;
-            long = f .long;
-            listed =
-                f .listed
-                ∙ ap (λ (x : List ℕ). x ++ drop place l)
-                (all t
-                ∙ columns-skipped k s u r t down (f .ready .few)
-                (λ v c a b h. ap (λ (x : Response). x v c) eu ∙ blank-cells list rows t v c (omega arith) b h)
-                ∙ sym (all r));
-            kept = f .kept;
-          }
+    filling-goes : Filling k s u ps l₀ t₀ c₀ ws l place t c → Filling k s u ps l₀ t₀ c₀ ws′ l place (t - 1) n
+    filling-goes f =
+        subst (λ (x : ℕ). Filling k s u ps l₀ t₀ c₀ ws′ l place (t - 1) x) (sym en)
+        (filling-down ws ws′ l place (t - 1)
+        (subst (λ (x : ℕ). Filling k s u ps l₀ t₀ c₀ ws l place x 0) back-up (subst (λ (x : ℕ). Filling k s u ps l₀ t₀ c₀ ws l place t x) z f))
+        (λ e. done .advances e .1)
+        (λ e. done .passes e .1 ∙ ap (λ (i : ℕ). cond (eqb ((s - i) % 8) 7) (map (lookedOn (k .width) ps 8) ws) ws) back-up)
+        (λ e. done .skips e .1))
+
+    -- slices without a marked cell are passed over, where there are powers
+    filling-skips : Filling k s u ps l₀ t₀ c₀ ws′ l place (t - 1) n → Filling k s u ps l₀ t₀ c₀ ws′ l place r n
+    filling-skips f = go (f .ready .way)
+      where
+        stays : r ≡ t - 1 → Filling k s u ps l₀ t₀ c₀ ws′ l place r n
+        stays e = subst (λ (x : ℕ). Filling k s u ps l₀ t₀ c₀ ws′ l place x n) (sym e) f
+
+        go : Way k (s - (t - 1)) ps ws′ → Filling k s u ps l₀ t₀ c₀ ws′ l place r n
+        go (swept none e) = stays (done .advances none .0)
+        go (eights many wide right e) = stays (done .passes many .0)
+        go (sparse many right good e) =
+            let last : r ≡ lastMarked list rows (t - 1) = done .skips many .0 in
+            let all : (i : ℕ) → columnsLeft k s u i n ≡ columnsBelow k s u i = λ i. ap (columnsLeft k s u i) en ∙ left-all k s u i in record {
+              ready = record {
+                inside = omega (arith, f .ready .inside, done .down);
+                slices = f .ready .slices;
+                few = f .ready .few;
+                narrow = f .ready .narrow;
+                way = sparse many right good e;
+              };
+              few = f .few;
+              place = f .place;
+              long = f .long;
+              listed =
+                  f .listed
+                  ∙ ap (λ (x : List ℕ). x ++ drop place l)
+                  (all (t - 1)
+                  ∙ columns-skipped k s u r (t - 1) (done .down) (f .ready .few)
+                  (λ v d a b m. ap (λ (x : Response). x v d) eu ∙ blank-cells list rows (t - 1) v d (omega arith) b m)
+                  ∙ sym (all r));
+              kept = f .kept;
+            }
+
+    pub filling-gone : Filling k s u ps l₀ t₀ c₀ ws l place t c → Filling k s u ps l₀ t₀ c₀ ws′ l place r n
+    filling-gone f = filling-skips (filling-goes f)
 
   -- ---- the end
 
@@ -324,11 +346,6 @@ pub chains-same : (k : Circuit) (s t : ℕ) (ps ws : List ℕ) (n c : ℕ) → R
 chains-same k s t ps ws n c r h e = omega (arith, way-length k (s - t) ps ws (r .way))
 
 -- ---- something is done in every portion
-
--- the slice that comes next stands before the one that is done
-pub went-down : (list : List ℕ) (rows : Rows) (n t r : ℕ) → (n ≡ 0 → r ≡ t) → (0 < n → r ≡ lastMarked list rows t) → r ≤ t
-went-down list rows n t r stay skip =
-    dite (ℕ-discrete n 0) (λ (z : n ≡ 0). omega (arith, stay z)) (λ (z : n ≡ 0 → ⊥). omega (arith, skip (omega arith), last-le list rows t))
 
 -- after a row: with at most 256 words no more cells are left than there were, and with 64 places fewer, but where the row is done
 pub Moved : ℕ → ℕ → ℕ → ℕ → ℕ → ℕ → Type 0

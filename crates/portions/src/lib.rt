@@ -1,15 +1,15 @@
 // The columns of marked cells in portions: as many of the last ones as a list has room for, then as many of those before them, and so on. It
-// sees the register's powers and the marked words of a row; it knows no file. Every function is total.
+// sees the register's powers, the table of 8 clocks and the marked words of a row; it knows no file. Every function is total.
 ghost use mathlib.Core.Path.{_≡_};
+ghost use mathlib.Core.Bool.{cond};
 ghost use mathlib.Core.List.{List, _++_, map};
-ghost use Prim.Native.Nat.{ℕ, _+_, _-_, _≤_, _<_, min};
+ghost use Prim.Native.Nat.{ℕ, _-_, _%_, _≤_, _<_, min};
+ghost use lib.Dec.{eqb};
 ghost use lib.ListN.{length, take, drop};
 ghost use Rattle.rows.specs.Lists.{cellsOf};
-ghost use Rattle.marked_rows.specs.Last.{lastMarked};
-ghost use Rattle.register.specs.Circuit.{advanced};
-ghost use Rattle.powers.specs.Powers.{fromPowers};
+ghost use Rattle.eight_clocks.specs.Eight.{lookedOn};
 ghost use Rattle.signatures.specs.Columns.{sliceColumns};
-ghost use Rattle.portions.specs.Portions.{wiring, slicesIn, Ready, RowFits, PortionFrom};
+ghost use Rattle.portions.specs.Portions.{wiring, slicesIn, Ready, RowLater, SliceDone, RowFits, PortionFrom};
 use marked_words::Fitted;
 use register::Register;
 use rows::Rows;
@@ -29,6 +29,9 @@ pub struct Portion {
     pub place: usize,
 }
 
+// The entries of the table of 8 clocks (`eight_clocks::eight_on`). A list of so many is that table, a longer one the register's powers.
+const TABLE_ENTRIES: usize = 256;
+
 // How many of the slices come after the first t.
 fn later_slices(slices: u16, t: u16) -> usize
     ensures { λ r. ⌜ r ≡ slices - t ⌝ }
@@ -39,31 +42,52 @@ fn later_slices(slices: u16, t: u16) -> usize
     (slices - t) as usize
 }
 
-// The last of the first t slices is done. Where there are no powers, advances each word by one clock with all cells 0 and no inversion, for the
-// slice before it; where there are, passes over slices without a marked cell. Answers with how many slices are left.
+// The chains' words for the slice before one of which so many clocks are left: where these are one short of whole eights, the words are
+// advanced 8 clocks, by the table.
+fn pass_slice(m: u64, table: &[u64], clocks: usize, words: &mut [u64])
+    ensures { λ _. ⌜ (256 ≤ length (now (table .entry)) → now (words .exit) ≡ cond (eqb (clocks % 8) 7) (map (lookedOn (min m 64) (now (table .entry)) 8) (now (words .entry))) (now (words .entry))) ⌝ }
+{
+    if clocks % 8 == 7 {
+        eight_clocks::look_eight(m, table, words);
+    }
+}
+
+// The last of the first t slices is done. Makes the words those for the slice before it: by one clock with all cells 0 and no inversion, or by 8
+// where it is the last of eight. With the powers it passes over slices without a marked cell. Answers with how many slices are left.
 fn go_down(source: Source, list: &[u8], powers: &[u64], words: &mut [u64], t: u16) -> u16
     requires { ⌜ 0 < t ⌝ }
-    ensures swept { λ r. ⌜ (length (now (powers .entry)) ≡ 0 → (r ≡ t - 1) × (now (words .exit) ≡ map (advanced (min (source .register .m) 64) (source .register .taps)) (now (words .entry)))) ⌝ }
-    ensures sparse { λ r. ⌜ (0 < length (now (powers .entry)) → (r ≡ lastMarked (now (list .entry)) (source .marks) (t - 1)) × (now (words .exit) ≡ now (words .entry))) ⌝ }
+    ensures { λ r. ⌜ SliceDone (min (source .register .m) 64) (source .register .taps) (slicesIn source) (now (list .entry)) (source .marks) (now (powers .entry)) t (now (words .entry)) (now (words .exit)) r ⌝ }
 {
-    if 0 < powers.len() {
+    let count = powers.len();
+    if TABLE_ENTRIES < count {
         let marks = source.marks;
         return marked_rows::marked_end(list, marks, t - 1);
     }
     let register = source.register;
-    powers::advance_words(register, words);
+    if count < TABLE_ENTRIES {
+        powers::advance_words(register, words);
+        return t - 1;
+    }
+    let slices = register::slice_limit(source.s);
+    let clocks = later_slices(slices, t);
+    pass_slice(register.m, powers, clocks, words);
     t - 1
 }
 
-// Where there are powers, puts for each word what it is so many clocks later.
-fn put_later(powers: &[u64], clocks: usize, width: usize, words: &mut [u64])
-    ensures { λ _. ⌜ (length (now (powers .entry)) ≡ 0 → now (words .exit) ≡ now (words .entry)) ⌝ }
-    ensures { λ _. ⌜ (0 < length (now (powers .entry)) → clocks + width ≤ length (now (powers .entry)) → now (words .exit) ≡ map (fromPowers (take width (drop clocks (now (powers .entry))))) (now (words .entry))) ⌝ }
+// Puts for each word of a row's marked cells what it is at the end, so many clocks later: by the clocks that are left over from whole eights where
+// there is the table, by the powers where there are these.
+fn put_later(powers: &[u64], clocks: usize, m: u64, words: &mut [u64])
+    ensures { λ _. ⌜ RowLater (now (powers .entry)) clocks (min m 64) (now (words .entry)) (now (words .exit)) ⌝ }
 {
     let count = powers.len();
     if count == 0 {
         return;
     }
+    if count == TABLE_ENTRIES {
+        eight_clocks::look_few(m, clocks, powers, words);
+        return;
+    }
+    let width = register::width_limit(m) as usize;
     if count < clocks {
         return;
     }
@@ -90,19 +114,20 @@ fn fill_row(
 {
     let register = source.register;
     let marks = source.marks;
-    let width = register::width_limit(register.m) as usize;
+    let m = register.m;
     let slices = register::slice_limit(source.s);
     let row = rows::row_of(list, marks, t - 1);
     let fitted = marked_words::list_fitting(columns, words, row);
     let start = fitted.place;
     let clocks = later_slices(slices, t);
-    put_later(powers, clocks, width, &mut columns[start..]);
+    put_later(powers, clocks, m, &mut columns[start..]);
     fitted
 }
 
 // Writes the last of the columns that are left over the end of the list, as many as there is room for, and answers with which are left
-// then. The words are those of the chains: with the register's powers the spread words, which stay as they are; without powers the spread
-// words advanced once for each slice after the first t. With 64 places, and at most 256 chains, fewer cells are left then. It meets no
+// then. The words are those of the chains. With the register's powers, 576 of them, these are the spread words, which stay as they are; with the
+// table of 8 clocks the spread words advanced by 8 clocks for every eight slices after the first t; with an empty list the spread words
+// advanced once for each of these slices. With 64 places, and at most 256 chains, fewer cells are left then. It meets no
 // number: a width counts as at most 64, the slices as at most 512, and a row past the end has no mark.
 pub fn fill_portion(
     source: Source,

@@ -1,8 +1,8 @@
 -- The work on portions: where it starts, what a portion does, and its ends. Assumes nothing.
 use mathlib.Core.Path.{_≡_, refl, sym, ap, _∙_, subst}
 use mathlib.Core.Bool.{true, false}
-use mathlib.Core.List.{List, [], _++_, append-assoc, append-nil}
-use Prim.Native.Nat.{ℕ, zero, suc, _+_, _-_, _^_, _≤_, _<_, min}
+use mathlib.Core.List.{List, [], _++_, map, append-assoc, append-nil}
+use Prim.Native.Nat.{ℕ, zero, suc, _+_, _-_, _*_, _/_, _^_, _≤_, _<_, min}
 use native.Mathlib.Omega.{arith}
 use lib.ListN.{length, take, drop, getD, length-drop, length-take, drop-of-length-le}
 use lib.Seq.{take-at, take-all, length-take-le}
@@ -23,8 +23,9 @@ use Rattle.signatures.specs.Later.{later}
 use Rattle.signatures.specs.Columns.{sliceColumns, columnsBelow}
 use Rattle.signatures.proofs.ColumnLaws.{column-closed}
 use Rattle.powers.proofs.PowerLaws.{later-add}
+use Rattle.eight_clocks.specs.Eight.{EightOn}
 use Rattle.swept_columns.proofs.FillLaws.{laterWords, later-words, later-words-none, later-words-get}
-use Rattle.portions.specs.Portions.{columnsLeft, Way, swept, sparse, PortionOf}
+use Rattle.portions.specs.Portions.{columnsLeft, Way, swept, eights, sparse, PortionOf}
 use Rattle.portions.specs.declared.Portion.{Portion}
 use Rattle.portions.proofs.PortionLaws.{left-all, way-length}
 use Rattle.set_words.specs.Reducing.{Reduced, Done}
@@ -96,17 +97,25 @@ module _ (k : Circuit) (s : ℕ) (u : Response) (m : ℕ) (ps : List ℕ) where
 -- the words h are even with the chains' words ws of the cells that are left, any number of clocks later
 module _ (k : Circuit) (s : ℕ) (u : Response) (ps : List ℕ) (t : ℕ) (ws h : List ℕ) (inside : t ≤ s) (way : Way k (s - t) ps ws)
     (even : (i j c : ℕ) → j < t → c < length ws → 0 < u j c → xFree h (later k i (getD ws c 0)) ≡ true) where
+  -- where the words are the spread words some clocks later, no more than the slices after those that are left
+  word-on : (n : ℕ) → n ≤ s - t → ws ≡ map (later k n) (k .spread) → (j c : ℕ) → j < t → 0 < u j c → c < length ws
+      → xFree h (later k (s - 1 - j) (getD (k .spread) c 0)) ≡ true
+  word-on n few e j c hj marked hc =
+      let split : s - 1 - j ≡ n + (s - 1 - j - n) = omega arith in
+      let now : getD ws c 0 ≡ later k n (getD (k .spread) c 0) =
+      ap (λ (l : List ℕ). getD l c 0) (e ∙ sym (later-words k n (k .spread))) ∙ later-words-get k n (k .spread) c
+      in
+      ap (xFree h)
+      (ap (λ (i : ℕ). later k i (getD (k .spread) c 0)) split ∙ later-add k n (s - 1 - j - n) (getD (k .spread) c 0)
+      ∙ ap (later k (s - 1 - j - n)) (sym now))
+      ∙ even (s - 1 - j - n) j c hj hc marked
+
   -- a chain's word of the columns that are left is one of those
   word-later : Way k (s - t) ps ws → (j c : ℕ) → j < t → 0 < u j c → c < chains k → xFree h (later k (s - 1 - j) (getD (k .spread) c 0)) ≡ true
   word-later (swept none e) j c hj marked hc =
-      let split : s - 1 - j ≡ (s - t) + (t - 1 - j) = omega arith in
-      let now : getD ws c 0 ≡ later k (s - t) (getD (k .spread) c 0) =
-      ap (λ (l : List ℕ). getD l c 0) (e ∙ sym (later-words k (s - t) (k .spread))) ∙ later-words-get k (s - t) (k .spread) c
-      in
-      ap (xFree h)
-      (ap (λ (i : ℕ). later k i (getD (k .spread) c 0)) split ∙ later-add k (s - t) (t - 1 - j) (getD (k .spread) c 0)
-      ∙ ap (later k (t - 1 - j)) (sym now))
-      ∙ even (t - 1 - j) j c hj (omega (arith, way-length k (s - t) ps ws (swept none e))) marked
+      word-on (s - t) (omega arith) e j c hj marked (omega (arith, way-length k (s - t) ps ws (swept none e)))
+  word-later (eights many wide right e) j c hj marked hc =
+      word-on (8 * ((s - t) / 8)) (omega arith) e j c hj marked (omega (arith, way-length k (s - t) ps ws (eights many wide right e)))
   word-later (sparse many right good e) j c hj marked hc =
       ap (λ (l : List ℕ). xFree h (later k (s - 1 - j) (getD l c 0))) (sym e)
       ∙ even (s - 1 - j) j c hj (omega (arith, ap length e)) marked
@@ -168,6 +177,14 @@ module _ (k : Circuit) (s : ℕ) (u : Response) (m : ℕ) (ps ws h : List ℕ) (
   starts-swept none =
       let now : s - s ≡ 0 = omega arith in
       starts (swept none (words ∙ sym (later-words-none k (k .spread)) ∙ ap (λ (j : ℕ). laterWords k j (k .spread)) (sym now) ∙ later-words k (s - s) (k .spread)))
+
+  -- .. by 8 clocks for every eighth slice
+  pub starts-eights : length ps ≡ 256 → 8 ≤ k .width → EightOn k ps → Reduced k s u m ps s (length ws) ws h
+  starts-eights many wide right =
+      let now : 8 * ((s - s) / 8) ≡ 0 = omega arith in
+      starts
+      (eights many wide right
+      (words ∙ sym (later-words-none k (k .spread)) ∙ ap (λ (j : ℕ). laterWords k j (k .spread)) (sym now) ∙ later-words k (8 * ((s - s) / 8)) (k .spread)))
 
   -- each column is made by the powers of the register
   pub starts-sparse : length ps ≡ 576 → ((i : ℕ) → i < 576 → getD ps i 0 ≡ later k i 1) → badSpread (k .width) (k .spread) ≡ false

@@ -21,6 +21,9 @@ const WORKING_PLACES: usize = 64;
 // From so many columns on it takes less time to ask whether they change anything than to make them.
 const ASKED_COLUMNS: usize = 64;
 
+// From so many bits on a register has a table of 8 clocks.
+const EIGHT_BITS: u64 = 8;
+
 // How far the work has come: the columns that are left, as after a portion; how many words are left, and about how many columns; whether
 // the last portion took at most one word away.
 struct Progress {
@@ -208,8 +211,8 @@ fn reduce_all(
 }
 
 // The words of the marked cells' columns, from the words of single bits on. A few columns are made one by one, by the powers of the
-// register, where the spread words are a taken set's; for many, all the chains' words are advanced together. About how many there are
-// decides only that.
+// register, where the spread words are a taken set's; for many, all the chains' words are advanced together, by 8 clocks at once where the
+// register has as many bits. About how many there are decides only that.
 fn reduce_marked(
     taken: Taken,
     list: &[u8],
@@ -230,12 +233,24 @@ fn reduce_marked(
     let source = Source { register, marks, s };
     let count = unknowns as usize;
     if sparse_columns::needs_sweep(taken, count) {
-        let powers = powers::no_powers();
+        if register.m < EIGHT_BITS {
+            let powers = powers::no_powers();
+            return reduce_all(
+                source,
+                list,
+                count,
+                &powers[..0],
+                &mut words[..chains],
+                working,
+                held,
+            );
+        }
+        let table = eight_clocks::eight_on(register);
         return reduce_all(
             source,
             list,
             count,
-            &powers[..0],
+            &table,
             &mut words[..chains],
             working,
             held,

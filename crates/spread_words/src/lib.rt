@@ -106,7 +106,7 @@ fn reduce_spread(slots: &[u64], dead: u64, columns: &[u64], words: &mut [u64]) -
 // Where the basis pays: it takes some time to make it, and to make the words from it again. These are estimates: of how many words and how
 // many pairs of a word and a column on it takes less time than a parity for each pair, and for how many of the columns it is used. Behind
 // these most of the rank is found, and a table passes over columns faster.
-const FEWEST_WORDS: usize = 16;
+const FEWEST_WORDS: usize = 24;
 
 const FEWEST_PAIRS: usize = 700;
 

@@ -1,6 +1,6 @@
 -- `pass_slice` meets its contract: the words are advanced 8 clocks, or they aren't.
 use mathlib.Core.Path.{_∙_}
-use Rattle.eighth_columns.proofs.EighthLaws.{looked-up, left-alone}
+use Rattle.eight_clocks.proofs.EightLaws.{looked-up, left-alone}
 use borrow.Author.Needs.{needs}
 use Rattle.eighth_columns.proofs.pass_slice.Statement.{statement}
 use Rattle.eighth_columns.proofs.pass_slice.Tie as tie

@@ -1,14 +1,14 @@
 -- `fill_portion` meets its contract. The loop's invariant: the columns from those that are left on stand at the list's end, for all spread
 -- words that the words are ready for; a row was just listed.
 use mathlib.Core.Path.{_≡_, refl, sym, ap, _∙_, subst}
-use mathlib.Core.List.{List, _++_}
-use Prim.Native.Nat.{ℕ, _+_, _-_, _*_, _≤_, _<_}
+use mathlib.Core.List.{List}
+use Prim.Native.Nat.{ℕ, _≤_, _<_}
 use native.Mathlib.Omega.{arith}
 use lib.ListN.{length, take, drop, length-append}
 use lib.Seq.{length-take-le, length-front, take-length}
 use Rattle.rows.specs.Lists.{cellsOf}
-use Rattle.portions.specs.Portions.{wiring, slicesIn, Ready, RowFits}
-use Rattle.portions.proofs.PortionLaws.{Filling, filling-none, filling-first, filling-row, filling-goes, filling-skips, filling-gives, chains-same, way-length, Moved, moved-first, moved-down, moved-next, moved-less, went-down}
+use Rattle.portions.specs.Portions.{wiring, slicesIn, Ready}
+use Rattle.portions.proofs.PortionLaws.{Filling, filling-none, filling-first, filling-row, filling-gone, filling-gives, chains-same, way-length, Moved, moved-first, moved-down, moved-next, moved-less}
 use borrow.Author.Needs.{needs}
 use Rattle.portions.proofs.fill_portion.Statement.{statement}
 use Rattle.portions.proofs.fill_portion.Tie as tie
@@ -83,10 +83,10 @@ returns-2 c =
     let at = c .before .before .before .before .before .before .loop in
     let advanced = c .before .before .before .go-down in record {
       place = omega (arith, at .inv .2, at .inv .3, c .before .before .before .before .before .before .before .before .before .fill-row .kept .1 .1 .1 .1 .0);
-      less = (λ wide few some. omega (arith, went-down (args .list .now) (args .source .marks) _ _ _ (λ z. advanced .ensures .0 z .0) (λ z. advanced .ensures .1 z .0), moved-down _ _ _ _ _ _ (at .inv .5) (at .inv .0) few, c .before .before .before .before .before .before .before .before .before .before .before .before .before .before .moved .ensures));
+      less = (λ wide few some. omega (arith, advanced .ensures .down, moved-down _ _ _ _ _ _ (at .inv .5) (at .inv .0) few, c .before .before .before .before .before .before .before .before .before .before .before .before .before .before .moved .ensures));
       portion = (λ spread few ready.
           filling-gives _ _ _ _ _ _ _ (args .from) _ _ _ _ _ refl (chains-same _ _ _ _ _ _ _ ready few (c .before .before .before .before .before .before .before .before .before .before .before .before .before .before .moved .ensures))
-          (filling-skips _ _ _ _ _ _ _ (args .list .now) (args .source .marks) _ _ _ (at .t - 1) _ _ refl (way-length _ _ _ _ (ready .way)) (filling-goes _ _ _ _ _ _ _ _ _ _ _ _ _ _ (at .inv .0) (at .inv .6 spread (args .columns .now) (started (c .before .before .before .before .before .before .before .before .before) spread ready)) (c .before .before .before .before .before .loop-test .taken) (way-length _ _ _ _ (ready .way)) (λ z. advanced .ensures .0 z .1) (λ z. advanced .ensures .1 z .1)) (λ z. advanced .ensures .0 z .0) (λ z. advanced .ensures .1 z .0)));
+          (filling-gone _ _ _ _ _ _ _ (args .list .now) (args .source .marks) _ _ _ _ _ _ _ _ refl (at .inv .0) (c .before .before .before .before .before .loop-test .taken) (way-length _ _ _ _ (ready .way)) (advanced .ensures) (at .inv .6 spread (args .columns .now) (started (c .before .before .before .before .before .before .before .before .before) spread ready))));
     }
 
 slice-aggregate-fill-row-2 : tie.Need-slice-aggregate-fill-row-2 Inv-loop μ-loop
@@ -102,7 +102,7 @@ loop-again c =
     let advanced = c .before .before .before .before .before .before .before .before .go-down in
     let row = c .before .before .fill-row2 in
     let same = advanced .kept .1 .1 .1 .0 ∙ at .inv .4 in
-    let down = went-down (args .list .now) (args .source .marks) _ _ _ (λ z. advanced .ensures .0 z .0) (λ z. advanced .ensures .1 z .0) in
+    let down = advanced .ensures .down in
     let long = row .kept .1 .1 .1 .1 .0 in (
       omega (arith, c .before .before .before .before .before .if2 .left),
       row .ensures .0 .chains,
@@ -113,8 +113,7 @@ loop-again c =
       (λ spread l₀ start.
           let so-far = at .inv .6 spread l₀ start in
           let gone =
-          filling-skips _ _ _ _ _ _ _ (args .list .now) (args .source .marks) _ _ _ (at .t - 1) _ _ refl (advanced .kept .1 .1 .1 .0 ∙ way-length _ _ _ _ (so-far .ready .way))
-          (filling-goes _ _ _ _ _ _ _ _ _ _ _ _ _ (length (advanced .last .1 .1 .1 .0)) (at .inv .0) so-far (c .before .before .before .before .before .before .before .before .before .before .loop-test .taken) (advanced .kept .1 .1 .1 .0 ∙ way-length _ _ _ _ (so-far .ready .way)) (λ z. advanced .ensures .0 z .1) (λ z. advanced .ensures .1 z .1)) (λ z. advanced .ensures .0 z .0) (λ z. advanced .ensures .1 z .0) in
+          filling-gone _ _ _ _ _ _ _ (args .list .now) (args .source .marks) _ _ _ _ _ _ (length (advanced .last .1 .1 .1 .0)) _ refl (at .inv .0) (c .before .before .before .before .before .before .before .before .before .before .loop-test .taken) (advanced .kept .1 .1 .1 .0 ∙ way-length _ _ _ _ (so-far .ready .way)) (advanced .ensures) so-far in
           filling-row _ _ _ _ _ _ _ _ _ _ _ _ _ _ (omega (arith, c .before .before .before .before .before .if2 .left)) gone (row .ensures .0) long
           (row .ensures .1 spread (advanced .last .1 .1 .1 .0) (gone .few) (sym (take-length (advanced .last .1 .1 .1 .0))) (gone .ready))),
     )
@@ -124,7 +123,7 @@ loop-less c =
     let args = c .before .before .before .before .before .before .before .before .before .before .before .before .before .before .before .before .before .before .before .before .before .before .before .before .args in
     let at = c .before .before .before .before .before .before .before .before .before .before .before .loop in
     let advanced = c .before .before .before .before .before .before .before .before .go-down in
-    omega (arith, at .inv .0, went-down (args .list .now) (args .source .marks) _ _ _ (λ z. advanced .ensures .0 z .0) (λ z. advanced .ensures .1 z .0))
+    omega (arith, at .inv .0, advanced .ensures .down)
 
 returns-3 : tie.Need-returns-3 Inv-loop μ-loop
 returns-3 c =

@@ -1,15 +1,16 @@
--- `reduce_marked` meets its contract, by the powers of the register or without them.
-use mathlib.Core.Path.{_≡_, refl, sym, ap, _∙_}
+-- `reduce_marked` meets its contract: by single clocks, by eights of them, or by the powers of the register.
+use mathlib.Core.Path.{_≡_, refl, sym, _∙_}
 use native.Mathlib.Omega.{arith}
-use Prim.Native.Nat.{_≤_}
+use Prim.Native.Nat.{_≤_, min}
 use mathlib.Core.Bool.{not}
 use lib.ListN.{length, take, length-take}
 use lib.Seq.{length-take-le}
 use Rattle.word.proofs.BoolLaws.{or-false-right}
 use Rattle.powers.proofs.PowerLaws.{later-same}
+use Rattle.eight_clocks.proofs.EightLaws.{eight-on-same}
 use Rattle.sparse_columns.specs.Cost.{onesPay}
 use Rattle.set_words.specs.Working.{takenWords}
-use Rattle.set_words.proofs.ReduceLaws.{starts-swept, starts-sparse, limited-words, limited-few}
+use Rattle.set_words.proofs.ReduceLaws.{starts-swept, starts-eights, starts-sparse, limited-words, limited-few}
 use borrow.Author.Needs.{needs}
 use Rattle.set_words.proofs.reduce_marked.Statement.{statement}
 use Rattle.set_words.proofs.reduce_marked.Tie as tie
@@ -28,13 +29,13 @@ slice-aggregate-reduce-all-2 : tie.Need-slice-aggregate-reduce-all-2
 slice-aggregate-reduce-all-2 c = sym (length-take-le _ _ (search needs))
 
 reduce-all-requires : tie.Need-reduce-all-requires
-reduce-all-requires c κs = (c .before .before .before .before .before .before .before .before .before .before .before .before .before .before .before .pre, omega (arith, length-take (c .before .before .before .before .before .before .before .before .before .before .chain-limit .result) (c .before .before .before .before .before .before .before .before .all-words .result), c .before .before .before .before .before .before .before .before .before .before .chain-limit .ensures))
+reduce-all-requires c κs = (c .before .before .before .before .before .before .before .before .before .before .before .before .before .before .before .before .before .pre, omega (arith, length-take (c .before .before .before .before .before .before .before .before .before .before .before .before .chain-limit .result) (c .before .before .before .before .before .before .before .before .before .before .all-words .result), c .before .before .before .before .before .before .before .before .before .before .before .before .chain-limit .ensures))
 
 returns : tie.Need-returns
 unfolding takenWords
 returns c =
     let reduced = c .before .before .before .before .before .reduce-all in
-    (reduced .ensures .0, (λ start. reduced .ensures .1 _ _ (starts-swept _ _ _ _ _ _ _ (omega arith) (few-words (c .before .before .before .before .before .before .before .before .before .before .before .before .before .before)) (omega arith) (own-words (c .before .before .before .before .before .before .before .before .before .before .before .before .before .before)) start refl)))
+    (reduced .ensures .0, (λ start. reduced .ensures .1 _ _ (starts-swept _ _ _ _ _ _ _ (omega arith) (few-words (c .before .before .before .before .before .before .before .before .before .before .before .before .before .before .before .before)) (omega arith) (own-words (c .before .before .before .before .before .before .before .before .before .before .before .before .before .before .before .before)) start refl)))
 
 slice-aggregate-reduce-all-3 : tie.Need-slice-aggregate-reduce-all-3
 slice-aggregate-reduce-all-3 c = search needs
@@ -43,13 +44,36 @@ slice-aggregate-reduce-all-4 : tie.Need-slice-aggregate-reduce-all-4
 slice-aggregate-reduce-all-4 c = sym (length-take-le _ _ (search needs))
 
 reduce-all-requires-2 : tie.Need-reduce-all-requires-2
-reduce-all-requires-2 c κs = (c .before .before .before .before .before .before .before .before .before .before .before .before .before .before .before .pre, omega (arith, length-take (c .before .before .before .before .before .before .before .before .before .before .chain-limit .result) (c .before .before .before .before .before .before .before .before .all-words .result), c .before .before .before .before .before .before .before .before .before .before .chain-limit .ensures))
+reduce-all-requires-2 c κs = (c .before .before .before .before .before .before .before .before .before .before .before .before .before .before .before .before .before .pre, omega (arith, length-take (c .before .before .before .before .before .before .before .before .before .before .before .before .chain-limit .result) (c .before .before .before .before .before .before .before .before .before .before .all-words .result), c .before .before .before .before .before .before .before .before .before .before .before .before .chain-limit .ensures))
 
 returns-2 : tie.Need-returns-2
 unfolding takenWords
 returns-2 c =
-    let taken = c .before .before .before .before .before .before .before .before .before .before .before .before .before .before .before .before .before .before .before .before .before .args .taken in
+    let taken = c .before .before .before .before .before .before .before .before .before .before .before .before .before .before .before .before .before .before .before .before .before .before .before .args .taken in
+    let table = c .before .before .before .before .before .before .before .before .before .before .eight-on in
+    let wide : 8 ≤ min (taken .register .m) 64 = omega (arith, c .before .before .before .before .before .before .before .before .before .before .before .if2 .left) in
     let reduced = c .before .before .before .before .before .reduce-all2 in (
+      reduced .ensures .0,
+      (λ start.
+          reduced .ensures .1 _ _
+          (starts-eights _ _ _ _ _ _ _ (omega arith) (few-words (c .before .before .before .before .before .before .before .before .before .before .before .before .before .before .before .before)) (omega arith) (own-words (c .before .before .before .before .before .before .before .before .before .before .before .before .before .before .before .before)) start (search needs) wide
+          (eight-on-same _ _ (taken .register .inversion) (take (taken .n) (taken .spread)) (table .result) (table .ensures wide)))),
+    )
+
+slice-aggregate-reduce-all-5 : tie.Need-slice-aggregate-reduce-all-5
+slice-aggregate-reduce-all-5 c = search needs
+
+slice-aggregate-reduce-all-6 : tie.Need-slice-aggregate-reduce-all-6
+slice-aggregate-reduce-all-6 c = sym (length-take-le _ _ (search needs))
+
+reduce-all-requires-3 : tie.Need-reduce-all-requires-3
+reduce-all-requires-3 c κs = (c .before .before .before .before .before .before .before .before .before .before .before .before .before .before .before .pre, omega (arith, length-take (c .before .before .before .before .before .before .before .before .before .before .chain-limit .result) (c .before .before .before .before .before .before .before .before .all-words .result), c .before .before .before .before .before .before .before .before .before .before .chain-limit .ensures))
+
+returns-3 : tie.Need-returns-3
+unfolding takenWords
+returns-3 c =
+    let taken = c .before .before .before .before .before .before .before .before .before .before .before .before .before .before .before .before .before .before .before .before .before .args .taken in
+    let reduced = c .before .before .before .before .before .reduce-all3 in (
       reduced .ensures .0,
       (λ start.
           reduced .ensures .1 _ _
@@ -82,4 +106,12 @@ reduce-marked-spec =
     reduce-all-requires-2
     (λ c. search needs)
     (λ c. search needs)
-    returns-2)
+    returns-2
+    (λ c κs. search needs)
+    slice-aggregate-reduce-all-5
+    (λ c. search needs)
+    slice-aggregate-reduce-all-6
+    reduce-all-requires-3
+    (λ c. search needs)
+    (λ c. search needs)
+    returns-3)
