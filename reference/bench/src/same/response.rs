@@ -241,7 +241,7 @@ fn fill_sparse(marks: Marks, read: Read, spread: &[u64; 256], columns: &mut [u64
 }
 
 /// For each byte what it is 8 clocks later, where it stands at the top of the register.
-fn eight_on(read: Read) -> [u64; 256] {
+pub fn eight_on(read: Read) -> [u64; 256] {
     let mut table = [0; 256];
     let mut bit = read.taps;
     for i in 0..8 {
@@ -252,7 +252,7 @@ fn eight_on(read: Read) -> [u64; 256] {
 }
 
 /// Puts for each word what it is so many clocks later, 1 to 8.
-fn advance_few(m: u64, table: &[u64; 256], clocks: u64, words: &mut [u64]) {
+pub fn advance_few(m: u64, table: &[u64], clocks: u64, words: &mut [u64]) {
     let (mask, out, down) = (low_mask(m as usize), low_mask(clocks as usize), m - clocks);
     for w in words {
         *w = (*w << clocks & mask) ^ table[(*w >> down & out) as usize];

@@ -29,44 +29,62 @@ struct Portion {
     place: usize,
 }
 
-/// Where the marked cells come from, and the powers of the register, or none.
+/// The way to make columns: all chains' words advanced by one clock for each slice; by the table of 8 clocks; by the powers of the
+/// register.
+#[derive(Clone, Copy)]
+enum Way<'a> {
+    Clocks,
+    Eights(&'a [u64; 256]),
+    Powers(&'a [u64; 576]),
+}
+
+/// Where the marked cells come from, and the way to make their columns.
 #[derive(Clone, Copy)]
 struct Source<'a> {
     marks: Marks<'a>,
     read: Read,
-    powers: &'a [u64],
+    way: Way<'a>,
 }
 
-/// The last of the first t slices is done: how many are left. Without powers the chains' words are advanced for the slice before it; with
-/// them slices without a marked cell are passed over.
+/// The last of the first t slices is done: how many are left. The chains' words are advanced for the slice before it, by eights only behind
+/// the last of eight slices; with powers slices without a marked cell are passed over.
 fn go_down(source: Source, words: &mut [u64], t: usize) -> usize {
-    if !source.powers.is_empty() {
-        return source.marks.marked_end(t - 1);
+    let read = source.read;
+    match source.way {
+        Way::Powers(_) => return source.marks.marked_end(t - 1),
+        Way::Eights(table) if (read.s - t) % 8 == 7 => advance_few(read.m, table, 8, words),
+        Way::Eights(_) => {}
+        Way::Clocks => advance_words(read, words),
     }
-    advance_words(source.read, words);
     t - 1
 }
 
-/// Fills a list from its end. `words` are those of the chains for the slice that comes next; with powers they stay the spread words.
+/// Puts for each word of marked cells what it is so many clocks later.
+fn put_later(source: Source, clocks: usize, words: &mut [u64]) {
+    let read = source.read;
+    match source.way {
+        Way::Powers(powers) => power_words(&powers[clocks..][..read.m as usize], words),
+        Way::Eights(table) if clocks % 8 != 0 => {
+            advance_few(read.m, table, clocks as u64 % 8, words)
+        }
+        Way::Eights(_) | Way::Clocks => {}
+    }
+}
+
+/// Fills a list from its end. `words` are those of the chains for the slice that comes next; by eights they are behind by the clocks over
+/// whole eights, and with powers they stay the spread words.
 fn fill_portion(
     source: Source,
     words: &mut [u64],
     columns: &mut [u64],
     (mut t, mut chains): (usize, usize),
 ) -> Portion {
-    let Source {
-        marks,
-        read,
-        powers,
-    } = source;
+    let Source { marks, read, .. } = source;
     let mut place = columns.len();
     while 0 < t {
         let row = marks.row(t - 1);
         let (start, left) = list_fitting(&mut columns[..place], &words[..chains], row);
-        if !powers.is_empty() {
-            let later = &powers[read.s - t..][..read.m as usize];
-            power_words(later, &mut columns[start..place]);
-        }
+        put_later(source, read.s - t, &mut columns[start..place]);
         place = start;
         chains = left;
         if 0 < chains {
@@ -179,7 +197,7 @@ fn put_symbols(
 }
 
 /// The words of the cells that the rows mark: how many they are. A few columns are made one by one; for many, all the chains' words
-/// are advanced together.
+/// are advanced together, by eights of clocks where the register has at least 8 bits.
 fn reduce_cells(
     marks: Marks,
     read: Read,
@@ -190,13 +208,17 @@ fn reduce_cells(
     let mut all = *spread;
     let unknowns = marks.estimate(read.s);
     let many = needs_sweep(read, spread, unknowns);
-    let table = (!many).then(|| powers(read, 576));
-    let source = Source {
-        marks,
-        read,
-        powers: table.as_ref().map_or(&[][..], |p| p),
+    let mut reduce_by = |way| {
+        let source = Source { marks, read, way };
+        reduce_all(source, &mut all[..read.n], working, held, unknowns)
     };
-    reduce_all(source, &mut all[..read.n], working, held, unknowns)
+    if !many {
+        return reduce_by(Way::Powers(&powers(read, 576)));
+    }
+    if read.m < 8 {
+        return reduce_by(Way::Clocks);
+    }
+    reduce_by(Way::Eights(&eight_on(read)))
 }
 
 /// The words of a set that was read: how many they are. Those of the cells without an entry, and then the named symbols' columns.
