@@ -1012,7 +1012,7 @@ class Batch:
                 self.call("spread_words::begin", v=held, u=self.pick([many, few, [self.bits(64) for _ in range(24)]]))
             for name in ("column_basis::slot_words", "column_basis::take_columns"):
                 self.call(name, [self.pick([0, ALL, ALL ^ low(m), self.bits(64)])], u=self.pick([few, many]), v=self.junk_words(64))
-            self.call("column_basis::xor_into", [self.pick([0, ALL, self.bits(64)]), self.bits(64)], v=self.junk_words(self.pick([0, 1, 40, 64, 70])))
+            self.call("turned_words::xor_into", [self.pick([0, ALL, self.bits(64)]), self.bits(64)], v=self.junk_words(self.pick([0, 1, 40, 64, 70])))
             self.call("word::clear_words", v=self.junk_words(self.pick([0, 1, 2, 63, 64, 65, 200])))
             self.call("powers::from_powers", [self.pick([self.bits(64), self.bits(m), self.pick(NUMBERS)])],
                       u=self.pick([powers_of(m, self.taps(m))[:m], self.junk_words(self.pick([0, 1, 3, 63, 64, 65, 70]))]))
