@@ -1,7 +1,7 @@
 //! Words that no column which is left can change: the space of their XORs is closed under the clock, and they are even with every chain
 //! that is still marked.
 
-use super::elimination::{skip_even, skip_plainly};
+use super::elimination::{pays, skip_even, skip_plainly};
 use super::response::{list_row, Marks};
 use super::set::Read;
 use super::*;
@@ -55,10 +55,10 @@ fn joint_marks(marks: Marks, t: usize) -> [u8; 32] {
 
 /// How many of the columns are even with all the words, up to the first that isn't: by a table where it pays.
 fn first_odd(words: &[u64], columns: &[u64]) -> usize {
-    if columns.len() / 64 * words.len() < 80 {
-        skip_plainly(words, columns)
-    } else {
+    if pays(words.len(), columns.len()) {
         skip_even(words, columns)
+    } else {
+        skip_plainly(words, columns)
     }
 }
 

@@ -1,4 +1,4 @@
-//! The elimination: it keeps the word list itself, takes the first columns by turned words, and passes over columns that change nothing by a
+//! The elimination: it keeps the word list itself, takes the first columns by a basis of them, and passes over columns that change nothing by a
 //! table of parities of bytes.
 
 use super::*;
@@ -38,59 +38,121 @@ fn turn(words: &[u64]) -> [u64; 64] {
     rows
 }
 
-/// Takes a column into the words and their rows: the slots that are dead then.
-fn add_turned(words: &mut [u64], rows: &mut [u64; 64], dead: u64, column: u64) -> u64 {
-    let odd = xor_marked(rows, column);
-    if odd == 0 {
-        return dead;
+/// What is left of a column without its dead bits.
+fn reduced(basis: &[u64; 64], dead: u64, column: u64) -> u64 {
+    let mut rest = column;
+    while rest & dead != 0 {
+        rest ^= basis[(rest & dead).trailing_zeros() as usize];
     }
-    let k = odd.trailing_zeros() as usize;
-    let pivot = words[k];
-    xor_into(words, odd, pivot);
-    xor_into(rows, pivot, odd);
-    dead ^ 1 << k
+    rest
 }
 
-/// The columns one after the other, until every slot is dead.
-fn take_columns(words: &mut [u64], rows: &mut [u64; 64], columns: &[u64]) -> u64 {
-    let all = low_mask(words.len());
-    let mut dead = 0;
+/// The columns one after the other, until every bit is dead: the bits that are.
+fn take_columns(basis: &mut [u64; 64], mut dead: u64, columns: &[u64]) -> u64 {
     for column in columns {
-        if dead == all {
+        if dead == u64::MAX {
             break;
         }
-        dead = add_turned(words, rows, dead, *column);
+        let rest = reduced(basis, dead, *column);
+        if rest != 0 {
+            let k = rest.trailing_zeros();
+            basis[k as usize] = rest;
+            dead ^= 1 << k;
+        }
     }
     dead
 }
 
-/// Moves the words of the slots that aren't dead to the front; how many they are.
-fn keep_alive(words: &mut [u64], dead: u64) -> usize {
+/// The words of the slots, made from the basis; in the dead ones stands anything.
+fn slot_words(basis: &mut [u64; 64], dead: u64) -> [u64; 64] {
+    let mut words = unit_words();
+    for d in (0..64).rev() {
+        if dead >> d & 1 != 0 {
+            let bit = 1 << d;
+            let row = basis[d] ^ xor_marked(basis, basis[d] & (dead ^ bit));
+            basis[d] = row;
+            xor_into(&mut words, row, bit);
+        }
+    }
+    words
+}
+
+/// Puts each word into the slot of its highest bit: the bits that are dead then; all of them where the highest bits don't ascend.
+fn spread_words(words: &[u64], slots: &mut [u64; 64]) -> u64 {
+    let mut dead = u64::MAX;
+    let mut next = 0;
+    for w in words {
+        match w.checked_ilog2() {
+            Some(top) if next <= top => {
+                slots[top as usize] = *w;
+                dead ^= 1 << top;
+                next = top + 1;
+            }
+            _ => return u64::MAX,
+        }
+    }
+    dead
+}
+
+/// Whether, of the bits that aren't dead, the word of each slot has its own alone, and that of a dead slot none.
+fn has_own_bits(slots: &[u64; 64], dead: u64) -> bool {
+    let own = |(i, w): (usize, &u64)| w & !dead == !dead & 1 << i;
+    slots.iter().enumerate().all(own)
+}
+
+/// The basis of the slots' words: their dead bits, turned.
+fn turn_in(slots: &[u64; 64], dead: u64) -> [u64; 64] {
+    let mut basis = unit_words();
+    for (i, w) in slots.iter().enumerate() {
+        xor_into(&mut basis, w & dead, 1 << i);
+    }
+    basis
+}
+
+/// The words of the slots that aren't dead over the front of the list; how many they are.
+fn keep_alive(slots: &[u64; 64], dead: u64, words: &mut [u64]) -> usize {
     let mut at = 0;
-    for k in 0..words.len() {
-        words[at] = words[k];
+    for (k, w) in slots.iter().enumerate() {
+        let Some(to) = words.get_mut(at) else {
+            break;
+        };
+        *to = *w;
         at += 1 - (dead >> k & 1) as usize;
     }
     at
 }
 
-/// How many of the columns, from the first on, are taken by turned words.
-fn turned_count(words: usize, columns: usize) -> usize {
-    if words < 8 || columns < 16 {
+/// How many of the columns, from the first on, are taken by a basis.
+fn taken_count(words: usize, columns: usize) -> usize {
+    if words < 24 {
+        0
+    } else if 128 <= columns {
+        128
+    } else if words * columns < 700 {
         0
     } else {
-        columns.min(128)
+        columns
     }
 }
 
-/// How many words are left, at the front of the list.
-fn add_turned_columns(words: &mut [u64], columns: &[u64]) -> usize {
-    if columns.is_empty() {
-        return words.len();
+/// The first columns by a basis, where it pays and the words allow it: how many were taken, and how many words are left.
+fn begin(words: &mut [u64], columns: &[u64]) -> (usize, usize) {
+    let count = taken_count(words.len(), columns.len());
+    let mut slots = [0; 64];
+    if count == 0 {
+        return (0, words.len());
     }
-    let mut rows = turn(words);
-    let dead = take_columns(words, &mut rows, columns);
-    keep_alive(words, dead)
+    let dead = spread_words(words, &mut slots);
+    if dead == u64::MAX || !has_own_bits(&slots, dead) {
+        return (0, words.len());
+    }
+    let mut basis = turn_in(&slots, dead);
+    let gone = take_columns(&mut basis, dead, &columns[..count]);
+    if gone == u64::MAX {
+        return (count, 0);
+    }
+    let made = slot_words(&mut basis, gone);
+    (count, keep_alive(&made, gone, words))
 }
 
 /// The parities of every byte of a column with the words: bit i doubles the entries that its byte has so far.
@@ -109,22 +171,36 @@ pub fn skip_even(words: &[u64], columns: &[u64]) -> usize {
     skip_by_table(&byte_table(words), columns)
 }
 
-/// .. without a table.
-pub fn skip_plainly(words: &[u64], columns: &[u64]) -> usize {
-    let even = |column: &u64| words.iter().all(|w| (w & column).count_ones() % 2 == 0);
-    columns.iter().take_while(|c| even(c)).count()
+/// Whether all columns are even with every word; all are looked at.
+fn are_even(words: &[u64], columns: &[u64]) -> bool {
+    let odd = |w: &u64| columns.iter().fold(0, |odd, &c| odd | shared_parity(c, *w));
+    words.iter().all(|w| odd(w) == 0)
 }
 
-/// The place of the column to take next: the table is made where the last column changed nothing and it pays.
+/// .. without a table: by blocks of 64, and then one by one.
+pub fn skip_plainly(words: &[u64], columns: &[u64]) -> usize {
+    let blocks = columns.chunks_exact(64);
+    let even = 64 * blocks.take_while(|block| are_even(words, block)).count();
+    let is_even = |column: &u64| words.iter().all(|&w| shared_parity(*column, w) == 0);
+    even + columns[even..].iter().take_while(|c| is_even(c)).count()
+}
+
+/// Whether for so many columns a table of so many words takes less time than the parities by themselves.
+pub fn pays(words: usize, columns: usize) -> bool {
+    4 <= words && 24 <= columns / 64 * words
+}
+
+/// The place of the column to take next: where the last column changed nothing, those behind it that change nothing either are passed over.
 fn next_place(words: &[u64], before: usize, columns: &[u64], from: usize) -> usize {
-    let count = words.len();
-    if count != before || count < 2 || columns.len() <= from {
+    if words.len() != before || columns.len() <= from {
         return from;
     }
-    if (columns.len() - from) / 64 * count < 256 {
-        return from;
+    let left = &columns[from..];
+    from + if pays(words.len(), left.len()) {
+        skip_even(words, left)
+    } else {
+        skip_plainly(words, left)
     }
-    from + skip_even(words, &columns[from..])
 }
 
 /// How many words are left, at the front of `held`, with a parity for each word.
@@ -142,11 +218,10 @@ fn reduce_plainly(held: &mut [u64], columns: &[u64]) -> usize {
     left
 }
 
-/// How many words are left, at the front of `held`: the first columns by turned words where that pays.
+/// How many words are left, at the front of `held`: the first columns by a basis where that pays.
 pub fn reduce(held: &mut [u64], columns: &[u64]) -> usize {
-    let (first, rest) = columns.split_at(turned_count(held.len(), columns.len()));
-    let left = add_turned_columns(held, first);
-    reduce_plainly(&mut held[..left], rest)
+    let (count, left) = begin(held, columns);
+    reduce_plainly(&mut held[..left], &columns[count..])
 }
 
 /// The words of the 64 single bits.

@@ -34,15 +34,53 @@ fn driven_word(spread: &[u64], row: &[u8]) -> u64 {
     })
 }
 
-/// From so many slices on the drives are made by tables.
-const MANY_SLICES: usize = 24;
+/// The XORs of the spread words of each half byte of a row: each word doubles the entries of its half byte.
+fn half_bytes(spread: &[u64]) -> [u64; 1024] {
+    let mut table = [0; 1024];
+    for (entries, words) in table.chunks_exact_mut(16).zip(spread.chunks(4)) {
+        for k in 0..4 {
+            let w = words.get(k).copied().unwrap_or(0);
+            double_entries(entries, 1 << k, w);
+        }
+    }
+    table
+}
 
-/// The signature of the rows of b bytes that stand `stride` bytes apart.
+/// The XOR of the table's entries for the half bytes of some bytes.
+fn looked_bytes(entries: &[u64], bytes: &[u8]) -> u64 {
+    let mut drive = 0;
+    for (half_pair, &byte) in entries.chunks_exact(32).zip(bytes) {
+        drive ^= half_pair[usize::from(byte % 16)] ^ half_pair[16 + usize::from(byte / 16)];
+    }
+    drive
+}
+
+/// .. of a row, eight bytes a turn.
+fn looked_row(table: &[u64; 1024], row: &[u8]) -> u64 {
+    let eights = row.chunks_exact(8);
+    let rest = &table[256 * eights.len()..];
+    let mut drive = looked_bytes(rest, eights.remainder());
+    for (entries, bytes) in table.chunks_exact(256).zip(eights) {
+        drive ^= looked_bytes(entries, bytes);
+    }
+    drive
+}
+
+/// Up to so many slices go by their cells, and from so many on by tables of bytes.
+const FEW_SLICES: usize = 8;
+const MANY_SLICES: usize = 192;
+
+/// The signature of the rows of b bytes that stand `stride` bytes apart: by cells, by half bytes or by tables of bytes.
 fn run_rows(read: Read, spread: &[u64], bytes: &[u8], stride: usize, b: usize) -> u64 {
     let row = |t: usize| stride * t..stride * t + b;
     let clocked = |state, drive| next_state(read.m, read.taps, state) ^ drive ^ read.inversion;
-    if read.s < MANY_SLICES {
+    if read.s < FEW_SLICES {
         let drives = (0..read.s).map(|t| driven_word(spread, &bytes[row(t)]));
+        return drives.fold(0, clocked);
+    }
+    if read.s < MANY_SLICES || b % 8 != 0 {
+        let table = half_bytes(spread);
+        let drives = (0..read.s).map(|t| looked_row(&table, &bytes[row(t)]));
         return drives.fold(0, clocked);
     }
     let drives = slice_drives(read, spread, row, bytes);

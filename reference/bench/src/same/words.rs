@@ -1,7 +1,7 @@
 //! The words of a set from portions of its columns, as many as a working list of 64 places takes, from the last column on.
 
 use super::closed_words::is_settled;
-use super::elimination::{byte_table, put_words, reduce, skip_by_table, unit_words};
+use super::elimination::{byte_table, pays, put_words, reduce, skip_by_table, unit_words};
 use super::response::*;
 use super::set::Read;
 use super::ties::{count_flags, fill_symbols, opening_flags, unmark, Ties};
@@ -108,7 +108,7 @@ struct Progress {
 }
 
 fn is_table_worth(at: Progress, words: usize) -> bool {
-    2 <= words && at.calm && 256 <= at.more / 64 * words
+    at.calm && pays(words, at.more)
 }
 
 /// The next portion: its columns through the elimination. With a table of the words, first all portions that leave them as they are.
