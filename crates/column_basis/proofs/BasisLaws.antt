@@ -20,7 +20,8 @@ use Rattle.combinations.proofs.StepLaws.{length-cleared}
 use Rattle.combinations.proofs.Units.{power-top}
 use Rattle.column_basis.specs.Basis.{Basis, Slots}
 use Rattle.turned_words.proofs.KeptLaws.{kept-same, step-kept}
-use Rattle.column_basis.proofs.BitLaws.{by-digits, digit-and, digit-none, plus-none, power-other, slots-after, slot-chosen, small-after, gone-after}
+use Rattle.column_basis.proofs.BitLaws.{by-digits, digit-and, digit-none}
+use Rattle.turned_words.proofs.TurnedLaws.{plus-none, power-other, slots-after, slot-chosen, small-after, gone-after}
 
 -- ---- parities with a word by the bits that count
 

@@ -23,7 +23,8 @@ use Rattle.combinations.proofs.Units.{power-top, one-bit, length-units, units-a
 use Rattle.turned_words.specs.Turned.{kept, XoredInto}
 use Rattle.column_basis.specs.Basis.{Basis, Held, Settled}
 use Rattle.turned_words.proofs.KeptLaws.{kept-alike}
-use Rattle.column_basis.proofs.BitLaws.{by-digits, digit-and, digit-none, plus-none, power-other, digit-chosen, parities-below}
+use Rattle.column_basis.proofs.BitLaws.{by-digits, digit-and, digit-none, digit-chosen}
+use Rattle.turned_words.proofs.TurnedLaws.{plus-none, power-other, parities-below}
 use Rattle.column_basis.proofs.BasisLaws.{parity-by-digits}
 
 -- ---- the digits of an XOR of marked words

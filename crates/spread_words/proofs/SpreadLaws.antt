@@ -18,7 +18,7 @@ use Rattle.word.proofs.FrontLaws.{length-zeros}
 use Rattle.combinations.proofs.Units.{power-top, one-bit}
 use Rattle.turned_words.specs.Turned.{kept}
 use Rattle.turned_words.proofs.KeptLaws.{digit-suc, digit-zero, kept-none, kept-alive, kept-dead, kept-full, kept-front, one-half, more-half, more-low}
-use Rattle.column_basis.proofs.BitLaws.{plus-none, power-other}
+use Rattle.turned_words.proofs.TurnedLaws.{plus-none, power-other}
 use Rattle.spread_words.specs.Spread.{Spread, SpreadFrom}
 
 -- ---- a word in a slot above all that aren't dead

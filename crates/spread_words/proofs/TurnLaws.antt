@@ -17,7 +17,8 @@ use Rattle.combinations.specs.Step.{units}
 use Rattle.combinations.proofs.Units.{power-top, one-bit, length-units, units-at}
 use Rattle.turned_words.specs.Turned.{kept, XoredInto}
 use Rattle.column_basis.specs.Basis.{Basis, Held}
-use Rattle.column_basis.proofs.BitLaws.{digit-and, digit-none, digit-chosen, power-other}
+use Rattle.column_basis.proofs.BitLaws.{digit-and, digit-none, digit-chosen}
+use Rattle.turned_words.proofs.TurnedLaws.{power-other}
 use Rattle.column_basis.proofs.BasisLaws.{parity-by-digits}
 use Rattle.spread_words.specs.Spread.{Spread, OwnBits}
 use Rattle.spread_words.proofs.SpreadLaws.{all-ones}

@@ -30,7 +30,7 @@ use Rattle.turned_words.proofs.KeptLaws.{Gone, kept-all, kept-full, kep
 
 -- ---- a word by its bits
 
-by-bits : (n c : ℕ) → xorBelow n (λ b. digit b c * 2 ^ b) ≡ c % 2 ^ n
+pub by-bits : (n c : ℕ) → xorBelow n (λ b. digit b c * 2 ^ b) ≡ c % 2 ^ n
 unfolding xorBelow
 by-bits zero c = sym (mod-one c)
 by-bits (suc n) c =
@@ -41,7 +41,7 @@ by-bits (suc n) c =
 -- ---- the parities of a column from the rows
 
 module _ (ws : List ℕ) where
-  parities-below : (n : ℕ) (f : ℕ → ℕ) → parities ws (xorBelow n f) ≡ xorBelow n (λ b. parities ws (f b))
+  pub parities-below : (n : ℕ) (f : ℕ → ℕ) → parities ws (xorBelow n f) ≡ xorBelow n (λ b. parities ws (f b))
   unfolding xorBelow
   parities-below zero f = parities-zero ws
   parities-below (suc n) f =
@@ -71,7 +71,7 @@ parities-cons : (w : ℕ) (ws : List ℕ) (y : ℕ) → parities (w ∷ ws) y �
 unfolding parities
 parities-cons w ws y = refl
 
-plus-none : (a b : ℕ) → a < 2 → b ≡ 0 → (a + b) % 2 ≡ a
+pub plus-none : (a b : ℕ) → a < 2 → b ≡ 0 → (a + b) % 2 ≡ a
 plus-none a b l h = omega arith
 
 module _ (c p y : ℕ) where
@@ -109,7 +109,7 @@ module _ (c p y : ℕ) where
   slots-odd h (w ∷ ws) = ap₂ (λ (a b : ℕ). a + 2 * b) (word-odd h w) (slots-odd h ws)
 
   -- with the column's parities XORed in where the pivot has the bit
-  slots-after : (ws : List ℕ) → bitXor (parities ws y) (parity p y * parities ws c) ≡ parities (cleared c p ws) y
+  pub slots-after : (ws : List ℕ) → bitXor (parities ws y) (parity p y * parities ws c) ≡ parities (cleared c p ws) y
   slots-after ws =
       ⊎-elim
       (λ (e : parity p y ≡ 0).
@@ -133,7 +133,7 @@ module _ (c p : ℕ) (ws : List ℕ) where
   slot-odd : (k : ℕ) → parity (getD ws k 0) c ≡ 1 → getD (cleared c p ws) k 0 ≡ bitXor (getD ws k 0) p
   slot-odd k e = slot-after c p ws k ∙ ap (λ (d : ℕ). byParity d (getD ws k 0) (bitXor (getD ws k 0) p)) e
 
-  slot-chosen : (k : ℕ) → bitXor (getD ws k 0) (parity (getD ws k 0) c * p) ≡ getD (cleared c p ws) k 0
+  pub slot-chosen : (k : ℕ) → bitXor (getD ws k 0) (parity (getD ws k 0) c * p) ≡ getD (cleared c p ws) k 0
   slot-chosen k =
       ⊎-elim
       (λ (e : parity (getD ws k 0) c ≡ 0).
@@ -142,7 +142,7 @@ module _ (c p : ℕ) (ws : List ℕ) where
       ap (λ (d : ℕ). bitXor (getD ws k 0) (d * p)) e ∙ ap (bitXor (getD ws k 0)) (one-mul p) ∙ sym (slot-odd k e))
       (parity-cases (getD ws k 0) c)
 
-  small-after : p < 2 ^ 64 → ((k : ℕ) → getD ws k 0 < 2 ^ 64) → (k : ℕ) → getD (cleared c p ws) k 0 < 2 ^ 64
+  pub small-after : p < 2 ^ 64 → ((k : ℕ) → getD ws k 0 < 2 ^ 64) → (k : ℕ) → getD (cleared c p ws) k 0 < 2 ^ 64
   small-after hp small k =
       ⊎-elim (λ (e : parity (getD ws k 0) c ≡ 0). subst (λ (x : ℕ). x < 2 ^ 64) (sym (slot-even k e)) (small k))
       (λ (e : parity (getD ws k 0) c ≡ 1). subst (λ (x : ℕ). x < 2 ^ 64) (sym (slot-odd k e)) (xor-lt 64 (getD ws k 0) p (small k) hp))
@@ -154,7 +154,7 @@ power-other j k n =
     (λ (m : j < k → ⊥). let wide : 2 ^ k < 2 ^ suc k = pow-lt (omega arith) in digit-past (suc k) (2 ^ k) j wide (omega arith))
 
 -- the pivot's slot is dead too, and holds 0
-gone-after : (c : ℕ) (ws : List ℕ) (k dead : ℕ) → parity (getD ws k 0) c ≡ 1 → Gone dead ws → Gone (bitXor dead (2 ^ k)) (cleared c (getD ws k 0) ws)
+pub gone-after : (c : ℕ) (ws : List ℕ) (k dead : ℕ) → parity (getD ws k 0) c ≡ 1 → Gone dead ws → Gone (bitXor dead (2 ^ k)) (cleared c (getD ws k 0) ws)
 gone-after c ws k dead odd g j h = dite (ℕ-discrete j k) here other
   where
     here : j ≡ k → getD (cleared c (getD ws k 0) ws) j 0 ≡ 0
