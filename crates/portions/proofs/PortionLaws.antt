@@ -97,6 +97,14 @@ module _ (k : Circuit) (j : ℕ) (ps ws : List ℕ) where
         part : (length (take (k .width) (drop j ps)) ≡ k .width) × ((i : ℕ) → i < k .width → getD (take (k .width) (drop j ps)) i 0 ≡ later k (i + j) 1)
         part = powers-part k ps j many (λ i l. right i (omega arith)) room
 
+-- all the chains' words are passed on, by as many clocks as there are slices after the first t
+pub words-passed : (m s t slices clocks : ℕ) (ps ws ws′ : List ℕ) → slices ≡ s → clocks ≡ slices - t
+    → (256 ≤ length ps → ws′ ≡ cond (eqb (clocks % 8) 7) (map (lookedOn m ps 8) ws) ws) → length ps ≡ 256
+    → ws′ ≡ cond (eqb ((s - t) % 8) 7) (map (lookedOn m ps 8) ws) ws
+words-passed m s t slices clocks ps ws ws′ es ec e many =
+    let same : clocks ≡ s - t = omega arith in
+    e (omega arith) ∙ ap (λ (i : ℕ). cond (eqb (i % 8) 7) (map (lookedOn m ps 8) ws) ws) same
+
 -- ---- a row's list
 
 -- the end of the list l, from `start` on, becomes that of part, and then vs

@@ -1,12 +1,9 @@
 -- `go_down` meets its contract.
-use mathlib.Core.Path.{refl, ap, _∙_}
-use mathlib.Core.Bool.{cond}
-use mathlib.Core.List.{map}
-use Prim.Native.Nat.{ℕ, _-_, _%_, min}
+use mathlib.Core.Path.{refl}
+use Prim.Native.Nat.{_-_, min}
 use native.Mathlib.Omega.{arith}
-use lib.Dec.{eqb}
 use Rattle.marked_rows.proofs.LastLaws.{last-le}
-use Rattle.eight_clocks.specs.Eight.{lookedOn}
+use Rattle.portions.proofs.PortionLaws.{words-passed}
 use borrow.Author.Needs.{needs}
 use Rattle.portions.proofs.go_down.Statement.{statement}
 use Rattle.portions.proofs.go_down.Tie as tie
@@ -30,15 +27,10 @@ returns-2 c = record {
 
 returns-3 : tie.Need-returns-3
 returns-3 c =
-    let args = c .before .before .before .before .before .before .before .before .before .before .before .before .args in
-    let clocks = c .before .before .before .before .later-slices .ensures ∙ ap (λ (i : ℕ). i - args .t) (c .before .before .before .before .before .slice-limit .ensures) in record {
+    let args = c .before .before .before .before .before .before .before .before .before .before .before .before .args in record {
       down = omega arith;
       advances = (λ z. let no : ⊥ = omega (arith, z, c .before .before .before .before .before .before .if2 .left) in absurd no);
-      passes = (λ z. (
-        refl,
-        c .before .before .pass-slice .ensures (omega (arith, z))
-            ∙ ap (λ (i : ℕ). cond (eqb (i % 8) 7) (map (lookedOn (min (args .source .register .m) 64) (args .powers .now) 8) (args .words .now)) (args .words .now)) clocks,
-      ));
+      passes = (λ z. (refl, words-passed (min (args .source .register .m) 64) _ (args .t) _ _ (args .powers .now) (args .words .now) _ (c .before .before .before .before .before .slice-limit .ensures) (c .before .before .before .before .later-slices .ensures) (c .before .before .pass-slice .ensures) z));
       skips = (λ z. let no : ⊥ = omega (arith, z, c .before .before .before .before .before .before .before .before .if1 .left) in absurd no);
     }
 
