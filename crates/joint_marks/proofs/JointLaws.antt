@@ -1,18 +1,24 @@
 -- The marks of rows put together byte by byte. Assumes nothing.
 use mathlib.Core.Path.{_≡_, refl, sym, ap, ap₂, _∙_, subst}
-use mathlib.Core.Logic.{dite}
+use mathlib.Core.Logic.{⊎-elim, dite}
 use mathlib.Core.List.{List, [], _∷_, _++_}
 use Prim.Native.Nat.{ℕ, zero, suc, _+_, _*_, _/_, _%_, _^_, _≤_, _<_, min, max}
 use native.Mathlib.Nat.{mul-le-mul-left, mul-suc}
 use native.Mathlib.Numerals.{add-one}
 use native.Mathlib.Decide.{decLt}
 use native.Mathlib.Omega.{arith}
-use lib.Bits.{bitOr, or-step, or-shr, or-zero-r}
+use mathlib.Core.Bool.{not}
+use borrow.Author.Tests.{eqb-true, not-false}
+use lib.Dec.{eqb}
+use Rattle.word.specs.Some.{anyBelow}
+use Rattle.word.proofs.SomeLaws.{any-below-false}
+use lib.Bits.{bitXor, bitAnd, and-shr, and-step, bitOr, or-step, or-shr, or-zero-r}
 use lib.ListN.{length, getD, take, drop, set, length-set, getD-replicate, List·getD-eq-default}
 use lib.Seq.{sets, getD-drop, getD-set-same, getD-set-other}
 use Rattle.word.specs.Word.{digit}
 use Rattle.word.specs.Zeros.{zeros}
 use Rattle.word.specs.Reply.{front}
+use Rattle.word.proofs.Laws.{bit-cases, mod2-lt, digit-xor}
 use Rattle.word.proofs.LowestLaws.{digit-past}
 use Rattle.word.proofs.FrontLaws.{length-zeros}
 use Rattle.rows.specs.Row.{cell}
@@ -22,39 +28,39 @@ use Rattle.numbers.specs.Bytes.{wordAt, wordsAt, bytesOf, wordBytes}
 use Rattle.numbers.proofs.ByteLaws.{number-in-part, length-word-bytes, bytes-of-lt}
 use Rattle.numbers.proofs.FileLaws.{word-at-place, words-back, front-sets, part-small}
 use Rattle.rows.proofs.DigitLaws.{word-cell}
-use Rattle.joint_marks.specs.Joint.{jointMarks, JointWords}
+use Rattle.joint_marks.specs.Joint.{withMarks, jointMarks, JointWords}
 
 -- ---- a row's marks put to others
 
 digit-or : (i a b : ℕ) → digit i (bitOr a b) ≡ max (digit i a) (digit i b)
 digit-or i a b = ap (λ (x : ℕ). x % 2) (or-shr a b i) ∙ omega (arith, or-step (a / 2 ^ i) (b / 2 ^ i))
 
--- the places before i have what f has there too, and the others are as they were
-pub record Adding (f : ℕ → ℕ) (l l′ : List ℕ) (i : ℕ) : Type 0 where
+-- what f has at the places before i was put to what they held, by g, and the others are as they were
+pub record Adding (g : ℕ → ℕ → ℕ) (f : ℕ → ℕ) (l l′ : List ℕ) (i : ℕ) : Type 0 where
   pub long : length l′ ≡ length l
-  pub done : (j : ℕ) → j < i → getD l′ j 0 ≡ bitOr (getD l j 0) (f j)
+  pub done : (j : ℕ) → j < i → getD l′ j 0 ≡ g (getD l j 0) (f j)
   pub rest : (j : ℕ) → i ≤ j → getD l′ j 0 ≡ getD l j 0
 
-module _ (f : ℕ → ℕ) (l : List ℕ) where
-  pub adding-start : Adding f l l 0
+module _ (g : ℕ → ℕ → ℕ) (f : ℕ → ℕ) (l : List ℕ) where
+  pub adding-start : Adding g f l l 0
   adding-start = record { long = refl; done = λ j h. (let no : ⊥ = omega arith in absurd no); rest = λ j h. refl }
 
-  pub adding-turn : (l′ : List ℕ) (i v : ℕ) → Adding f l l′ i → i < length l → v ≡ f i → Adding f l (set l′ i (bitOr (getD l′ i 0) v)) (i + 1)
+  pub adding-turn : (l′ : List ℕ) (i v : ℕ) → Adding g f l l′ i → i < length l → v ≡ f i → Adding g f l (set l′ i (g (getD l′ i 0) v)) (i + 1)
   adding-turn l′ i v a h ev = record {
-    long = length-set l′ i (bitOr (getD l′ i 0) v) ∙ a .long;
+    long = length-set l′ i (g (getD l′ i 0) v) ∙ a .long;
     done = λ j b. dite (decLt j i)
-        (λ (below : j < i). getD-set-other l′ i j (bitOr (getD l′ i 0) v) 0 (λ (e : j ≡ i). omega arith) ∙ a .done j below)
+        (λ (below : j < i). getD-set-other l′ i j (g (getD l′ i 0) v) 0 (λ (e : j ≡ i). omega arith) ∙ a .done j below)
         (λ (n : j < i → ⊥).
         let same : j ≡ i = omega arith in
-        ap (λ (k : ℕ). getD (set l′ i (bitOr (getD l′ i 0) v)) k 0) same
-        ∙ getD-set-same l′ i (bitOr (getD l′ i 0) v) 0 (omega (arith, a .long))
-        ∙ ap₂ bitOr (a .rest i (omega arith)) ev
-        ∙ ap (λ (k : ℕ). bitOr (getD l k 0) (f k)) (sym same));
-    rest = λ j b. getD-set-other l′ i j (bitOr (getD l′ i 0) v) 0 (λ (e : j ≡ i). omega arith) ∙ a .rest j (omega arith);
+        ap (λ (k : ℕ). getD (set l′ i (g (getD l′ i 0) v)) k 0) same
+        ∙ getD-set-same l′ i (g (getD l′ i 0) v) 0 (omega (arith, a .long))
+        ∙ ap₂ g (a .rest i (omega arith)) ev
+        ∙ ap (λ (k : ℕ). g (getD l k 0) (f k)) (sym same));
+    rest = λ j b. getD-set-other l′ i j (g (getD l′ i 0) v) 0 (λ (e : j ≡ i). omega arith) ∙ a .rest j (omega arith);
   }
 
-  pub adding-end : (l′ : List ℕ) (i count : ℕ) → Adding f l l′ i → i ≤ count → count ≤ i
-      → ((j : ℕ) → j < count → getD l′ j 0 ≡ bitOr (getD l j 0) (f j)) × ((j : ℕ) → count ≤ j → getD l′ j 0 ≡ getD l j 0)
+  pub adding-end : (l′ : List ℕ) (i count : ℕ) → Adding g f l l′ i → i ≤ count → count ≤ i
+      → ((j : ℕ) → j < count → getD l′ j 0 ≡ g (getD l j 0) (f j)) × ((j : ℕ) → count ≤ j → getD l′ j 0 ≡ getD l j 0)
   adding-end l′ i count a b e = ((λ j h. a .done j (omega arith)), (λ j h. a .rest j (omega arith)))
 
 -- ---- the marks of the rows together
@@ -97,6 +103,26 @@ place-inside at stride t n j h l =
 
 -- ---- by words of 64 cells
 
+digit-all : (i : ℕ) → i < 64 → digit i 18446744073709551615 ≡ 1
+unfolding anyBelow
+digit-all i l =
+    eqb-true (digit i 18446744073709551615) 1 (not-false _ (any-below-false 64 (λ (j : ℕ). not (eqb (digit j 18446744073709551615) 1)) refl i l))
+
+-- a word with more marks, mark by mark
+digit-with : (k w marks : ℕ) → k < 64 → digit k (withMarks w marks) ≡ max (digit k w) (digit k marks)
+unfolding withMarks
+digit-with k w marks h =
+    digit-xor k w (bitAnd marks (bitXor w 18446744073709551615))
+    ∙ ap (λ (x : ℕ). (digit k w + x) % 2)
+    (digit-and k marks (bitXor w 18446744073709551615) ∙ ap (min (digit k marks)) (digit-xor k w 18446744073709551615 ∙ ap (λ (x : ℕ). (digit k w + x) % 2) (digit-all k h)))
+    ∙ by-cases (digit k w) (digit k marks) (mod2-lt (w / 2 ^ k)) (mod2-lt (marks / 2 ^ k))
+  where
+    digit-and : (i a b : ℕ) → digit i (bitAnd a b) ≡ min (digit i a) (digit i b)
+    digit-and i a b = ap (λ (x : ℕ). x % 2) (and-shr a b i) ∙ omega (arith, and-step (a / 2 ^ i) (b / 2 ^ i))
+
+    by-cases : (a b : ℕ) → a < 2 → b < 2 → (a + min b ((a + 1) % 2)) % 2 ≡ max a b
+    by-cases a b la lb = ⊎-elim (λ (z : a ≡ 0). omega arith) (λ (o : a ≡ 1). omega arith) (bit-cases a la)
+
 module _ (l : List ℕ) (bytes : (i : ℕ) → getD l i 0 < 256) (r : Rows) where
   pub words-start : (ws : List ℕ) → ws ≡ zeros 4 → JointWords l r 0 ws
   unfolding jointMarks
@@ -112,10 +138,10 @@ module _ (l : List ℕ) (bytes : (i : ℕ) → getD l i 0 < 256) (r : Rows) wher
       ∙ ap (λ (n : ℕ). cell (take n (drop at l)) (64 * i + k)) (sym eb)
 
   pub words-turn : (j at : ℕ) (ws ws′ : List ℕ) → JointWords l r j ws → r .bytes ≡ 32 → at ≡ r .at + r .stride * j
-      → ((i : ℕ) → i < 4 → getD ws′ i 0 ≡ bitOr (getD ws i 0) (wordAt l (at + 8 * i))) → JointWords l r (j + 1) ws′
+      → ((i : ℕ) → i < 4 → getD ws′ i 0 ≡ withMarks (getD ws i 0) (wordAt l (at + 8 * i))) → JointWords l r (j + 1) ws′
   unfolding jointMarks
   words-turn j at ws ws′ so-far eb ea e i k hi hk =
-      ap (digit k) (e i hi) ∙ digit-or k (getD ws i 0) (wordAt l (at + 8 * i))
+      ap (digit k) (e i hi) ∙ digit-with k (getD ws i 0) (wordAt l (at + 8 * i)) hk
       ∙ ap₂ max (so-far i k hi hk) (ap (λ (x : ℕ). digit k (wordAt l (x + 8 * i))) ea ∙ word-of-row j i k eb hi hk)
       ∙ ap (λ (x : ℕ). jointMarks l r x (64 * i + k)) (sym (add-one j))
 

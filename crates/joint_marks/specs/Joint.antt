@@ -1,15 +1,20 @@
 -- The marks of some rows together. Document 02, No. 8: "the joint marks".
 --
 --   jointMarks l r t c   1 where one of the first t of the rows r in the list l marks chain c, else 0
+--   withMarks w marks    the word w with those marks too that it doesn't have
 --   JointWords l r t ws  four words have these marks, 64 chains each
 use mathlib.Core.Path.{_≡_}
 use mathlib.Core.List.{List}
 use Prim.Native.Nat.{ℕ, zero, suc, _+_, _*_, _<_, max}
+use lib.Bits.{bitXor, bitAnd}
 use lib.ListN.{getD}
 use Rattle.word.specs.Word.{digit}
 use Rattle.rows.specs.Row.{Cells}
 use Rattle.rows.specs.Lists.{cellsOf}
 use Rattle.rows.specs.declared.Rows.{Rows}
+
+unfoldable pub withMarks : ℕ → ℕ → ℕ
+withMarks w marks = bitXor w (bitAnd marks (bitXor w 18446744073709551615))
 
 unfoldable pub jointMarks : List ℕ → Rows → ℕ → Cells
 jointMarks l r zero c = 0

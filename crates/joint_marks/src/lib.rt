@@ -9,7 +9,7 @@ ghost use Rattle.rows.specs.Row.{cell};
 ghost use Rattle.word.specs.Zeros.{zeros};
 ghost use Rattle.rows.specs.declared.Rows.{Rows};
 ghost use Rattle.numbers.specs.Bytes.{wordAt};
-ghost use Rattle.joint_marks.specs.Joint.{jointMarks, JointWords};
+ghost use Rattle.joint_marks.specs.Joint.{withMarks, jointMarks, JointWords};
 use rows::Rows;
 
 fn no_marks() -> [u8; 32]
@@ -52,15 +52,20 @@ fn no_words() -> [u64; 4]
     [0u64; 4]
 }
 
-// Puts the marks of a row of 32 bytes at place `at`, all of which are there, to those of four words of 64.
+// All marks of a word.
+const ALL: u64 = 0xffff_ffff_ffff_ffff;
+
+// Puts the marks of a row of 32 bytes at place `at`, all of which are there, to those of four words of 64. A word and its marks are put
+// together by an AND and an XOR: an OR would be taken apart into ORs of bytes by the compiler, which then reads the row byte by byte.
 fn add_row(all: &mut [u64], list: &[u8], at: usize)
     requires { ⌜ (length (now all) ≡ 4) × (at + 32 ≤ length (now list)) ⌝ }
-    ensures { λ _. ⌜ ((i : ℕ) → i < 4 → getD (now (all .exit)) i 0 ≡ bitOr (getD (now (all .entry)) i 0) (wordAt (now (list .entry)) (at + 8 * i))) ⌝ }
+    ensures { λ _. ⌜ ((i : ℕ) → i < 4 → getD (now (all .exit)) i 0 ≡ withMarks (getD (now (all .entry)) i 0) (wordAt (now (list .entry)) (at + 8 * i))) ⌝ }
 {
     let mut i: usize = 0;
     while i < 4 {
         let marks = numbers::eight_bytes(list, at + 8 * i);
-        all[i] = all[i] | marks;
+        let w = all[i];
+        all[i] = w ^ (marks & (w ^ ALL));
         i += 1;
     }
 }

@@ -2,20 +2,28 @@
 // passed over. It sees words, turned words and combinations, and knows nothing of the elimination that uses it.
 ghost use mathlib.Core.Path.{_≡_};
 ghost use mathlib.Core.Bool.{true, false};
-ghost use Prim.Native.Nat.{ℕ, _+_, _<_};
+ghost use Prim.Native.Nat.{ℕ, _+_, _≤_, _<_};
 ghost use lib.ListN.{length, getD, take, drop};
 ghost use Rattle.word.specs.Word.{parity};
 ghost use Rattle.combinations.specs.Combination.{xFree};
 ghost use Rattle.parity_table.specs.Table.{ParityTable, tablePays, evenRun, tableRun};
 
-// The table of the parities of the first 64 words with every byte of a column: that of their rows (`turned_words::turn`). It takes about as
-// long to make as five hundred parities.
+// Makes the table of the parities of the first 64 words with every byte of a column: that of their rows (`turned_words::turn`). It takes about as
+// long as five hundred parities.
+fn fill_parities(table: &mut [u64], words: &[u64])
+    requires { ⌜ 2048 ≤ length (now table) ⌝ }
+    ensures { λ _. ⌜ ParityTable (take 64 (now (words .entry))) (now (table .exit)) ⌝ }
+{
+    let rows = turned_words::turn(words);
+    byte_tables::fill_table(table, &rows[..]);
+}
+
+// That table.
 pub fn byte_table(words: &[u64]) -> [u64; 2048]
     ensures { λ r. ⌜ ParityTable (take 64 (now (words .entry))) r ⌝ }
 {
-    let rows = turned_words::turn(words);
     let mut table = byte_tables::no_entries();
-    byte_tables::fill_table(&mut table[..], &rows[..]);
+    fill_parities(&mut table[..], words);
     table
 }
 
@@ -34,11 +42,12 @@ pub fn skip_by_table(table: &[u64; 2048], columns: &[u64], from: usize) -> usize
     i
 }
 
-// The same for the first 64 words, whose table is made for it.
+// The same for the first 64 words, whose table is made for it, here and not by `byte_table`: a table handed back is copied.
 pub fn skip_even(words: &[u64], columns: &[u64], from: usize) -> usize
     ensures { λ r. ⌜ r ≡ from + evenRun (take 64 (now (words .entry))) (drop from (now (columns .entry))) ⌝ }
 {
-    let table = byte_table(words);
+    let mut table = byte_tables::no_entries();
+    fill_parities(&mut table[..], words);
     skip_by_table(&table, columns, from)
 }
 
