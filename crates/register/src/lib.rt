@@ -7,6 +7,7 @@ ghost use lib.Dec.{eqb};
 ghost use lib.ListN.{length};
 ghost use Rattle.word.specs.Reply.{firstOf};
 ghost use Rattle.rows.specs.Row.{cell, rowBytes};
+ghost use Rattle.chains.specs.Driven.{driven};
 ghost use Rattle.register.specs.Circuit.{advanced, badTaps, badChains, tooManySlices};
 ghost use Rattle.register.specs.Clock.{clockTests, clockReply, said, stateAfter};
 
@@ -187,6 +188,14 @@ impl Register {
         self.advance(drive ^ self.inversion)
     }
 
+    // One clock with the cells of a row, which is lent as it stands in its list: the register with its next state. It meets no number: a width
+    // above 64 counts as 64, and a cell past the row's end is 0.
+    pub fn clock_row(self, spread: &[u64], row: &[u8]) -> Register
+        ensures { λ r. ⌜ (r .m ≡ self .m) × (r .taps ≡ self .taps) × (r .inversion ≡ self .inversion) × (r .state ≡ bitXor (bitXor (advanced (min (self .m) 64) (self .taps) (self .state)) (driven (now (spread .entry)) (cell (now (row .entry))) (length (now (spread .entry))))) (self .inversion)) ⌝ }
+    {
+        self.clock_driven(chains::driven_word(spread, row))
+    }
+
     // One clock with the cells of one row: the register with its next state. It meets 2, 3, 25, 4, 6, 8 (a row not of B
     // bytes), 9 and 23 (the state), in that order; a refusal hands the register back as it came.
     pub fn clock(self, spread: &[u64], row: &[u8]) -> Clocked
@@ -202,7 +211,7 @@ impl Register {
         }
         Clocked {
             answer: Clocking::Done,
-            register: self.clock_driven(chains::driven_word(spread, row)),
+            register: self.clock_row(spread, row),
         }
     }
 }

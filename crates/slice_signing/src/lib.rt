@@ -28,7 +28,7 @@ fn sign_by_cells(register: Register, spread: &[u64], list: &[u8], rows: Rows, s:
     let mut held = register;
     let mut t: u16 = 0;
     while t < s {
-        held = held.clock_driven(chains::driven_word(spread, rows::row_of(list, rows, t)));
+        held = held.clock_row(spread, rows::row_of(list, rows, t));
         t += 1;
     }
     held.state

@@ -1,4 +1,5 @@
 -- `sign_by_cells` meets its contract. The loop's invariant: the register holds the state after the first `t` rows.
+use mathlib.Core.Path.{refl}
 use Prim.Native.Nat.{_-_, _≤_}
 use native.Mathlib.Omega.{arith}
 use borrow.Author.Needs.{needs}
@@ -20,11 +21,8 @@ loop-holds c = (search needs, running-starts _ _ _ _ _ _ (c .before .before .pre
 row-of-requires : tie.Need-row-of-requires Inv-loop μ-loop
 row-of-requires c κs = search needs
 
-driven-word-requires : tie.Need-driven-word-requires Inv-loop μ-loop
-driven-word-requires c κs = search needs
-
-clock-driven-requires : tie.Need-clock-driven-requires Inv-loop μ-loop
-clock-driven-requires c κs = search needs
+clock-row-requires : tie.Need-clock-row-requires Inv-loop μ-loop
+clock-row-requires c κs = search needs
 
 add-t : tie.Need-add-t Inv-loop μ-loop
 add-t c = search needs
@@ -34,11 +32,11 @@ loop-less c = search needs
 
 loop-again : tie.Need-loop-again Inv-loop μ-loop
 loop-again c =
-    let args = c .before .before .before .before .before .before .before .args in
-    let row = c .before .before .row-of in (
+    let args = c .before .before .before .before .before .before .args in
+    let row = c .before .row-of in (
       search needs,
-      running-turns _ _ _ _ _ _ _ _ _ _ _ _ _ _ _ (c .before .before .before .before .loop .inv .1) (c .clock-driven .ensures)
-          (row-driven (args .spread .now) (args .list .now) (row .result .now) (args .rows) _ _ (row .ensures) (c .before .driven-word .ensures)),
+      running-turns _ _ _ _ _ _ _ _ _ _ _ _ _ _ _ (c .before .before .before .loop .inv .1) (c .clock-row .ensures)
+          (row-driven (args .spread .now) (args .list .now) (row .result .now) (args .rows) _ _ (row .ensures) refl),
     )
 
 returns : tie.Need-returns Inv-loop μ-loop
@@ -52,8 +50,7 @@ sign-by-cells-spec =
     μ-loop
     loop-holds
     row-of-requires
-    driven-word-requires
-    clock-driven-requires
+    clock-row-requires
     add-t
     loop-less
     loop-again

@@ -18,28 +18,20 @@ returns c =
     (c .if1 .taken) in
     (sym e, (refl, refl, refl, sym (ap (λ (q : Reply ℕ). stateAfter q (c .before .before .before .before .args .self .state)) e)))
 
-driven-word-requires : tie.Need-driven-word-requires
-driven-word-requires c κs = search needs
-
-clock-driven-requires : tie.Need-clock-driven-requires
-clock-driven-requires c κs = search needs
-
 returns-2 : tie.Need-returns-2
 returns-2 c =
-    let e = clock-done (c .before .before .before .before .before .before .args .self)
-    (c .before .before .before .before .before .before .args .spread .now)
-    (c .before .before .before .before .before .before .args .row .now) (c .before .driven-word .result) (c .clock-driven .result .state)
-    (cc) (c .before .driven-word .ensures) (c .clock-driven .ensures .3) in (
+    let args = c .before .before .before .before .before .args in
+    let e = clock-done (args .self) (args .spread .now) (args .row .now) _ (c .clock-row .result .state) (cc) refl (c .clock-row .ensures .3) in (
       sym e,
       (
-        c .clock-driven .ensures .0,
-        c .clock-driven .ensures .1,
-        c .clock-driven .ensures .2,
-        sym (ap (λ (q : Reply ℕ). stateAfter q (c .before .before .before .before .before .before .args .self .state)) e),
+        c .clock-row .ensures .0,
+        c .clock-row .ensures .1,
+        c .clock-row .ensures .2,
+        sym (ap (λ (q : Reply ℕ). stateAfter q (args .self .state)) e),
       ),
     )
 
 pub clock-spec : {M : Type 1} → statement M
 clock-spec =
     tie.close
-    (tie.spec first-refusal-requires returns driven-word-requires clock-driven-requires returns-2)
+    (tie.spec first-refusal-requires returns (λ c κs. search needs) returns-2)
