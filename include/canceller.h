@@ -41,7 +41,7 @@
 extern "C" {
 #endif
 
-#define CANCELLER_VERSION "4.0.1"
+#define CANCELLER_VERSION "4.0.2"
 
 #define CANCELLER_WIDTH_MAX 64
 #define CANCELLER_CHAINS_MAX 256

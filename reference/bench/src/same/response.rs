@@ -297,26 +297,35 @@ pub fn advance_few(m: u64, table: &[u64], clocks: u64, words: &mut [u64]) {
     }
 }
 
-/// All chains' words advanced by eight clocks for every eighth slice, and those of marked cells by the clocks between.
-fn fill_by_eights(marks: Marks, read: Read, spread: &[u64; 256], columns: &mut [u64]) {
+/// All chains' words advanced by eight clocks for every eighth slice, and those of marked cells by the clocks between, in a register of 64 bits.
+fn fill_wide(marks: Marks, read: Read, mut all: [u64; 256], columns: &mut [u64]) {
     let table = eight_on(read);
-    let mut all = *spread;
     let words = &mut all[..read.n];
     let mut place = columns.len();
     for (clocks, t) in (0..read.s).rev().enumerate() {
         let start = list_row(&mut columns[..place], words, marks.row(t));
-        if clocks % 8 != 0 {
-            advance_few(
-                read.m,
-                &table,
-                clocks as u64 % 8,
-                &mut columns[start..place],
-            );
+        let few = clocks as u64 % 8;
+        if few != 0 {
+            advance_few(64, &table, few, &mut columns[start..place]);
         }
         place = start;
-        if clocks % 8 == 7 {
-            advance_few(read.m, &table, 8, words);
+        if few == 7 {
+            advance_few(64, &table, 8, words);
         }
+    }
+}
+
+/// .. in any register, raised to 64 bits.
+fn fill_by_eights(marks: Marks, read: Read, spread: &[u64; 256], columns: &mut [u64]) {
+    let up = 64 - read.m;
+    let raised = Read {
+        m: 64,
+        taps: read.taps << up,
+        ..read
+    };
+    fill_wide(marks, raised, spread.map(|w| w << up), columns);
+    for column in columns {
+        *column >>= up;
     }
 }
 
@@ -330,7 +339,7 @@ fn sweep_cost(read: Read) -> usize {
 
 /// .. by eights of clocks.
 fn eights_cost(count: usize, read: Read) -> usize {
-    read.n * read.s / 4 + 20 * read.s + 2 * count + 128
+    read.n * read.s / 5 + 20 * read.s + 2 * count + 128
 }
 
 /// .. one by one.
@@ -341,7 +350,7 @@ fn ones_cost(count: usize, read: Read) -> usize {
 /// Whether so many columns cost less by eights of clocks than by a sweep and than one by one.
 fn eights_least(count: usize, read: Read) -> bool {
     let eights = eights_cost(count, read);
-    8 <= read.m && count < MANY && eights < sweep_cost(read) && eights < ones_cost(count, read)
+    count < MANY && eights < sweep_cost(read) && eights < ones_cost(count, read)
 }
 
 /// Whether they cost less one by one than by a sweep.
