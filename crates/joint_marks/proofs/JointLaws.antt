@@ -1,8 +1,8 @@
 -- The marks of rows put together byte by byte. Assumes nothing.
 use mathlib.Core.Path.{_≡_, refl, sym, ap, ap₂, _∙_, subst}
-use mathlib.Core.Logic.{⊎-elim, dite}
+use mathlib.Core.Logic.{dite}
 use mathlib.Core.List.{List, [], _∷_, _++_}
-use Prim.Native.Nat.{ℕ, zero, suc, _+_, _*_, _/_, _%_, _^_, _≤_, _<_, min, max}
+use Prim.Native.Nat.{ℕ, zero, suc, _+_, _-_, _*_, _/_, _%_, _^_, _≤_, _<_, min, max}
 use native.Mathlib.Nat.{mul-le-mul-left, mul-suc}
 use native.Mathlib.Numerals.{add-one}
 use native.Mathlib.Decide.{decLt}
@@ -13,12 +13,12 @@ use lib.Dec.{eqb}
 use Rattle.word.specs.Some.{anyBelow}
 use Rattle.word.proofs.SomeLaws.{any-below-false}
 use lib.Bits.{bitXor, bitAnd, and-shr, and-step, bitOr, or-step, or-shr, or-zero-r}
-use lib.ListN.{length, getD, take, drop, set, length-set, getD-replicate, List·getD-eq-default}
+use lib.ListN.{length, getD, take, drop, set, length-set, replicate, getD-replicate, List·getD-eq-default}
 use lib.Seq.{sets, getD-drop, getD-set-same, getD-set-other}
 use Rattle.word.specs.Word.{digit}
 use Rattle.word.specs.Zeros.{zeros}
 use Rattle.word.specs.Reply.{front}
-use Rattle.word.proofs.Laws.{bit-cases, mod2-lt, digit-xor}
+use Rattle.word.proofs.Laws.{mod2-lt, digit-xor}
 use Rattle.word.proofs.LowestLaws.{digit-past}
 use Rattle.word.proofs.FrontLaws.{length-zeros}
 use Rattle.rows.specs.Row.{cell}
@@ -27,8 +27,9 @@ use Rattle.rows.specs.declared.Rows.{Rows}
 use Rattle.numbers.specs.Bytes.{wordAt, wordsAt, bytesOf, wordBytes}
 use Rattle.numbers.proofs.ByteLaws.{number-in-part, length-word-bytes, bytes-of-lt}
 use Rattle.numbers.proofs.FileLaws.{word-at-place, words-back, front-sets, part-small}
+use Rattle.rows.proofs.CellLaws.{cell-lt}
 use Rattle.rows.proofs.DigitLaws.{word-cell}
-use Rattle.joint_marks.specs.Joint.{withMarks, jointMarks, JointWords}
+use Rattle.joint_marks.specs.Joint.{without, jointMarks, UnmarkedWords, JointWords}
 
 -- ---- a row's marks put to others
 
@@ -108,26 +109,31 @@ unfolding anyBelow
 digit-all i l =
     eqb-true (digit i 18446744073709551615) 1 (not-false _ (any-below-false 64 (λ (j : ℕ). not (eqb (digit j 18446744073709551615) 1)) refl i l))
 
--- a word with more marks, mark by mark
-digit-with : (k w marks : ℕ) → k < 64 → digit k (withMarks w marks) ≡ max (digit k w) (digit k marks)
-unfolding withMarks
-digit-with k w marks h =
-    digit-xor k w (bitAnd marks (bitXor w 18446744073709551615))
-    ∙ ap (λ (x : ℕ). (digit k w + x) % 2)
-    (digit-and k marks (bitXor w 18446744073709551615) ∙ ap (min (digit k marks)) (digit-xor k w 18446744073709551615 ∙ ap (λ (x : ℕ). (digit k w + x) % 2) (digit-all k h)))
-    ∙ by-cases (digit k w) (digit k marks) (mod2-lt (w / 2 ^ k)) (mod2-lt (marks / 2 ^ k))
-  where
-    digit-and : (i a b : ℕ) → digit i (bitAnd a b) ≡ min (digit i a) (digit i b)
-    digit-and i a b = ap (λ (x : ℕ). x % 2) (and-shr a b i) ∙ omega (arith, and-step (a / 2 ^ i) (b / 2 ^ i))
+digit-and : (i a b : ℕ) → digit i (bitAnd a b) ≡ min (digit i a) (digit i b)
+digit-and i a b = ap (λ (x : ℕ). x % 2) (and-shr a b i) ∙ omega (arith, and-step (a / 2 ^ i) (b / 2 ^ i))
 
-    by-cases : (a b : ℕ) → a < 2 → b < 2 → (a + min b ((a + 1) % 2)) % 2 ≡ max a b
-    by-cases a b la lb = ⊎-elim (λ (z : a ≡ 0). omega arith) (λ (o : a ≡ 1). omega arith) (bit-cases a la)
+-- the other cells of a word
+digit-other : (k w : ℕ) → k < 64 → digit k (bitXor w 18446744073709551615) ≡ 1 - digit k w
+digit-other k w h =
+    digit-xor k w 18446744073709551615 ∙ ap (λ (x : ℕ). (digit k w + x) % 2) (digit-all k h) ∙ turned (digit k w) (mod2-lt (w / 2 ^ k))
+  where
+    turned : (a : ℕ) → a < 2 → (a + 1) % 2 ≡ 1 - a
+    turned a l = omega arith
+
+digit-without : (k w marks : ℕ) → k < 64 → digit k (without w marks) ≡ min (digit k w) (1 - digit k marks)
+unfolding without
+digit-without k w marks h = digit-and k w (bitXor marks 18446744073709551615) ∙ ap (min (digit k w)) (digit-other k marks h)
+
+joint-le : (l : List ℕ) (r : Rows) (t c : ℕ) → jointMarks l r t c ≤ 1
+unfolding jointMarks
+joint-le l r zero c = omega arith
+joint-le l r (suc t) c = omega (arith, joint-le l r t c, cell-lt (rowOf l r t) c)
 
 module _ (l : List ℕ) (bytes : (i : ℕ) → getD l i 0 < 256) (r : Rows) where
-  pub words-start : (ws : List ℕ) → ws ≡ zeros 4 → JointWords l r 0 ws
+  pub words-start : (ws : List ℕ) → ws ≡ replicate 4 18446744073709551615 → UnmarkedWords l r 0 ws
   unfolding jointMarks
   words-start ws e i k hi hk =
-      ap (digit k) (ap (λ (x : List ℕ). getD x i 0) e ∙ getD-replicate 4 i 0 0 hi) ∙ digit-past 0 0 k (omega arith) (omega arith)
+      ap (digit k) (ap (λ (x : List ℕ). getD x i 0) e ∙ getD-replicate 4 i 18446744073709551615 0 hi) ∙ digit-all k hk
 
   -- a word of row j
   word-of-row : (j i k : ℕ) → r .bytes ≡ 32 → i < 4 → k < 64 → digit k (wordAt l (r .at + r .stride * j + 8 * i)) ≡ cellsOf l r j (64 * i + k)
@@ -137,16 +143,30 @@ module _ (l : List ℕ) (bytes : (i : ℕ) → getD l i 0 < 256) (r : Rows) wher
       ∙ word-cell (take 32 (drop at l)) (part-small l bytes at 32) i k hk
       ∙ ap (λ (n : ℕ). cell (take n (drop at l)) (64 * i + k)) (sym eb)
 
-  pub words-turn : (j at : ℕ) (ws ws′ : List ℕ) → JointWords l r j ws → r .bytes ≡ 32 → at ≡ r .at + r .stride * j
-      → ((i : ℕ) → i < 4 → getD ws′ i 0 ≡ withMarks (getD ws i 0) (wordAt l (at + 8 * i))) → JointWords l r (j + 1) ws′
+  pub words-turn : (j at : ℕ) (ws ws′ : List ℕ) → UnmarkedWords l r j ws → r .bytes ≡ 32 → at ≡ r .at + r .stride * j
+      → ((i : ℕ) → i < 4 → getD ws′ i 0 ≡ without (getD ws i 0) (wordAt l (at + 8 * i))) → UnmarkedWords l r (j + 1) ws′
   unfolding jointMarks
   words-turn j at ws ws′ so-far eb ea e i k hi hk =
-      ap (digit k) (e i hi) ∙ digit-with k (getD ws i 0) (wordAt l (at + 8 * i)) hk
-      ∙ ap₂ max (so-far i k hi hk) (ap (λ (x : ℕ). digit k (wordAt l (x + 8 * i))) ea ∙ word-of-row j i k eb hi hk)
-      ∙ ap (λ (x : ℕ). jointMarks l r x (64 * i + k)) (sym (add-one j))
+      ap (digit k) (e i hi) ∙ digit-without k (getD ws i 0) (wordAt l (at + 8 * i)) hk
+      ∙ ap₂ (λ (a b : ℕ). min a (1 - b)) (so-far i k hi hk) (ap (λ (x : ℕ). digit k (wordAt l (x + 8 * i))) ea ∙ word-of-row j i k eb hi hk)
+      ∙ less (jointMarks l r j (64 * i + k)) (cellsOf l r j (64 * i + k))
+      ∙ ap (λ (x : ℕ). 1 - jointMarks l r x (64 * i + k)) (sym (add-one j))
+    where
+      less : (a b : ℕ) → min (1 - a) (1 - b) ≡ 1 - max a b
+      less a b = omega arith
 
-pub words-end : (l : List ℕ) (r : Rows) (j t : ℕ) (ws : List ℕ) → JointWords l r j ws → j ≡ t → JointWords l r t ws
-words-end l r j t ws h e i k hi hk = h i k hi hk ∙ ap (λ (x : ℕ). jointMarks l r x (64 * i + k)) e
+pub words-end : (l : List ℕ) (r : Rows) (j t : ℕ) (ws : List ℕ) → UnmarkedWords l r j ws → j ≡ t → UnmarkedWords l r t ws
+words-end l r j t ws h e i k hi hk = h i k hi hk ∙ ap (λ (x : ℕ). 1 - jointMarks l r x (64 * i + k)) e
+
+-- the other cells are the marked ones
+pub words-over : (l : List ℕ) (r : Rows) (t : ℕ) (ws ws′ : List ℕ) → length ws ≡ 4 → UnmarkedWords l r t ws
+    → ((i : ℕ) → i < length ws → getD ws′ i 0 ≡ bitXor (getD ws i 0) 18446744073709551615) → JointWords l r t ws′
+words-over l r t ws ws′ long h e i k hi hk =
+    ap (digit k) (e i (omega (arith, long))) ∙ digit-other k (getD ws i 0) hk ∙ ap (λ (x : ℕ). 1 - x) (h i k hi hk)
+    ∙ twice (jointMarks l r t (64 * i + k)) (joint-le l r t (64 * i + k))
+  where
+    twice : (a : ℕ) → a ≤ 1 → 1 - (1 - a) ≡ a
+    twice a l = omega arith
 
 front-parts : (vs l : List ℕ) → front vs l ≡ vs ++ drop (length vs) l
 unfolding front

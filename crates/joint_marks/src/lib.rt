@@ -3,13 +3,13 @@
 ghost use mathlib.Core.Path.{_≡_};
 ghost use mathlib.Core.List.{List};
 ghost use Prim.Native.Nat.{ℕ, _+_, _*_, _≤_, _<_};
-ghost use lib.Bits.{bitOr};
-ghost use lib.ListN.{length, getD};
+ghost use lib.Bits.{bitXor, bitOr};
+ghost use lib.ListN.{length, getD, replicate};
 ghost use Rattle.rows.specs.Row.{cell};
 ghost use Rattle.word.specs.Zeros.{zeros};
 ghost use Rattle.rows.specs.declared.Rows.{Rows};
 ghost use Rattle.numbers.specs.Bytes.{wordAt};
-ghost use Rattle.joint_marks.specs.Joint.{withMarks, jointMarks, JointWords};
+ghost use Rattle.joint_marks.specs.Joint.{without, jointMarks, UnmarkedWords, JointWords};
 use rows::Rows;
 
 fn no_marks() -> [u8; 32]
@@ -46,44 +46,54 @@ fn joint_of_any(list: &[u8], rows: Rows, t: u16) -> [u8; 32]
     all
 }
 
-fn no_words() -> [u64; 4]
-    ensures { λ r. ⌜ r ≡ zeros 4 ⌝ }
-{
-    [0u64; 4]
-}
-
-// All marks of a word.
+// All 64 cells of a word.
 const ALL: u64 = 0xffff_ffff_ffff_ffff;
 
-// Puts the marks of a row of 32 bytes at place `at`, all of which are there, to those of four words of 64. A word and its marks are put
-// together by an AND and an XOR: an OR would be taken apart into ORs of bytes by the compiler, which then reads the row byte by byte.
-fn add_row(all: &mut [u64], list: &[u8], at: usize)
-    requires { ⌜ (length (now all) ≡ 4) × (at + 32 ≤ length (now list)) ⌝ }
-    ensures { λ _. ⌜ ((i : ℕ) → i < 4 → getD (now (all .exit)) i 0 ≡ withMarks (getD (now (all .entry)) i 0) (wordAt (now (list .entry)) (at + 8 * i))) ⌝ }
+fn all_cells() -> [u64; 4]
+    ensures { λ r. ⌜ r ≡ replicate 4 18446744073709551615 ⌝ }
+{
+    [ALL; 4]
+}
+
+// Takes the cells that a row of 32 bytes at place `at`, all of which are there, marks out of four words of 64. Unmarked cells are gathered
+// because an OR of marks would be taken apart into ORs of bytes by the compiler, which then reads the row byte by byte.
+fn take_out_row(cells: &mut [u64], list: &[u8], at: usize)
+    requires { ⌜ (length (now cells) ≡ 4) × (at + 32 ≤ length (now list)) ⌝ }
+    ensures { λ _. ⌜ ((i : ℕ) → i < 4 → getD (now (cells .exit)) i 0 ≡ without (getD (now (cells .entry)) i 0) (wordAt (now (list .entry)) (at + 8 * i))) ⌝ }
 {
     let mut i: usize = 0;
     while i < 4 {
         let marks = numbers::eight_bytes(list, at + 8 * i);
-        let w = all[i];
-        all[i] = w ^ (marks & (w ^ ALL));
+        cells[i] = cells[i] & (marks ^ ALL);
         i += 1;
     }
 }
 
-// The marks of the first t rows together as four words of 64, for rows of 32 bytes that are all there.
-fn joint_words(list: &[u8], rows: Rows, t: u16) -> [u64; 4]
+// The cells that none of the first t rows marks as four words of 64, for rows of 32 bytes that are all there.
+fn unmarked_words(list: &[u8], rows: Rows, t: u16) -> [u64; 4]
     requires { ⌜ (rows .bytes ≡ 32) × (rows .at + rows .stride * t + 32 ≤ length (now list) + rows .stride) ⌝ }
-    ensures { λ r. ⌜ (length r ≡ 4) × JointWords (now (list .entry)) rows t r ⌝ }
+    ensures { λ r. ⌜ (length r ≡ 4) × UnmarkedWords (now (list .entry)) rows t r ⌝ }
 {
     let first = rows.at as usize;
     let stride = rows.stride as usize;
-    let mut all = no_words();
+    let mut cells = all_cells();
     let mut j: u16 = 0;
     while j < t {
-        add_row(&mut all, list, first + stride * (j as usize));
+        take_out_row(&mut cells, list, first + stride * (j as usize));
         j += 1;
     }
-    all
+    cells
+}
+
+// The other cells of each word.
+fn turn_over(words: &mut [u64])
+    ensures { λ _. ⌜ ((i : ℕ) → i < length (now (words .entry)) → getD (now (words .exit)) i 0 ≡ bitXor (getD (now (words .entry)) i 0) 18446744073709551615) ⌝ }
+{
+    let mut i: usize = 0;
+    while i < words.len() {
+        words[i] = words[i] ^ ALL;
+        i += 1;
+    }
 }
 
 // Four words of 64 marks as a row of 32 bytes.
@@ -100,7 +110,8 @@ fn joint_of_32(list: &[u8], rows: Rows, t: u16) -> [u8; 32]
     requires { ⌜ (rows .bytes ≡ 32) × (rows .at + rows .stride * t + 32 ≤ length (now list) + rows .stride) ⌝ }
     ensures { λ r. ⌜ ((c : ℕ) → c < 256 → cell r c ≡ jointMarks (now (list .entry)) rows t c) ⌝ }
 {
-    let words = joint_words(list, rows, t);
+    let mut words = unmarked_words(list, rows, t);
+    turn_over(&mut words);
     word_row(&words)
 }
 
