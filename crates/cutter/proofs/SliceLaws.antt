@@ -24,12 +24,13 @@ use Rattle.unclocking.specs.Unclocked.{earlier, EightBack}
 use Rattle.slice_columns.specs.Frame.{eights, markedEarlier, NextFrom}
 use Rattle.slice_columns.proofs.FrameLaws.{earlierWords}
 use Rattle.cutter.specs.Cutting.{shortSlice, startsFor}
-use Rattle.run_words.specs.Joining.{Turned}
+use Rattle.column_basis.specs.Basis.{Held}
+use Rattle.run_words.specs.Joining.{Put}
 use Rattle.run_words.specs.declared.Turn.{Turn}
 use Rattle.cutter.specs.Turns.{Sound, seen, SlicedFor}
 use Rattle.cutter.specs.declared.Slices.{Slices}
 use Rattle.cutter.proofs.FrameLaws.{framed, framed-words}
-use Rattle.cutter.proofs.RunLaws.{CutTo, cut-turns, cut-short, cut-ends}
+use Rattle.cutter.proofs.RunLaws.{CutTo, cut-starts, cut-turns, cut-short, cut-ends}
 use Rattle.cutter.proofs.SameLaws.{same-starts, same-short, sound-set}
 
 -- ---- the chains' words
@@ -99,21 +100,38 @@ sliced-all g sound κ t runs h l some et few long so-far =
 
 -- ---- one slice of the pass
 
--- what one slice of the pass does with the chains' words, which become ws′, the words h that the run so far leaves, which become h′, and the
--- first slices l of the runs so far
-pub record SlicePassed (g : Given) (table : List ℕ) (k t runs : ℕ) (ws′ h h′ l : List ℕ) (turn : Turn) : Type 0 where
+-- what is known after t slices, with the basis beside the words that the last run leaves
+pub record CutHeld (g : Given) (k t runs : ℕ) (basis : List ℕ) (dead : ℕ) (l : List ℕ) : Type 0 where
+  pub words : List ℕ
+  pub hold : Held words basis dead
+  pub cut : CutTo g k t runs words l
+
+pub held-starts : (g : Given) → Sound (g .wiring) → (k : ℕ) → 1 ≤ k → (basis : List ℕ) (dead : ℕ) (l : List ℕ) → Held [] basis dead → CutHeld g k 0 0 basis dead l
+held-starts g sound k some basis dead l h = record { words = []; hold = h; cut = cut-starts g sound k some [] l refl }
+
+pub held-all : (g : Given) → Sound (g .wiring) → (κ t runs : ℕ) (basis : List ℕ) (dead : ℕ) (l : List ℕ) → 1 ≤ κ → t ≡ g .slices → runs ≤ 512 → length l ≡ 512
+    → CutHeld g κ t runs basis dead l → SlicedFor g κ l (Slices.Cut runs)
+held-all g sound κ t runs basis dead l some et few long so-far = sliced-all g sound κ t runs (so-far .words) l some et few long (so-far .cut)
+
+-- what one slice of the pass does with the chains' words, which become ws′, the words that the run so far leaves, beside which the basis stands
+-- before and after, and the first slices l of the runs so far
+pub record SlicePassed (g : Given) (table : List ℕ) (k t runs : ℕ) (ws′ basis : List ℕ) (dead : ℕ) (basis′ l : List ℕ) (turn : Turn) : Type 0 where
   pub words : EightBack (g .wiring) table → ws′ ≡ earlierWords (g .wiring) (eights (t + 1)) (g .wiring .spread)
-  pub short : Sound (g .wiring) → EightBack (g .wiring) table → 1 ≤ k → turn .left < k → SlicedFor g k l (Slices.Refused 27)
-  pub next : Sound (g .wiring) → EightBack (g .wiring) table → 1 ≤ k → CutTo g k t runs h l → k ≤ turn .left
-      → CutTo g k (t + 1) (runs + turn .opened) h′ (set l runs t)
+  pub short : Sound (g .wiring) → EightBack (g .wiring) table → 1 ≤ k → CutHeld g k t runs basis dead l → turn .left < k → SlicedFor g k l (Slices.Refused 27)
+  pub next : Sound (g .wiring) → EightBack (g .wiring) table → 1 ≤ k → CutHeld g k t runs basis dead l → k ≤ turn .left
+      → CutHeld g k (t + 1) (runs + turn .opened) basis′ (turn .dead) (set l runs t)
 
 -- .. by what its two calls promise: the columns stand behind place p of a list of 256, and have been put to the words
-module _ (r : Register) (table list : List ℕ) (rows : Rows) (s k t runs w p : ℕ) (ws₀ ws ws′ cs cs′ h h′ l : List ℕ) (turn : Turn)
-    (next : NextFrom r table list rows t ws ws′ cs cs′ p) (put : Turned (take (256 - p) (drop p cs′)) w k h h′ turn)
+module _ (r : Register) (table list : List ℕ) (rows : Rows) (s k t runs w p : ℕ) (ws₀ ws ws′ cs cs′ basis : List ℕ) (dead : ℕ) (basis′ l : List ℕ) (turn : Turn)
+    (next : NextFrom r table list rows t ws ws′ cs cs′ p)
+    (put : (h : List ℕ) → Held h basis dead → Put (take (256 - p) (drop p cs′)) w k h basis′ turn)
     (so-far : EightBack (seen r ws₀ s list rows .wiring) table → ws ≡ earlierWords (seen r ws₀ s list rows .wiring) (eights t) ws₀) (inside : t < s)
     (room : runs < length l) (fits : length ws ≤ length cs) (long : length cs′ ≡ 256) (width : w ≡ min (r .m) 64) where
   abbrev g : Given
   g = seen r ws₀ s list rows
+
+  abbrev here : List ℕ
+  here = take (256 - p) (drop p cs′)
 
   both : EightBack (g .wiring) table → (drop p cs′ ≡ markedEarlier (g .wiring) t (g .marks t)) × (ws′ ≡ earlierWords (g .wiring) (eights (t + 1)) ws₀)
   both right = next .frame (r .inversion) ws₀ right fits (so-far right)
@@ -121,11 +139,17 @@ module _ (r : Register) (table list : List ℕ) (rows : Rows) (s k t runs w p : 
   columns : EightBack (g .wiring) table → take (256 - p) (drop p cs′) ≡ framed g t
   columns right = take-all (256 - p) (drop p cs′) (omega (arith, length-drop p cs′)) ∙ both right .0 ∙ sym (framed-words g t)
 
-  pub slice-passed : SlicePassed g table k t runs ws′ h h′ l turn
+  pub slice-passed : SlicePassed g table k t runs ws′ basis dead basis′ l turn
   slice-passed = record {
     words = λ right. both right .1;
-    short = λ sound right some few.
-        sliced-short g k l (cut-short g sound k some t runs w h l h′ (take (256 - p) (drop p cs′)) turn inside room (columns right) width put few);
-    next = λ sound right some.
-        cut-turns g sound k some t runs w h l h′ (take (256 - p) (drop p cs′)) turn inside room (columns right) width put;
+    short = λ sound right some before few.
+        (let done = put (before .words) (before .hold) in
+        sliced-short g k l (cut-short g sound k some t runs w (before .words) l (done .words) here turn inside room (columns right) width (done .turn) few));
+    next = λ sound right some before enough.
+        (let done = put (before .words) (before .hold) in
+        record {
+          words = done .words;
+          hold = done .hold;
+          cut = cut-turns g sound k some t runs w (before .words) l (done .words) here turn inside room (columns right) width (done .turn) (before .cut) enough;
+        });
   }

@@ -58,8 +58,7 @@ fn pass_slices(
 {
     let width = register::width_limit(register.m) as usize;
     let mut columns = set_layout::no_words();
-    let mut slots = turned_words::single_bits(0);
-    let mut rows = turned_words::single_bits(0);
+    let mut basis = column_basis::unit_words();
     let mut dead = turned_words::dead_behind(0);
     let mut runs: usize = 0;
     let mut t: u16 = 0;
@@ -73,7 +72,7 @@ fn pass_slices(
             words,
             &mut columns,
         );
-        let turn = run_words::put_slice(&mut slots, &mut rows, dead, &columns[place..], width, k);
+        let turn = run_words::put_slice(&mut basis, dead, &columns[place..], width, k);
         dead = turn.dead;
         let left = turn.left;
         if left < k {

@@ -1,1 +1,2 @@
+pub mod SingleLaws
 pub mod TurnLaws

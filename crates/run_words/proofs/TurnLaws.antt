@@ -1,69 +1,63 @@
--- One slice's columns put to the words that stand turned in 64 slots: they leave enough, or the slice opens a run. Assumes nothing.
+-- One slice's columns put to the words that a run leaves: they leave enough, or the slice opens a run. Assumes nothing.
 use mathlib.Core.Path.{_≡_, refl, sym, ap, _∙_, subst}
 use mathlib.Core.List.{List, []}
-use Prim.Native.Nat.{ℕ, _≤_, _<_, min}
+use Prim.Native.Nat.{ℕ, _≤_, _<_}
 use native.Mathlib.Omega.{arith}
 use lib.ListN.{length, take}
 use lib.Seq.{take-all}
 use Rattle.word.specs.Reply.{front}
-use Rattle.word.specs.Zeros.{filled}
 use Rattle.word.proofs.FrontLaws.{front-all}
 use Rattle.combinations.specs.Step.{steps, units}
-use Rattle.turned_words.specs.Turned.{kept, HeldTurned, deadBehind}
-use Rattle.turned_words.proofs.SingleLaws.{singles-long, singles-held}
-use Rattle.run_words.specs.Joining.{Stands, Turned, joined, opened}
+use Rattle.combinations.proofs.Units.{length-units}
+use Rattle.turned_words.specs.Turned.{kept, deadBehind}
+use Rattle.column_basis.specs.Basis.{Basis, Held}
+use Rattle.run_words.specs.Joining.{Put, joined, opened}
+use Rattle.run_words.proofs.SingleLaws.{units-basis, units-held}
 
--- slots and rows that hold some list hold that of the slots that aren't dead
-stands-held : (ws l rows : List ℕ) (dead : ℕ) → HeldTurned ws l rows dead → Stands ws rows dead
-stands-held ws l rows dead t = subst (λ (x : List ℕ). HeldTurned ws x rows dead) (sym (t .held)) t
+-- the words of single bits, and the basis beside them
+pub singles-basis : (basis : List ℕ) (dead : ℕ) → basis ≡ units 64 → Basis basis dead
+singles-basis basis dead e = subst (λ (x : List ℕ). Basis x dead) (sym e) (units-basis dead)
 
--- no run yet: every slot is dead
-pub stands-none : (ws rows : List ℕ) (dead : ℕ) → ws ≡ filled (units (min 0 64)) 64 → rows ≡ filled (units (min 0 64)) 64 → dead ≡ deadBehind 0
-    → Stands ws rows dead × (kept dead ws ≡ [])
+pub singles-held : (basis : List ℕ) (dead m : ℕ) → m ≤ 64 → basis ≡ units 64 → dead ≡ deadBehind m → Held (units m) basis dead
+singles-held basis dead m lm eb ed = rw eb (rw ed (units-held m lm))
+
+-- no run yet: every bit is dead
+pub none-held : (basis : List ℕ) (dead : ℕ) → basis ≡ units 64 → dead ≡ deadBehind 0 → Held [] basis dead
 unfolding units
-stands-none ws rows dead ew er ed =
-    let start : HeldTurned ws [] rows dead = rw ew (rw er (rw ed (singles-held 0 (omega arith)))) in
-    (stands-held ws [] rows dead start, start .held)
+none-held basis dead eb ed = singles-held basis dead 0 (omega arith) eb ed
 
-pub singles-length : (ws : List ℕ) → ws ≡ filled (units (min 0 64)) 64 → length ws ≡ 64
-singles-length ws e = ap length e ∙ singles-long 0 (omega arith)
+-- the single bits over a list of 64 places
+pub singles-over : (us l : List ℕ) → us ≡ units 64 → length l ≡ 64 → front (take (length l) us) l ≡ units 64
+singles-over us l e long =
+    let wide : length us ≡ 64 = ap length e ∙ length-units 64 in
+    ap (λ (x : List ℕ). front x l) (take-all (length l) us (omega arith)) ∙ front-all us l (wide ∙ sym long) ∙ e
 
--- what the slots and rows hold is known after the columns, whatever it was before
-abbrev Taken : List ℕ → List ℕ → List ℕ → ℕ → List ℕ → List ℕ → ℕ → Type 0
-Taken cs ws rows dead ws′ rows′ dead′ = (l : List ℕ) → HeldTurned ws l rows dead → HeldTurned ws′ (steps cs l) rows′ dead′
-
-pub put-stands : (cs ws rows : List ℕ) (dead : ℕ) (ws′ rows′ : List ℕ) (dead′ : ℕ) → Taken cs ws rows dead ws′ rows′ dead′ → Stands ws rows dead
-    → Stands ws′ rows′ dead′
-put-stands cs ws rows dead ws′ rows′ dead′ f t = stands-held ws′ (steps cs (kept dead ws)) rows′ dead′ (f (kept dead ws) t)
+-- what is held after the columns, whatever it was before
+abbrev Taken : List ℕ → List ℕ → ℕ → List ℕ → ℕ → Type 0
+Taken cs basis dead basis′ dead′ = (l : List ℕ) → Held l basis dead → Held (steps cs l) basis′ dead′
 
 -- the number of words held
 abbrev Counts : ℕ → ℕ → Type 0
 Counts left dead = (l : List ℕ) → length l ≡ 64 → left ≡ length (kept dead l)
 
-pub put-joined : (cs ws rows : List ℕ) (dead : ℕ) (ws′ rows′ : List ℕ) (dead′ m k left : ℕ) → Taken cs ws rows dead ws′ rows′ dead′ → Stands ws rows dead
-    → length ws′ ≡ 64 → Counts left dead′ → k ≤ left → Turned cs m k (kept dead ws) (kept dead′ ws′) (record { dead = dead′; left = left; opened = 0 })
-put-joined cs ws rows dead ws′ rows′ dead′ m k left f t long count enough =
-    let words : kept dead′ ws′ ≡ steps cs (kept dead ws) = f (kept dead ws) t .held in
-    joined (omega (arith, count ws′ long, ap length words)) refl (count ws′ long) words
+count-held : (l basis : List ℕ) (dead left : ℕ) → Held l basis dead → Counts left dead → left ≡ length l
+count-held l basis dead left h count = count (h .slots) (h .hold .wide) ∙ ap length (h .hold .held)
 
--- the words of single bits over a list of 64 places
-pub singles-over : (us h : List ℕ) (m : ℕ) → us ≡ filled (units (min m 64)) 64 → length h ≡ 64 → m ≤ 64 → front (take (length h) us) h ≡ filled (units m) 64
-singles-over us h m e l lm =
-    let same : min m 64 ≡ m = omega arith in
-    let bits : us ≡ filled (units m) 64 = e ∙ ap (λ (n : ℕ). filled (units n) 64) same in
-    let long : length us ≡ 64 = ap length bits ∙ singles-long m lm in
-    ap (λ (x : List ℕ). front x h) (take-all (length h) us (omega arith)) ∙ front-all us h (long ∙ sym l) ∙ bits
+pub put-joined : (cs basis : List ℕ) (dead : ℕ) (basis′ : List ℕ) (dead′ m k left : ℕ) (h : List ℕ) → Taken cs basis dead basis′ dead′ → Held h basis dead
+    → Counts left dead′ → k ≤ left → Put cs m k h basis′ (record { dead = dead′; left = left; opened = 0 })
+put-joined cs basis dead basis′ dead′ m k left h f held count enough =
+    let after : Held (steps cs h) basis′ dead′ = f h held in
+    let many : left ≡ length (steps cs h) = count-held (steps cs h) basis′ dead′ left after count in
+    record { words = steps cs h; hold = after; turn = joined (omega (arith, many)) refl many refl }
 
--- .. and their rows
-pub singles-stand : (ws rows : List ℕ) (dead m : ℕ) → m ≤ 64 → ws ≡ filled (units m) 64 → rows ≡ filled (units m) 64 → dead ≡ deadBehind m
-    → HeldTurned ws (units m) rows dead
-singles-stand ws rows dead m lm ew er ed = rw ew (rw er (rw ed (singles-held m lm)))
-
--- where ws were the slots before, which the columns brought to wsᵗ
-pub put-opened : (cs ws rows : List ℕ) (dead : ℕ) (wsᵗ rowsᵗ : List ℕ) (deadᵗ : ℕ) (ws′ rows′ : List ℕ) (dead′ m k tried left : ℕ)
-    → Taken cs ws rows dead wsᵗ rowsᵗ deadᵗ → Stands ws rows dead → length wsᵗ ≡ 64 → Counts tried deadᵗ → tried < k
-    → HeldTurned ws′ (steps cs (units m)) rows′ dead′ → length ws′ ≡ 64 → Counts left dead′
-    → Stands ws′ rows′ dead′ × Turned cs m k (kept dead ws) (kept dead′ ws′) (record { dead = dead′; left = left; opened = 1 })
-put-opened cs ws rows dead wsᵗ rowsᵗ deadᵗ ws′ rows′ dead′ m k tried left f t longᵗ countᵗ fewer after long count =
-    let before : kept deadᵗ wsᵗ ≡ steps cs (kept dead ws) = f (kept dead ws) t .held in
-    (stands-held ws′ (steps cs (units m)) rows′ dead′ after, opened (omega (arith, countᵗ wsᵗ longᵗ, ap length before)) refl (count ws′ long) (after .held))
+-- where the columns brought the basis to basisᵗ first
+pub put-opened : (cs basis : List ℕ) (dead : ℕ) (basisᵗ : List ℕ) (deadᵗ : ℕ) (basis′ : List ℕ) (dead′ m k tried left : ℕ) (h : List ℕ)
+    → Taken cs basis dead basisᵗ deadᵗ → Held h basis dead → Counts tried deadᵗ → tried < k
+    → Held (steps cs (units m)) basis′ dead′ → Counts left dead′ → Put cs m k h basis′ (record { dead = dead′; left = left; opened = 1 })
+put-opened cs basis dead basisᵗ deadᵗ basis′ dead′ m k tried left h f held countᵗ fewer after count =
+    let less : tried ≡ length (steps cs h) = count-held (steps cs h) basisᵗ deadᵗ tried (f h held) countᵗ in
+    record {
+      words = steps cs (units m);
+      hold = after;
+      turn = opened (omega (arith, less)) refl (count-held (steps cs (units m)) basis′ dead′ left after count) refl;
+    }

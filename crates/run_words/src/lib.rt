@@ -1,45 +1,41 @@
-// The words that a run leaves, slice by slice. They stay turned from one slice to the next: turning them in takes as long as several columns.
-// It sees turned words, and the elimination for a list written over another.
+// The words that a run leaves, slice by slice. From one slice to the next they stand as a basis of the run's columns: how many words are left
+// is all that is asked of them, and that the dead bits say. It sees a basis of columns, and the elimination for a list written over another.
 ghost use mathlib.Core.Path.{_≡_};
-ghost use Prim.Native.Nat.{_≤_};
+ghost use mathlib.Core.List.{List};
+ghost use Prim.Native.Nat.{ℕ, _≤_};
 ghost use lib.ListN.{length};
 ghost use Rattle.combinations.specs.Step.{steps, units};
-ghost use Rattle.turned_words.specs.Turned.{kept, HeldTurned};
-ghost use Rattle.run_words.specs.Joining.{Stands, Turned};
+ghost use Rattle.column_basis.specs.Basis.{Basis, Held};
+ghost use Rattle.run_words.specs.Joining.{Put};
 
-// What one slice comes to: the slots that are dead then, so many words are left of the run, and 1 run more was opened or 0.
+// What one slice comes to: the bits that are dead then, so many words are left of the run, and 1 run more was opened or 0.
 pub struct Turn {
     pub dead: u64,
     pub left: usize,
     pub opened: usize,
 }
 
-// The columns of a slice that opens a run, put to the words of single bits. These are put into the slots first, and are their own rows.
-// Answers with the slots that are dead then.
-fn open_run(slots: &mut [u64], rows: &mut [u64], columns: &[u64], width: usize) -> u64
-    ensures { λ r. ⌜ (width ≤ 64 → length (now (slots .entry)) ≡ 64 → length (now (rows .entry)) ≡ 64 → HeldTurned (now (slots .exit)) (steps (now (columns .entry)) (units width)) (now (rows .exit)) r) ⌝ }
+// The columns of a slice that opens a run, put to the words of single bits. Beside these the basis is the 64 single bits, with those from the
+// width on dead. Answers with the bits that are dead then.
+fn open_run(basis: &mut [u64], columns: &[u64], width: usize) -> u64
+    requires { ⌜ length (now basis) ≡ 64 ⌝ }
+    ensures order { λ r. ⌜ Basis (now (basis .exit)) r ⌝ }
+    ensures list { λ r. ⌜ (width ≤ 64 → Held (steps (now (columns .entry)) (units width)) (now (basis .exit)) r) ⌝ }
 {
-    let bits = turned_words::single_bits(width);
-    elimination::write_front(slots, &bits);
-    elimination::write_front(rows, &bits);
-    turned_words::take_columns(slots, rows, turned_words::dead_behind(width), columns)
+    let bits = column_basis::unit_words();
+    elimination::write_front(basis, &bits);
+    column_basis::take_columns(basis, turned_words::dead_behind(width), columns)
 }
 
-// The columns of one slice put to the words that the run so far leaves, which stand in the slots that aren't dead; where that leaves fewer
-// than k, to the words of single bits, for the slice then opens a run. Of slots and rows that don't hold their words
-// so nothing is promised.
-pub fn put_slice(
-    slots: &mut [u64],
-    rows: &mut [u64],
-    dead: u64,
-    columns: &[u64],
-    width: usize,
-    k: usize,
-) -> Turn
+// The columns of one slice put to the words that the run so far leaves, beside which the basis stands; where that leaves fewer
+// than k, to the words of single bits, for the slice then opens a run.
+pub fn put_slice(basis: &mut [u64], dead: u64, columns: &[u64], width: usize, k: usize) -> Turn
+    requires { ⌜ Basis (now basis) dead ⌝ }
     ensures one { λ r. ⌜ r .opened ≤ 1 ⌝ }
-    ensures turn { λ r. ⌜ (width ≤ 64 → length (now (slots .entry)) ≡ 64 → Stands (now (slots .entry)) (now (rows .entry)) dead → Stands (now (slots .exit)) (now (rows .exit)) (r .dead) × Turned (now (columns .entry)) width k (kept dead (now (slots .entry))) (kept (r .dead) (now (slots .exit))) r) ⌝ }
+    ensures order { λ r. ⌜ Basis (now (basis .exit)) (r .dead) ⌝ }
+    ensures turn { λ r. ⌜ (width ≤ 64 → (h : List ℕ) → Held h (now (basis .entry)) dead → Put (now (columns .entry)) width k h (now (basis .exit)) r) ⌝ }
 {
-    let joined = turned_words::take_columns(slots, rows, dead, columns);
+    let joined = column_basis::take_columns(basis, dead, columns);
     let left = turned_words::held_count(joined);
     if k <= left {
         return Turn {
@@ -48,7 +44,7 @@ pub fn put_slice(
             opened: 0,
         };
     }
-    let alone = open_run(slots, rows, columns, width);
+    let alone = open_run(basis, columns, width);
     Turn {
         dead: alone,
         left: turned_words::held_count(alone),

@@ -141,7 +141,7 @@ turned-turn ws basis basis′ dead i w t li ew x =
 
 -- ---- the basis
 
-parities-none : (ws : List ℕ) (y : ℕ) → ((i : ℕ) → i < length ws → parity (getD ws i 0) y ≡ 0) → parities ws y ≡ 0
+pub parities-none : (ws : List ℕ) (y : ℕ) → ((i : ℕ) → i < length ws → parity (getD ws i 0) y ≡ 0) → parities ws y ≡ 0
 unfolding parities
 parities-none [] y h = refl
 parities-none (w ∷ ws) y h = ap₂ (λ (a b : ℕ). a + 2 * b) (h 0 (omega arith)) (parities-none ws y (λ i l. h (suc i) (omega arith)))

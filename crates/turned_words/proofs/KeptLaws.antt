@@ -38,13 +38,7 @@ pub kept-none : (dead : ℕ) → kept dead [] ≡ []
 unfolding kept
 kept-none dead = refl
 
--- no slot is dead
-pub kept-all : (ws : List ℕ) → kept 0 ws ≡ ws
-unfolding kept
-kept-all [] = refl
-kept-all (w ∷ ws) = ap (λ (l : List ℕ). w ∷ l) (kept-all ws)
-
--- every slot is
+-- every slot is dead
 pub kept-full : (n : ℕ) (ws : List ℕ) → length ws ≤ n → kept (2 ^ n - 1) ws ≡ []
 kept-full n [] h = kept-none (2 ^ n - 1)
 kept-full zero (w ∷ ws) h = absurd (not-suc-le-zero h)
@@ -57,9 +51,6 @@ kept-full (suc n) (w ∷ ws) h =
 
 abbrev pub Gone : ℕ → List ℕ → Type 0
 Gone dead ws = (k : ℕ) → digit k dead ≡ 1 → getD ws k 0 ≡ 0
-
-pub gone-later : (dead w : ℕ) (ws : List ℕ) → Gone dead (w ∷ ws) → Gone (dead / 2) ws
-gone-later dead w ws g k h = g (suc k) (digit-suc k dead ∙ h)
 
 cleared-cons : (c p w : ℕ) (ws : List ℕ) → cleared c p (w ∷ ws) ≡ byParity (parity w c) w (bitXor w p) ∷ cleared c p ws
 unfolding cleared

@@ -1,4 +1,4 @@
 pub mod KeptLaws
 pub mod TurnedLaws
 pub mod LoopLaws
-pub mod SingleLaws
+pub mod CountLaws

@@ -1,23 +1,19 @@
--- The start, turn and end of the loops over marks and over columns. Assumes nothing.
+-- The start, turn and end of the loop over marks. Assumes nothing.
 use mathlib.Core.Path.{_≡_, refl, sym, ap, ap₂, _∙_, subst}
 use mathlib.Core.Logic.{dite}
-use mathlib.Core.List.{List, []}
-use Prim.Native.Nat.{ℕ, _+_, _-_, _*_, _%_, _^_, _≤_, _<_, min}
+use mathlib.Core.List.{List}
+use Prim.Native.Nat.{ℕ, _-_, _*_, _%_, _^_, _<_, min}
 use native.Mathlib.Nat.{zero-mul, one-mul, mod-lt}
-use native.Mathlib.Numerals.{add-one}
 use native.Mathlib.Decide.{decLt, ℕ-discrete}
 use native.Mathlib.Omega.{arith}
 use lib.Bits.{bitXor, bitAnd, and-mask, xor-zero-r}
-use lib.ListN.{length, getD, drop, set, length-set, drop-of-length-le}
+use lib.ListN.{length, getD, set, length-set}
 use lib.Pow.{pow-pos}
-use lib.Seq.{drop-cons, getD-set-same, getD-set-other}
+use lib.Seq.{getD-set-same, getD-set-other}
 use Rattle.word.specs.Word.{digit, lowMask}
 use Rattle.word.proofs.LowestLaws.{Lowest, digit-mod, digit-past, below-lowest, above-lowest, lowest-gone, lowest-less}
 use Rattle.word.proofs.MarkedLaws.{masked-below, mark-inside}
-use Rattle.combinations.specs.Step.{step, steps}
-use Rattle.combinations.proofs.StepLaws.{steps-none}
-use Rattle.turned_words.specs.Turned.{HeldTurned, XoredInto}
-use Rattle.turned_words.proofs.TurnedLaws.{turned-empty}
+use Rattle.turned_words.specs.Turned.{XoredInto}
 
 -- ---- the loop over the marks: with x in the words of the bits in `left` too, it is in those of all marks
 
@@ -89,36 +85,3 @@ into-end l l′ marks x left t z =
           ∙ ap (bitXor (getD l′ i 0)) (zero-mul x) ∙ xor-zero-r (getD l′ i 0))
           ∙ t .each i li;
     }
-
--- ---- the loop over the columns: those from place i on are still to be put to the words held
-
-pub record Taking (cs l ws rows : List ℕ) (dead i : ℕ) : Type 0 where
-  pub now-held : List ℕ
-  pub turned : HeldTurned ws now-held rows dead
-  pub done : steps (drop i cs) now-held ≡ steps cs l
-
-pub taking-start : (cs l ws rows : List ℕ) (dead : ℕ) → HeldTurned ws l rows dead → Taking cs l ws rows dead 0
-taking-start cs l ws rows dead t = record { now-held = l; turned = t; done = refl }
-
-pub taking-turn : (cs l ws rows ws′ rows′ : List ℕ) (dead dead′ i : ℕ) → Taking cs l ws rows dead i → i < length cs
-    → ((x : List ℕ) → HeldTurned ws x rows dead → HeldTurned ws′ (step (getD cs i 0) x) rows′ dead′) → Taking cs l ws′ rows′ dead′ (i + 1)
-unfolding steps
-taking-turn cs l ws rows ws′ rows′ dead dead′ i t h f =
-    record {
-      now-held = step (getD cs i 0) (t .now-held);
-      turned = f (t .now-held) (t .turned);
-      done =
-          ap (λ (n : ℕ). steps (drop n cs) (step (getD cs i 0) (t .now-held))) (add-one i)
-          ∙ sym (ap (λ (x : List ℕ). steps x (t .now-held)) (drop-cons cs i 0 h)) ∙ t .done;
-    }
-
-pub taking-empty : (cs l ws rows : List ℕ) (dead i mask n : ℕ) → Taking cs l ws rows dead i → mask ≡ lowMask n → length ws ≡ n → dead ≡ mask
-    → HeldTurned ws (steps cs l) rows dead
-taking-empty cs l ws rows dead i mask n t em en e =
-    let none : t .now-held ≡ [] = turned-empty ws (t .now-held) rows dead (t .turned) mask (em ∙ ap lowMask (sym en)) e in
-    subst (λ (x : List ℕ). HeldTurned ws x rows dead) (none ∙ sym (sym (t .done) ∙ ap (steps (drop i cs)) none ∙ steps-none (drop i cs))) (t .turned)
-
-pub taking-end : (cs l ws rows : List ℕ) (dead i : ℕ) → Taking cs l ws rows dead i → length cs ≤ i → HeldTurned ws (steps cs l) rows dead
-unfolding steps
-taking-end cs l ws rows dead i t h =
-    subst (λ (x : List ℕ). HeldTurned ws x rows dead) (ap (λ (x : List ℕ). steps x (t .now-held)) (sym (drop-of-length-le cs h)) ∙ t .done) (t .turned)

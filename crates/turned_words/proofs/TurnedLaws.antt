@@ -1,9 +1,8 @@
--- Words held as their rows: a column's parities with all words at once, the step with a pivot, and the words read off again. Assumes
--- nothing.
+-- Words and their rows: the parities of a column with all words at once, the slots after a step with a pivot, and the rows made. Assumes nothing.
 use mathlib.Core.Path.{_≡_, refl, sym, ap, ap₂, _∙_, subst}
 use mathlib.Core.Logic.{⊎-elim, dite}
 use mathlib.Core.List.{List, [], _∷_, _++_}
-use Prim.Native.Nat.{ℕ, zero, suc, _+_, _-_, _*_, _/_, _%_, _^_, _≤_, _<_, min}
+use Prim.Native.Nat.{ℕ, zero, suc, _+_, _*_, _/_, _%_, _^_, _≤_, _<_, min}
 use native.Mathlib.Nat.{zero-mul, one-mul, mod-lt, mod-one, mod-eq-of-lt}
 use native.Mathlib.Numerals.{one-add, add-one}
 use native.Mathlib.Decide.{decLt, ℕ-discrete}
@@ -11,22 +10,20 @@ use native.Mathlib.Omega.{arith}
 use lib.Bits.{bitXor, xor-comm, xor-zero-r, xor-self, xor-shifted, xor-lt}
 use lib.ListN.{length, getD, take, getD-replicate}
 use lib.Pow.{pow-pos, pow-lt, mod-pow-add}
-use lib.Seq.{take-all, take-suc, length-take-le, ext-getD}
-use Rattle.word.specs.Word.{digit, parity, lowMask}
+use lib.Seq.{take-all, take-suc, length-take-le}
+use Rattle.word.specs.Word.{digit, parity}
 use Rattle.word.specs.Parities.{parities}
 use Rattle.word.specs.Span.{xorBelow}
 use Rattle.word.specs.Zeros.{zeros}
 use Rattle.word.specs.Marked.{xorMarked}
-use Rattle.word.proofs.Laws.{bit-cases, mod2-lt, parity-lt, parity-cases, parity-comm, parity-zero, parity-xor, parity-xor-right, parity-pow, digit-xor, parities-lt, parities-digit, parities-zero, parities-xor}
+use Rattle.word.proofs.Laws.{bit-cases, mod2-lt, parity-lt, parity-cases, parity-comm, parity-zero, parity-xor, parity-xor-right, parity-pow, digit-xor, parities-lt, parities-zero, parities-xor}
 use Rattle.word.proofs.XorLaws.{xor-below-ext}
-use Rattle.word.proofs.LowestLaws.{Lowest, digit-past, below-lowest}
+use Rattle.word.proofs.LowestLaws.{digit-past}
 use Rattle.word.proofs.FrontLaws.{length-zeros}
-use Rattle.word.proofs.MarkedLaws.{mark-inside}
-use Rattle.combinations.specs.Step.{byParity, cleared, step}
-use Rattle.combinations.proofs.StepLaws.{length-cleared}
+use Rattle.combinations.specs.Step.{byParity, cleared}
 use Rattle.combinations.proofs.Units.{power-digit, one-bit}
-use Rattle.turned_words.specs.Turned.{kept, turnedRow, Turns, HeldTurned, XoredInto}
-use Rattle.turned_words.proofs.KeptLaws.{Gone, kept-all, kept-full, kept-same, step-kept}
+use Rattle.turned_words.specs.Turned.{Turns, XoredInto}
+use Rattle.turned_words.proofs.KeptLaws.{Gone}
 
 -- ---- a word by its bits
 
@@ -168,98 +165,19 @@ gone-after c ws k dead odd g j h = dite (ℕ-discrete j k) here other
         let none : getD ws j 0 ≡ 0 = g j dead-before in
         slot-even c (getD ws k 0) ws j (ap (λ (x : ℕ). parity x c) none ∙ parity-zero c) ∙ none
 
--- ---- one column
-
-module _ (ws l rows : List ℕ) (dead : ℕ) (t : HeldTurned ws l rows dead) where
-  odd-words : (c v : ℕ) → c < 2 ^ 64 → v ≡ xorMarked rows c → v ≡ parities ws c
-  odd-words c v h e = e ∙ rows-marked ws rows c (t .turns) h
-
-  -- no word is odd with it
-  pub turned-even : (c v : ℕ) → c < 2 ^ 64 → v ≡ xorMarked rows c → v ≡ 0 → HeldTurned ws (step c l) rows dead
-  turned-even c v h e z =
-      record {
-        few = t .few;
-        small = t .small;
-        turns = t .turns;
-        gone = t .gone;
-        held = sym (kept-same c ws dead (sym (odd-words c v h e) ∙ z)) ∙ ap (step c) (t .held);
-      }
-
-  -- slot k is the first that is, with the word p
-  pub turned-odd : (c v k p : ℕ) (ws′ rows′ : List ℕ) → c < 2 ^ 64 → v ≡ xorMarked rows c → Lowest v k → p ≡ getD ws k 0
-      → XoredInto ws ws′ v p → XoredInto rows rows′ p v → HeldTurned ws′ (step c l) rows′ (bitXor dead ((1 * 2 ^ k) % 18446744073709551616))
-  turned-odd c v k p ws′ rows′ h e low ep xw xr =
-      subst (λ (bit : ℕ). HeldTurned ws′ (step c l) rows′ (bitXor dead bit)) (sym (one-bit k (low .place)))
-      record {
-        few = omega (arith, xw .long, t .few);
-        small = λ j. subst (λ (x : List ℕ). getD x j 0 < 2 ^ 64) (sym same) (small-after c q ws (t .small k) (t .small) j);
-        turns = record { long = xr .long ∙ t .turns .long; each = row };
-        gone = λ j d. ap (λ (x : List ℕ). getD x j 0) same ∙ gone-after c ws k dead odd (t .gone) j d;
-        held = ap (kept (bitXor dead (2 ^ k))) same ∙ sym (step-kept c ws k dead inside odd before (t .gone)) ∙ ap (step c) (t .held);
-      }
-    where
-      q : ℕ
-      q = getD ws k 0
-
-      ev : v ≡ parities ws c
-      ev = odd-words c v h e
-
-      inside : k < length ws
-      inside = mark-inside ws v k (subst (λ (z : ℕ). z < 2 ^ length ws) (sym ev) (parities-lt ws c)) low
-
-      at : (j : ℕ) → j < length ws → digit j v ≡ parity (getD ws j 0) c
-      at j lj = ap (digit j) ev ∙ parities-digit ws c j lj
-
-      odd : parity (getD ws k 0) c ≡ 1
-      odd = sym (at k inside) ∙ low .one
-
-      before : (j : ℕ) → j < k → parity (getD ws j 0) c ≡ 0
-      before j lj = sym (at j (omega (arith, inside))) ∙ below-lowest v k low j lj
-
-      same : ws′ ≡ cleared c q ws
-      same =
-          ext-getD 0 ws′ (cleared c q ws) (xw .long ∙ sym (length-cleared c q ws))
-          (λ j lj.
-          let lw : j < length ws = omega (arith, xw .long) in
-          xw .each j lw ∙ ap₂ (λ (d y : ℕ). bitXor (getD ws j 0) (d * y)) (at j lw) ep ∙ slot-chosen c q ws j)
-
-      row : (b : ℕ) → b < 64 → getD rows′ b 0 ≡ turnedRow ws′ b
-      row b lb =
-          xr .each b (omega (arith, t .turns .long))
-          ∙ ap (λ (r : ℕ). bitXor r (digit b p * v)) (t .turns .each b lb)
-          ∙ ap₂ (λ (d z : ℕ). bitXor (parities ws (2 ^ b)) (d * z)) (ap (digit b) ep ∙ sym (parity-comm q (2 ^ b) ∙ parity-pow b q)) ev
-          ∙ slots-after c q (2 ^ b) ws ∙ ap (λ (x : List ℕ). turnedRow x b) (sym same)
-
-  -- every slot is dead
-  pub turned-empty : (mask : ℕ) → mask ≡ lowMask (length ws) → dead ≡ mask → l ≡ []
-  unfolding lowMask
-  turned-empty mask e d =
-      let same : min (length ws) 64 ≡ length ws = omega (arith, t .few) in
-      sym (t .held) ∙ ap (λ (x : ℕ). kept x ws) (d ∙ e ∙ ap (λ (i : ℕ). 2 ^ i - 1) same) ∙ kept-full (length ws) ws (omega arith)
-
 -- ---- the words turned in
-
-pub turned-start : (ws rows : List ℕ) → length ws ≤ 64 → ((i : ℕ) → getD ws i 0 < 2 ^ 64) → Turns (take 64 ws) rows → HeldTurned ws ws rows 0
-turned-start ws rows few small t =
-    record {
-      few = few;
-      small = small;
-      turns = subst (λ (x : List ℕ). Turns x rows) (take-all 64 ws few) t;
-      gone = λ k h. (let z : ⊥ = omega (arith, h, digit-past 0 0 k (omega arith) (omega arith)) in absurd z);
-      held = kept-all ws;
-    }
 
 -- the rows of the first i words
 pub record Turning (ws rows : List ℕ) (i : ℕ) : Type 0 where
   pub inside : i ≤ min (length ws) 64
   pub turns : Turns (take i ws) rows
 
-pub last-even : (l : List ℕ) (w y : ℕ) → parity w y ≡ 0 → parities (l ++ w ∷ []) y ≡ parities l y
+last-even : (l : List ℕ) (w y : ℕ) → parity w y ≡ 0 → parities (l ++ w ∷ []) y ≡ parities l y
 unfolding parities
 last-even [] w y h = omega arith
 last-even (v ∷ l) w y h = ap (λ (x : ℕ). parity v y + 2 * x) (last-even l w y h)
 
-pub last-odd : (l : List ℕ) (w y : ℕ) → parity w y ≡ 1 → parities (l ++ w ∷ []) y ≡ parities l y + 2 ^ length l
+last-odd : (l : List ℕ) (w y : ℕ) → parity w y ≡ 1 → parities (l ++ w ∷ []) y ≡ parities l y + 2 ^ length l
 unfolding parities
 last-odd [] w y h = omega arith
 last-odd (v ∷ l) w y h = ap (λ (x : ℕ). parity v y + 2 * x) (last-odd l w y h) ∙ twice (parity v y) (parities l y) (length l)

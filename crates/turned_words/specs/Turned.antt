@@ -4,13 +4,11 @@
 --   kept dead ws            the words of the slots ws that aren't dead, in their order: those whose bit in `dead` is 0, bit k for slot k
 --   turnedRow ws b          row b of the slots ws: bit b of each word as one word, bit k for slot k. These are its parities with bit b
 --   Turns ws rows           the 64 rows are those of the slots ws
---   HeldTurned ws l rows dead
---                           the slots ws and their rows hold the list l: it is the words of the slots that aren't dead
 --   XoredInto l l′ marks x  the list l′ is l with x XORed into each word whose bit in `marks` is 1, bit i for word i
 --   deadBehind m            the slots behind the first m of 64, bit k for slot k
 use mathlib.Core.Path.{_≡_}
 use mathlib.Core.List.{List, [], _∷_}
-use Prim.Native.Nat.{ℕ, _-_, _*_, _/_, _%_, _^_, _≤_, _<_}
+use Prim.Native.Nat.{ℕ, _-_, _*_, _/_, _%_, _^_, _<_}
 use lib.Bits.{bitXor}
 use lib.ListN.{length, getD}
 use Rattle.word.specs.Word.{digit, lowMask}
@@ -27,13 +25,6 @@ turnedRow ws b = parities ws (2 ^ b)
 pub record Turns (ws rows : List ℕ) : Type 0 where
   pub long : length rows ≡ 64
   pub each : (b : ℕ) → b < 64 → getD rows b 0 ≡ turnedRow ws b
-
-pub record HeldTurned (ws l rows : List ℕ) (dead : ℕ) : Type 0 where
-  pub few : length ws ≤ 64
-  pub small : (k : ℕ) → getD ws k 0 < 2 ^ 64
-  pub turns : Turns ws rows
-  pub gone : (k : ℕ) → digit k dead ≡ 1 → getD ws k 0 ≡ 0
-  pub held : kept dead ws ≡ l
 
 pub record XoredInto (l l′ : List ℕ) (marks x : ℕ) : Type 0 where
   pub long : length l′ ≡ length l

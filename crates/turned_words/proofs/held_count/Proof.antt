@@ -1,7 +1,7 @@
 -- `held_count` meets its contract: the words held and the dead slots are all the slots.
 use native.Mathlib.Omega.{arith}
 use lib.Count.{ones-le}
-use Rattle.turned_words.proofs.SingleLaws.{count-held}
+use Rattle.turned_words.proofs.CountLaws.{count-held}
 use Rattle.turned_words.proofs.held_count.Statement.{statement}
 use Rattle.turned_words.proofs.held_count.Tie as tie
 

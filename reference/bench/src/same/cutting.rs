@@ -1,6 +1,7 @@
 //! Cutting: the slices in runs, by one pass over them; and by restarting each run, which makes a run's columns anew for each end tried.
 
-use super::elimination::{reduce, unit_words};
+use super::elimination::{reduce, take_columns, unit_words};
+use super::low_mask;
 use super::response::{fill_swept, list_row, Marks};
 use super::set::{read_set, Read};
 
@@ -28,41 +29,18 @@ fn unclock_eight(table: &[u64; 256], words: &mut [u64]) {
     }
 }
 
-/// XORs x into the words whose bit in `marks` is 1, bit i for word i.
-fn xor_into(words: &mut [u64; 64], mut marks: u64, x: u64) {
-    while marks != 0 {
-        words[marks.trailing_zeros() as usize] ^= x;
-        marks &= marks - 1;
-    }
-}
-
-/// The XOR of the words whose bit in `marks` is 1.
-fn xor_marked(words: &[u64; 64], mut marks: u64) -> u64 {
-    let mut all = 0;
-    while marks != 0 {
-        all ^= words[marks.trailing_zeros() as usize];
-        marks &= marks - 1;
-    }
-    all
-}
-
-/// The words that a run so far leaves, in 64 slots, and turned: row b has bit b of every slot. A word that is dropped leaves its slot dead,
-/// with 0 in it.
+/// The words that a run so far leaves, as a basis of its columns beside them.
 struct Held {
-    slots: [u64; 64],
-    rows: [u64; 64],
+    basis: [u64; 64],
     dead: u64,
 }
 
 impl Held {
-    /// The words of so many single bits, which are their own rows.
+    /// The words of so many single bits: the bits from there on are dead.
     fn single_bits(width: usize) -> Held {
-        let bits = std::array::from_fn(|i| if i < width { 1 << i } else { 0 });
-        let dead = !bits.iter().fold(0, |all, bit| all | bit);
         Held {
-            slots: bits,
-            rows: bits,
-            dead,
+            basis: unit_words(),
+            dead: !low_mask(width),
         }
     }
 
@@ -70,26 +48,8 @@ impl Held {
         64 - self.dead.count_ones() as usize
     }
 
-    fn add_column(&mut self, column: u64) {
-        let odd = xor_marked(&self.rows, column);
-        if odd == 0 {
-            return;
-        }
-        let first = odd.trailing_zeros() as usize;
-        let pivot = self.slots[first];
-        xor_into(&mut self.slots, odd, pivot);
-        xor_into(&mut self.rows, pivot, odd);
-        self.dead ^= 1 << first;
-    }
-
-    /// .. until every slot is dead.
     fn take_columns(&mut self, columns: &[u64]) {
-        for &column in columns {
-            if self.dead == u64::MAX {
-                return;
-            }
-            self.add_column(column);
-        }
+        self.dead = take_columns(&mut self.basis, self.dead, columns);
     }
 }
 

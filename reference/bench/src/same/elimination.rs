@@ -48,7 +48,7 @@ fn reduced(basis: &[u64; 64], dead: u64, column: u64) -> u64 {
 }
 
 /// The columns one after the other, until every bit is dead: the bits that are.
-fn take_columns(basis: &mut [u64; 64], mut dead: u64, columns: &[u64]) -> u64 {
+pub fn take_columns(basis: &mut [u64; 64], mut dead: u64, columns: &[u64]) -> u64 {
     for column in columns {
         if dead == u64::MAX {
             break;
