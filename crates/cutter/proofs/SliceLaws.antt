@@ -25,7 +25,7 @@ use Rattle.slice_columns.specs.Frame.{eights, markedEarlier, NextFrom}
 use Rattle.slice_columns.proofs.FrameLaws.{earlierWords}
 use Rattle.cutter.specs.Cutting.{shortSlice, startsFor}
 use Rattle.column_basis.specs.Basis.{Held}
-use Rattle.run_words.specs.Joining.{Put}
+use Rattle.run_words.specs.Joining.{SlicePut}
 use Rattle.run_words.specs.declared.Turn.{Turn}
 use Rattle.cutter.specs.Turns.{Sound, seen, SlicedFor}
 use Rattle.cutter.specs.declared.Slices.{Slices}
@@ -124,7 +124,7 @@ pub record SlicePassed (g : Given) (table : List ℕ) (k t runs : ℕ) (ws′ ba
 -- .. by what its two calls promise: the columns stand behind place p of a list of 256, and have been put to the words
 module _ (r : Register) (table list : List ℕ) (rows : Rows) (s k t runs w p : ℕ) (ws₀ ws ws′ cs cs′ basis : List ℕ) (dead : ℕ) (basis′ l : List ℕ) (turn : Turn)
     (next : NextFrom r table list rows t ws ws′ cs cs′ p)
-    (put : (h : List ℕ) → Held h basis dead → Put (take (256 - p) (drop p cs′)) w k h basis′ turn)
+    (put : (h : List ℕ) → Held h basis dead → SlicePut (take (256 - p) (drop p cs′)) w k h basis′ turn)
     (so-far : EightBack (seen r ws₀ s list rows .wiring) table → ws ≡ earlierWords (seen r ws₀ s list rows .wiring) (eights t) ws₀) (inside : t < s)
     (room : runs < length l) (fits : length ws ≤ length cs) (long : length cs′ ≡ 256) (width : w ≡ min (r .m) 64) where
   abbrev g : Given

@@ -11,7 +11,7 @@ use Rattle.combinations.specs.Step.{steps, units}
 use Rattle.combinations.proofs.Units.{length-units}
 use Rattle.turned_words.specs.Turned.{kept, deadBehind}
 use Rattle.column_basis.specs.Basis.{Basis, Held}
-use Rattle.run_words.specs.Joining.{Put, joined, opened}
+use Rattle.run_words.specs.Joining.{SlicePut, joined, opened}
 use Rattle.run_words.proofs.SingleLaws.{units-basis, units-held}
 
 -- the words of single bits, and the basis beside them
@@ -44,7 +44,7 @@ count-held : (l basis : List ℕ) (dead left : ℕ) → Held l basis dead → Co
 count-held l basis dead left h count = count (h .slots) (h .hold .wide) ∙ ap length (h .hold .held)
 
 pub put-joined : (cs basis : List ℕ) (dead : ℕ) (basis′ : List ℕ) (dead′ m k left : ℕ) (h : List ℕ) → Taken cs basis dead basis′ dead′ → Held h basis dead
-    → Counts left dead′ → k ≤ left → Put cs m k h basis′ (record { dead = dead′; left = left; opened = 0 })
+    → Counts left dead′ → k ≤ left → SlicePut cs m k h basis′ (record { dead = dead′; left = left; opened = 0 })
 put-joined cs basis dead basis′ dead′ m k left h f held count enough =
     let after : Held (steps cs h) basis′ dead′ = f h held in
     let many : left ≡ length (steps cs h) = count-held (steps cs h) basis′ dead′ left after count in
@@ -53,7 +53,7 @@ put-joined cs basis dead basis′ dead′ m k left h f held count enough =
 -- where the columns brought the basis to basisᵗ first
 pub put-opened : (cs basis : List ℕ) (dead : ℕ) (basisᵗ : List ℕ) (deadᵗ : ℕ) (basis′ : List ℕ) (dead′ m k tried left : ℕ) (h : List ℕ)
     → Taken cs basis dead basisᵗ deadᵗ → Held h basis dead → Counts tried deadᵗ → tried < k
-    → Held (steps cs (units m)) basis′ dead′ → Counts left dead′ → Put cs m k h basis′ (record { dead = dead′; left = left; opened = 1 })
+    → Held (steps cs (units m)) basis′ dead′ → Counts left dead′ → SlicePut cs m k h basis′ (record { dead = dead′; left = left; opened = 1 })
 put-opened cs basis dead basisᵗ deadᵗ basis′ dead′ m k tried left h f held countᵗ fewer after count =
     let less : tried ≡ length (steps cs h) = count-held (steps cs h) basisᵗ deadᵗ tried (f h held) countᵗ in
     record {

@@ -6,7 +6,7 @@ ghost use Prim.Native.Nat.{ℕ, _≤_};
 ghost use lib.ListN.{length};
 ghost use Rattle.combinations.specs.Step.{steps, units};
 ghost use Rattle.column_basis.specs.Basis.{Basis, Held};
-ghost use Rattle.run_words.specs.Joining.{Put};
+ghost use Rattle.run_words.specs.Joining.{SlicePut};
 
 // What one slice comes to: the bits that are dead then, so many words are left of the run, and 1 run more was opened or 0.
 pub struct Turn {
@@ -33,7 +33,7 @@ pub fn put_slice(basis: &mut [u64], dead: u64, columns: &[u64], width: usize, k:
     requires { ⌜ Basis (now basis) dead ⌝ }
     ensures one { λ r. ⌜ r .opened ≤ 1 ⌝ }
     ensures order { λ r. ⌜ Basis (now (basis .exit)) (r .dead) ⌝ }
-    ensures turn { λ r. ⌜ (width ≤ 64 → (h : List ℕ) → Held h (now (basis .entry)) dead → Put (now (columns .entry)) width k h (now (basis .exit)) r) ⌝ }
+    ensures turn { λ r. ⌜ (width ≤ 64 → (h : List ℕ) → Held h (now (basis .entry)) dead → SlicePut (now (columns .entry)) width k h (now (basis .exit)) r) ⌝ }
 {
     let joined = column_basis::take_columns(basis, dead, columns);
     let left = turned_words::held_count(joined);
