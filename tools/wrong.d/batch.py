@@ -526,7 +526,10 @@ class Batch:
         self.call("signing::sign_rows", taken + self.pick([values, marks]), a=data, v=spread)
         self.call("signing::sign_values", taken, a=data, v=spread)
         self.call("marked_rows::count_marks", marks + [s], a=data)
+        self.call("marked_rows::estimate_marks", marks + [s], a=data)
         for t in {s, s // 2, max(0, s - 1)}:
+            self.call("marked_rows::are_whole_32", marks + [t], a=data)
+            self.call("joint_marks::joint_marks", marks + [t], a=data, d=self.junk(40))
             self.call("marked_rows::last_marked", marks + [t], a=data)
         self.settled(one, data, marks)
         self.call("sparse_columns::needs_sweep", taken + [self.pick([0, 1, 13, 14, 123, 1023, 1024, self.pick(NUMBERS)])], v=spread)
@@ -652,6 +655,9 @@ class Batch:
             self.call("signing::sign_rows", taken + rows, a=data, v=spread)
             self.slices_of(taken, spread, data, rows)
             self.call("marked_rows::count_marks", rows + [s], a=data)
+            self.call("marked_rows::estimate_marks", rows + [s], a=data)
+            self.call("marked_rows::are_whole_32", rows + [s], a=data)
+            self.call("joint_marks::joint_marks", rows + [s], a=data, d=self.junk(40))
             self.call("marked_rows::last_marked", rows + [self.pick([0, 1, s, self.pick(NUMBERS)])], a=data)
             self.call("rows::row_of", rows + [self.pick([0, 1, 2, self.pick(NUMBERS)])], a=data, d=self.junk(40))
 
@@ -918,6 +924,7 @@ class Batch:
             self.call("register::advance", register + [self.pick([0, self.bits(m), self.bits(64)])])
             self.call("register::holding", register + [self.bits(64)])
             self.call("register::clock_driven", register + [self.pick([0, self.bits(m), self.bits(64)])])
+            self.call("register::clock_row", register, v=self.junk_words(self.pick([0, 1, 3, 65, 256])), a=self.junk(self.pick([0, 1, 8, 32, 33])))
             self.call("powers::powers", register + [self.pick([0, 1, 65, 575, 576, 577, self.pick(NUMBERS)])], v=self.junk_words(576))
             self.call("powers::advance_words", register, v=self.junk_words(self.pick([0, 1, 3, 20])))
             self.call("powers::next_state", register + [self.pick([self.bits(m), self.bits(64)])])
@@ -1012,6 +1019,12 @@ class Batch:
                 self.call("spread_words::begin", v=held, u=self.pick([many, few, [self.bits(64) for _ in range(24)]]))
             for name in ("column_basis::slot_words", "column_basis::take_columns"):
                 self.call(name, [self.pick([0, ALL, ALL ^ low(m), self.bits(64)])], u=self.pick([few, many]), v=self.junk_words(64))
+            self.call("turned_words::turn", v=self.junk_words(self.pick([0, 1, 3, 63, 64, 65])), u=self.junk_words(64))
+            self.call("turned_words::held_count", [self.pick([0, 1, ALL, ALL ^ low(m), self.bits(64)])])
+            self.call("turned_words::dead_behind", [self.pick([0, 1, m, 63, 64, 65, self.pick(NUMBERS)])])
+            self.call("parity_table::pays", [self.pick([0, 3, 4, 5, 24, 63, 64, 65]), self.pick([0, 63, 64, 128, 383, 384, 385, 1536, self.pick(NUMBERS)])])
+            self.call("run_words::put_slice", [m, self.pick([0, 1, 8, m, m + 1])], u=[c & low(m) for c in self.pick([few, many])],
+                      b=b"".join((self.bits(m)).to_bytes(8, "little") for _ in range(8)), v=self.junk_words(64))
             self.call("turned_words::xor_into", [self.pick([0, ALL, self.bits(64)]), self.bits(64)], v=self.junk_words(self.pick([0, 1, 40, 64, 70])))
             self.call("word::clear_words", v=self.junk_words(self.pick([0, 1, 2, 63, 64, 65, 200])))
             self.call("powers::from_powers", [self.pick([self.bits(64), self.bits(m), self.pick(NUMBERS)])],
@@ -1245,6 +1258,8 @@ class Batch:
             bytes_up = [byte << max(0, width - 8) | self.bits(max(0, width - 8)) for byte in self.random.sample(range(256), 256)]
             for words in ([], bytes_up, self.junk_words(self.pick([1, 3, 17, 600])), [self.word(width) for _ in range(20)]):
                 self.call("eight_clocks::advance_eight", [m], u=self.junk_words(256), v=words)
+                self.call("eight_clocks::look_eight", [m], u=self.junk_words(self.pick([256, 256, 257, 300])), v=words)
+                self.call("eight_clocks::look_few", [m, self.pick(range(20))], u=self.junk_words(self.pick([256, 256, 257, 300])), v=words)
                 for clocks in {0, self.pick(range(8)), self.pick([8, 9, 15, 255, 65535])}:
                     self.call("eight_clocks::advance_few", [m, clocks], u=self.junk_words(256), v=words)
 
@@ -1367,7 +1382,7 @@ class Batch:
                 few = self.junk_words(5)
                 words = [self.pick(few) ^ self.pick(few) for _ in words]
             even = even_with(words[:64])
-            columns = [self.pick(even) ^ self.pick(even) for _ in range(self.pick([0, 1, 5, 20]))] if even else []
+            columns = [self.pick(even) ^ self.pick(even) for _ in range(self.pick([0, 1, 5, 20, 70, 130]))] if even else []
             if columns and self.random.random() < 0.7:
                 columns[self.random.randrange(len(columns))] ^= 1 << self.random.randrange(64)
             start = self.pick([0, 0, 1, len(columns), self.pick(NUMBERS)])
