@@ -474,7 +474,7 @@ class Batch:
 
     def fill(self, taken, spread, data, rows, room, names=None):
         for name in names or FILLERS:
-            self.call(name, taken + rows + [self.bits(1)], v=spread, a=data, u=self.junk_words(room))
+            self.call(name, taken + rows, v=spread, a=data, u=self.junk_words(room))
 
     def reduce(self, taken, spread, data, rows, working=None):
         """The words of marked cells, from the words of single bits on."""
@@ -1017,23 +1017,15 @@ class Batch:
             other[self.random.randrange(len(other))] ^= self.pick([0, 1 << 63, wide[-1], wide[0], self.bits(64)])
             for held in (wide, other, [1 << b for b in range(self.pick([32, 40, 64]))], self.junk_words(self.pick([40, 65]))):
                 self.call("spread_words::begin", v=held, u=self.pick([many, few, [self.bits(64) for _ in range(24)]]))
-            some = [self.bits(m) for _ in range(self.pick([2, 5, 9]))]
-            alike = [self.pick(some) ^ self.pick(some) for _ in range(self.pick([127, 140, 200]))]
-            for name in ("column_basis::slot_words", "column_basis::take_columns", "column_basis::take_first"):
-                self.call(name, [self.pick([0, ALL, ALL ^ low(m), self.bits(64)])], u=self.pick([few, many, alike]), v=self.junk_words(64))
-            self.call("spread_words::begin_units", v=self.junk_words(self.pick([0, 1, m, 64, 65])), u=self.pick([few, many, alike]))
-            self.call("spread_words::with_dead_bits", [self.pick([0, ALL, self.bits(64)])], u=self.junk_words(self.pick([0, 1, 40, 64, 70])), v=self.junk_words(64))
-            self.call("turned_words::transposed", u=self.junk_words(self.pick([0, 1, 40, 64])), v=self.junk_words(64))
+            for name in ("column_basis::slot_words", "column_basis::take_columns"):
+                self.call(name, [self.pick([0, ALL, ALL ^ low(m), self.bits(64)])], u=self.pick([few, many]), v=self.junk_words(64))
             self.call("turned_words::turn", v=self.junk_words(self.pick([0, 1, 3, 63, 64, 65])), u=self.junk_words(64))
             self.call("turned_words::held_count", [self.pick([0, 1, ALL, ALL ^ low(m), self.bits(64)])])
             self.call("turned_words::dead_behind", [self.pick([0, 1, m, 63, 64, 65, self.pick(NUMBERS)])])
             self.call("parity_table::pays", [self.pick([0, 3, 4, 5, 24, 63, 64, 65]), self.pick([0, 63, 64, 128, 383, 384, 385, 1536, self.pick(NUMBERS)])])
-            run = [self.bits(m) for _ in range(8)]
-            inside = [self.pick(run) ^ self.pick(run) for _ in range(self.pick([1, 2, 9]))]
-            for made in (0, 1):
-                slices = self.pick([few, many, inside, [self.bits(m)] + inside, inside + [self.bits(m)]])
-                self.call("run_words::put_slice", [m, self.pick([0, 1, 8, m, m + 1]), made], u=[c & low(m) for c in slices],
-                          b=b"".join(c.to_bytes(8, "little") for c in run), v=self.junk_words(64))
+            self.call("run_words::put_slice", [m, self.pick([0, 1, 8, m, m + 1])], u=[c & low(m) for c in self.pick([few, many])],
+                      b=b"".join((self.bits(m)).to_bytes(8, "little") for _ in range(8)), v=self.junk_words(64))
+            self.call("turned_words::xor_into", [self.pick([0, ALL, self.bits(64)]), self.bits(64)], v=self.junk_words(self.pick([0, 1, 40, 64, 70])))
             self.call("word::clear_words", v=self.junk_words(self.pick([0, 1, 2, 63, 64, 65, 200])))
             self.call("powers::from_powers", [self.pick([self.bits(64), self.bits(m), self.pick(NUMBERS)])],
                       u=self.pick([powers_of(m, self.taps(m))[:m], self.junk_words(self.pick([0, 1, 3, 63, 64, 65, 70]))]))
@@ -1241,7 +1233,7 @@ class Batch:
                 self.call("canceller_cut", [k], a=other.data(), v=self.junk_words(runs))
 
     def unclockings(self, count):
-        """Words some clocks earlier, and up to 8 clocks earlier by a table: every byte is the lowest one of some word."""
+        """Words some clocks earlier, and 8 clocks earlier by a table: every byte is the lowest one of some word."""
         for m in [1, 3, 64, 65, 0] + [self.pick(WIDTHS, WIDTHS, NUMBERS) for _ in range(count)]:
             width = max(1, min(m, 64))
             for taps in (self.taps(width), self.bits(width) | 1, self.pick([0, ALL, self.bits(64)])):
@@ -1255,11 +1247,7 @@ class Batch:
         for _ in range(count):
             words = self.pick([[], [ALL], [0, 255, 256, 1 << 63, 255 << 56], self.lowest_bytes(), self.junk_words(self.pick([1, 3, 17, 600]))])
             self.call("unclocking::unclock_eight", u=self.junk_words(256), v=words)
-            for clocks in {0, self.pick(range(8)), self.pick([8, 9, 15, 255, 65535])}:
-                self.call("unclocking::unclock_few", [clocks], u=self.junk_words(256), v=words)
         self.call("unclocking::unclock_eight", u=self.junk_words(256), v=self.lowest_bytes())
-        for clocks in range(8):
-            self.call("unclocking::unclock_few", [clocks], u=self.junk_words(256), v=self.lowest_bytes())
 
     def eight_clocks(self, count):
         """Words up to 8 clocks later by a table: every byte is the highest one of some word, and words have bits above the width."""
@@ -1282,18 +1270,19 @@ class Batch:
         for _ in range(count):
             one = self.any_set(s=self.pick([1, 2, 5, 8, 9, 17, 25]), kind=self.pick(["one", "few", "half", "dense", "all"]))
             data, n, b, words, table = one.data(), one.n, one.b, one.spread, eight_earlier(one.m, one.taps)
-            marks = [rows_at(n) + b, 2 * b, b]
+            register, marks = [one.m, one.taps, one.inversion, self.pick([0, self.bits(64)])], [rows_at(n) + b, 2 * b, b]
             for t in range(one.s + 1):
                 marked = bin(one.slices[t][1]).count("1") if t < one.s else 0
                 room = self.pick([256, marked, marked, self.near(marked), 0])
-                self.call(name, marks + [t], a=data, b=packed(table), v=words, u=self.junk_words(room))
+                self.call(name, register + marks + [t], a=data, b=packed(table), v=words, u=self.junk_words(room))
                 if t % 8 == 7:
                     words = [w >> 8 ^ table[w % 256] for w in words]
             for _ in range(3):
+                m, taps = self.pick([one.m, 0, 65, self.pick(NUMBERS)]), self.pick([one.taps, 0, ALL, self.bits(64)])
                 rows = self.pick([marks, marks, [rows_at(n), 2 * b, b], [0, 1, 32], [3, 0, b], [self.pick(NUMBERS) for _ in range(3)]])
                 t = self.pick(range(9), [15, 16, 23, 24, 511, 512, 32767, 65535, self.pick(NUMBERS)])
                 words = self.pick([one.spread, self.junk_words(n), self.junk_words(self.pick([0, 1, 65, 300]))])
-                self.call(name, rows + [t], a=data, b=packed(self.pick([table, self.junk_words(256)])), v=words,
+                self.call(name, [m, taps] + register[2:] + rows + [t], a=data, b=packed(self.pick([table, self.junk_words(256)])), v=words,
                           u=self.junk_words(self.pick([0, 1, 5, 64, 300])))
 
     def lowest_bytes(self):
@@ -1372,10 +1361,6 @@ class Batch:
             marked = bin(int.from_bytes(row, "little") & low_row(n)).count("1")
             for room in {marked, max(0, marked - 1), marked + 3, marked // 2, 0}:
                 self.call("marked_words::list_row", v=words, a=row, u=self.junk_words(room))
-                clocks = self.pick([0, 1, 7, 8, 9, 63, 64, 511, self.random.randrange(512)])
-                held = self.pick([0, 0, clocks // 8, max(0, clocks // 8 - 1), self.random.randrange(clocks // 8 + 1)])
-                self.call("looked_words::list_later", [clocks, held], v=words, a=row, b=packed(self.junk_words(256)), u=self.junk_words(room))
-                self.call("marked_words::list_from_last", [int.from_bytes(row[:8], "little")], v=words, u=self.junk_words(room))
             # as many as the marked cells behind a multiple of 64 chains take, and one less: there the row is cut
             behind = [bin(int.from_bytes(row, "little") >> 64 * k & low_row(max(0, n - 64 * k))).count("1") for k in range(1, 4)]
             for room in {marked, max(0, marked - 1), 0, WORKING - 1, WORKING, WORKING + 1, *behind, *(max(0, k - 1) for k in behind)}:
@@ -1455,7 +1440,6 @@ class Batch:
                      self.pick([1, 8, 255, 256, 257, 65535]), self.pick([0, 1, 8, 64, 511, 512, 513])]
             self.call("column_costs::eights_least", costs)
             self.call("column_costs::ones_less", costs)
-            self.call("column_costs::each_less", costs[1:])
             self.call("word::double_entries", [self.pick([0, 1, 3]), self.pick([0, 1, 2, 4]), w], v=self.junk_words(self.pick([4, 8, 11, 12])))
             self.call("rows::pairs_share_a_bit", [self.pick([0, 1, 64]), self.pick([0, 1, 2, 3])],
                       a=bytes(x & self.pick([0, 0, 255, 1 << self.random.randrange(8)]) for x in self.junk(self.pick([64, 128, 193, 257]))))

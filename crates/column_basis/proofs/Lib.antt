@@ -1,4 +1,4 @@
+pub mod BitLaws
 pub mod BasisLaws
-pub mod ClearLaws
+pub mod SettledLaws
 pub mod LoopLaws
-pub mod SlotLaws

@@ -1,23 +1,23 @@
 -- The start, turn and end of the loops over marks, over slots and over columns. Assumes nothing.
 use mathlib.Core.Path.{◌≡◌, refl, sym, ap, ◌∙◌, subst}
-use mathlib.Core.List.{List, [], ◌∷◌}
+use mathlib.Core.List.{List, []}
 use Prim.Native.Nat.{ℕ, ◌+◌, ◌*◌, ◌%◌, ◌^◌, ◌≤◌, ◌<◌}
 use native.Mathlib.Numerals.{add-one}
 use native.Mathlib.Omega.{arith}
-use lib.Bits.{bit_xor, bit_and}
+use lib.Bits.{bit_xor}
 use lib.ListN.{length, get_or, take, drop, set, drop_of_length-le}
-use lib.Seq.{drop-cons, take_all, take-suc}
+use lib.Seq.{drop-cons, take_all}
 use Rattle.word.specs.Parities.{parities}
 use Rattle.word.specs.Zeros.{zeros}
 use Rattle.word.proofs.FrontLaws.{length_zeros}
 use Rattle.word.proofs.LowestLaws.{Lowest}
 use Rattle.combinations.specs.Step.{cleared, step, steps, units}
-use Rattle.combinations.proofs.StepLaws.{steps_none, steps_append}
+use Rattle.combinations.proofs.StepLaws.{steps_none}
 use Rattle.combinations.proofs.Units.{one_bit, next_taken}
 use Rattle.turned_words.specs.Turned.{kept}
-use Rattle.column_basis.specs.Basis.{Basis, Slots, Held, Cleared}
+use Rattle.column_basis.specs.Basis.{Basis, Slots, Held}
 use Rattle.turned_words.proofs.KeptLaws.{kept_full}
-use Rattle.column_basis.proofs.BasisLaws.{column_even, column_odd, slots_cleared, basis_grown}
+use Rattle.column_basis.proofs.BasisLaws.{column_even, column_odd, basis_grown}
 
 -- ---- the loop over the marks: with x in the words of the bits in `left` too, it is in those of all marks
 
@@ -45,19 +45,16 @@ pub column_none : (l basis : List ℕ) (dead c y : ℕ) → Held l basis dead �
 column_none l basis dead c y h f z =
     record { slots = h.slots; hold = column_even l h.slots basis dead h.hold c y (f l h.slots h.hold).0 z }
 
-pub column_one : (l basis basis' : List ℕ) (dead c y k : ℕ) → Held l basis dead → ((l ws : List ℕ) → Slots l ws basis dead → (y ≡ parities ws c) × (parities ws y ≡ y))
-    → Lowest y k → bit_and y dead ≡ 0 → length basis ≡ 64 → Cleared basis basis' dead k y → Held (step c l) (set basis' k y) (bit_xor dead ((1 * 2 ^ k) % 18446744073709551616))
-column_one l basis basis' dead c y k h f t apart long x =
+pub column_one : (l basis : List ℕ) (dead c y k : ℕ) → Held l basis dead → ((l ws : List ℕ) → Slots l ws basis dead → (y ≡ parities ws c) × (parities ws y ≡ y))
+    → Lowest y k → length basis ≡ 64 → Held (step c l) (set basis k y) (bit_xor dead ((1 * 2 ^ k) % 18446744073709551616))
+column_one l basis dead c y k h f t long =
     let e = f l h.slots h.hold in
-    subst (λ (bit : ℕ). Held (step c l) (set basis' k y) (bit_xor dead bit)) (sym (one_bit k t.place))
-    record {
-      slots = cleared c (get_or h.slots k 0) h.slots;
-      hold = slots_cleared basis basis' dead k y long t apart x (step c l) (cleared c (get_or h.slots k 0) h.slots) (column_odd l h.slots basis dead h.hold c y e.0 k t e.1 long);
-    }
+    subst (λ (bit : ℕ). Held (step c l) (set basis k y) (bit_xor dead bit)) (sym (one_bit k t.place))
+    record { slots = cleared c (get_or h.slots k 0) h.slots; hold = column_odd l h.slots basis dead h.hold c y e.0 k t e.1 long }
 
-pub basis_one : (basis basis' : List ℕ) (dead y k : ℕ) → Basis basis dead → Lowest y k → bit_and y dead ≡ 0 → Cleared basis basis' dead k y → Basis (set basis' k y) (bit_xor dead ((1 * 2 ^ k) % 18446744073709551616))
-basis_one basis basis' dead y k b t apart x =
-    subst (λ (bit : ℕ). Basis (set basis' k y) (bit_xor dead bit)) (sym (one_bit k t.place)) (basis_grown basis basis' dead k y b.long t apart x b)
+pub basis_one : (basis : List ℕ) (dead y k : ℕ) → Basis basis dead → Lowest y k → Basis (set basis k y) (bit_xor dead ((1 * 2 ^ k) % 18446744073709551616))
+basis_one basis dead y k b t =
+    subst (λ (bit : ℕ). Basis (set basis k y) (bit_xor dead bit)) (sym (one_bit k t.place)) (basis_grown basis dead y k b t)
 
 -- ---- the loop over the columns: the list held, after the columns that are left, is the list after all of them
 
@@ -95,17 +92,3 @@ pub taking_end : (cs l basis : List ℕ) (dead i : ℕ) → Taking cs l basis de
 unfolding steps
 taking_end cs l basis dead i t h =
     subst (λ (x : List ℕ). Held x basis dead) (ap (λ (x : List ℕ). steps x t.now_held) (sym (drop_of_length-le cs h)) ∙ t.done) t.hold
-
--- ---- the loop over the first columns: the list held is that after the columns so far
-
-pub first_start : (cs l basis : List ℕ) (dead : ℕ) → Held l basis dead → Held (steps (take 0 cs) l) basis dead
-unfolding steps
-first_start cs l basis dead h = h
-
-pub first_turn : (cs l basis basis' : List ℕ) (dead dead' i : ℕ) → i < length cs → Held (steps (take i cs) l) basis dead
-    → ((x : List ℕ) → Held x basis dead → Held (step (get_or cs i 0) x) basis' dead') → Held (steps (take (i + 1) cs) l) basis' dead'
-unfolding steps
-first_turn cs l basis basis' dead dead' i li h f =
-    let next : steps (take (i + 1) cs) l ≡ step (get_or cs i 0) (steps (take i cs) l) =
-    ap (λ (n : ℕ). steps (take n cs) l) (add-one i) ∙ ap (λ (x : List ℕ). steps x l) (take-suc cs i 0 li) ∙ steps_append (take i cs) (get_or cs i 0 ∷ []) l in
-    subst (λ (x : List ℕ). Held x basis' dead') (sym next) (f (steps (take i cs) l) h)

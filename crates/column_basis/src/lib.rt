@@ -1,15 +1,12 @@
 // A basis of columns: many columns taken without a parity for each word. Beside a list in which every word has a bit of its own, clear in
-// the other words, each other bit is dead, and has a word of the basis, in which no other bit is dead. So what is left of a column without
-// its dead bits is the column with the words of these bits XORed in, all known at once. It makes its lowest bit dead. Only at the end are the
-// words made from the basis. It sees words and combinations.
-ghost use Rattle.std.specs.Prelude.{◌≡◌, List, ℕ, ◌*◌, ◌≤◌, ◌<◌, length, get_or, take};
-ghost use Rattle.std.specs.Int.Bits.{bit_xor, bit_and};
-ghost use Rattle.word.specs.Word.{digit};
+// the other words, each other bit is dead, and has a word of the basis. A column is reduced by the basis, and what is left of it makes its
+// lowest bit dead. Only at the end are the words made from the basis. It sees words and combinations.
+ghost use Rattle.std.specs.Prelude.{◌≡◌, List, ℕ, ◌+◌, ◌<◌, length};
 ghost use Rattle.word.specs.Parities.{parities};
 ghost use Rattle.word.specs.Zeros.{zeros};
 ghost use Rattle.combinations.specs.Step.{step, steps, units};
 ghost use Rattle.turned_words.specs.Turned.{kept};
-ghost use Rattle.column_basis.specs.Basis.{Basis, Slots, Held, Cleared};
+ghost use Rattle.column_basis.specs.Basis.{Basis, Slots, Held, Settled};
 
 // Every bit is dead.
 pub const ALL_DEAD: u64 = 0xffff_ffff_ffff_ffff;
@@ -36,32 +33,16 @@ pub fn unit_words() -> [u64; 64]
 // What is left of a column without its dead bits.
 fn reduced(basis: &[u64], dead: u64, column: u64) -> u64
     requires { Basis basis.now dead }
-    ensures clear { bit_and result dead ≡ 0 }
-    ensures list { (l ws : List ℕ) → Slots l ws basis.now dead → (result ≡ parities ws column) × (parities ws result ≡ result) }
+    ensures { (l ws : List ℕ) → Slots l ws basis.now dead → (result ≡ parities ws column) × (parities ws result ≡ result) }
 {
-    column ^ word::xor_marked(basis, column & dead)
-}
-
-// The word w, with x XORed in where w has bit k.
-fn without_bit(w: u64, k: usize, x: u64) -> u64
-    requires { k < 64 }
-    ensures { result ≡ bit_xor w (digit k w * x) }
-{
-    w ^ (x & (ALL_DEAD * ((w >> k) % 2)))
-}
-
-// Bit k, which x has, is cleared in the words of dead places: x is XORed into those that have it. It goes through all places up to the highest
-// dead one, without a test, since a place that isn't dead holds its own bit alone.
-fn clear_bit(basis: &mut [u64], dead: u64, k: usize, x: u64)
-    requires { Basis basis.old dead × (k < 64) }
-    ensures { Cleared basis.old basis.new dead k x }
-{
-    let end = 64 - u64::leading_zeros(dead) as usize;
-    let mut i: usize = 0;
-    while i < end {
-        basis[i] = without_bit(basis[i], k, x);
-        i += 1;
+    let mut rest = column;
+    let mut left = rest & dead;
+    while left != 0 {
+        let d = u64::trailing_zeros(left) as usize;
+        rest = rest ^ basis[d];
+        left = rest & dead;
     }
+    rest
 }
 
 // One column more. Answers with the bits that are dead then: where a word is odd with the column, that of the first such word too.
@@ -75,7 +56,6 @@ fn add_to_basis(basis: &mut [u64], dead: u64, column: u64) -> u64
         return dead;
     }
     let k = u64::trailing_zeros(rest) as usize;
-    clear_bit(basis, dead, k, rest);
     basis[k] = rest;
     dead ^ (1u64 << k)
 }
@@ -98,68 +78,32 @@ pub fn take_columns(basis: &mut [u64], dead: u64, columns: &[u64]) -> u64
     gone
 }
 
-// So many columns in a row that change nothing, where so many more follow, are enough: behind them most of the rank is found, and those that
-// follow are passed over in less time by the words. These are estimates, by time.
-const CALM: usize = 4;
-
-const MANY: usize = 128;
-
-// How many columns in a row have changed nothing, at most so many as are enough.
-fn calm_after(calm: usize, before: u64, after: u64) -> usize {
-    if before != after {
-        return 0;
+// Puts bit d into the words of the slots that have it, where it is dead: the basis' word of it without the other dead bits says which.
+fn settle(basis: &mut [u64], words: &mut [u64], dead: u64, d: usize)
+    requires { (length basis.old ≡ 64) × (d < 64) }
+    ensures { (l : List ℕ) → Settled l basis.old words.old dead (d + 1) → Settled l basis.new words.new dead d }
+{
+    if (dead >> d) % 2 == 0 {
+        return;
     }
-    if CALM <= calm {
-        return CALM;
-    }
-    calm + 1
+    let bit = 1u64 << d;
+    let w = basis[d];
+    let others = word::xor_marked(basis, w & (dead ^ bit));
+    let row = w ^ others;
+    basis[d] = row;
+    turned_words::xor_into(words, row, bit);
 }
 
-// Whether every bit is dead, or so many columns in a row have changed nothing and so many are left.
-fn is_enough(dead: u64, calm: usize, left: usize) -> bool {
-    (dead == ALL_DEAD) | ((CALM <= calm) & (MANY <= left))
-}
-
-// The bits that are dead, and how many columns were taken.
-#[derive(Drop)]
-pub struct Took {
-    pub dead: u64,
-    pub count: usize,
-}
-
-// The first columns one after the other, until every bit is dead or several have changed nothing. Answers with the bits that are dead, and
-// with how many columns were taken.
-pub fn take_first(basis: &mut [u64], dead: u64, columns: &[u64]) -> Took
+// The words of the slots; in the dead ones stands anything.
+pub fn slot_words(basis: &mut [u64], dead: u64) -> [u64; 64]
     requires { Basis basis.old dead }
-    ensures inside { result.count ≤ length columns.now }
-    ensures order { Basis basis.new result.dead }
-    ensures list { (l : List ℕ) → Held l basis.old dead → Held (steps (take result.count columns.now) l) basis.new result.dead }
+    ensures { (l : List ℕ) → Held l basis.old dead → kept dead result ≡ l }
 {
-    let mut gone = dead;
-    let mut calm: usize = 0;
-    let mut i: usize = 0;
-    while i < columns.len() {
-        if is_enough(gone, calm, columns.len() - i) {
-            return Took {
-                dead: gone,
-                count: i,
-            };
-        }
-        let next = add_to_basis(basis, gone, columns[i]);
-        calm = calm_after(calm, gone, next);
-        gone = next;
-        i += 1;
+    let mut words = unit_words();
+    let mut d: usize = 64;
+    while 0 < d {
+        d -= 1;
+        settle(basis, &mut words[..], dead, d);
     }
-    Took {
-        dead: gone,
-        count: i,
-    }
-}
-
-// The words of the slots; in the dead ones stands anything. A slot's word has its own bit, and each dead bit whose word in the basis has the
-// slot's: the basis transposed.
-pub fn slot_words(basis: [u64; 64]) -> [u64; 64]
-    ensures { (l : List ℕ) (dead : ℕ) → Basis basis dead → Held l basis dead → kept dead result ≡ l }
-{
-    turned_words::transposed(basis)
+    words
 }

@@ -1,12 +1,12 @@
 -- What the ways cost: products that fit, and tests that need no cost. Assumes nothing.
 use mathlib.Core.Path.{◌≡◌, sym, ap, ap₂, ◌∙◌}
 use mathlib.Core.Bool.{Bool, false, ◌&&◌}
-use Prim.Native.Nat.{ℕ, ◌+◌, ◌-◌, ◌*◌, ◌≤◌, ◌<◌, min}
+use Prim.Native.Nat.{ℕ, ◌+◌, ◌*◌, ◌≤◌, ◌<◌, min}
 use native.Mathlib.Nat.{mul-le-mul_left, mul-le-mul_right}
 use native.Mathlib.Omega.{arith}
 use borrow.Author.Tests.{le-ltb}
 use lib.Dec.{ltb}
-use Rattle.column_costs.specs.Costs.{cells, sweep_cost, passed_cost, each_cost, each_less, eights_cost, ones_cost, eights_least, ones_less}
+use Rattle.column_costs.specs.Costs.{cells, sweep_cost, eights_cost, ones_cost, eights_least, ones_less}
 
 -- there are at most 131,072 cells
 pub cells_most : (s n : ℕ) → s ≤ 512 → n ≤ 256 → s * n ≤ 131072
@@ -18,13 +18,9 @@ ones_most w k hw hk = let few : k ≤ 65536 = omega arith in omega (arith, mul-l
 ones_many : (w k : ℕ) → 16 ≤ w → 65536 ≤ k → 1048576 ≤ w * k
 ones_many w k hw hk = omega (arith, mul-le-mul_left w hk, mul-le-mul_right 65536 hw)
 
--- each column by itself, for 65536 of them at most
-pub each_most : (k e : ℕ) → k ≤ 65536 → e ≤ 64 → 2 * k * e ≤ 8388608
-each_most k e hk he = let twice : 2 * k ≤ 131072 = omega arith in omega (arith, mul-le-mul_left (2 * k) he, mul-le-mul_right 64 twice)
-
 module _ (m k n s : ℕ) where
-  most : cells n (s - 1) ≤ 131072
-  most = cells_most (min (s - 1) 512) (min n 256) (omega arith) (omega arith)
+  most : cells n s ≤ 131072
+  most = cells_most (min s 512) (min n 256) (omega arith) (omega arith)
 
   pub many_not_by_eights : 65536 ≤ k → false ≡ eights_least m k n s
   unfolding eights_least
@@ -48,7 +44,3 @@ module _ (m k n s : ℕ) where
   pub ones_tested : (ones sweep : ℕ) → ones ≡ ones_cost m k s → sweep ≡ sweep_cost n s → ltb ones sweep ≡ ones_less m k n s
   unfolding ones_less
   ones_tested ones sweep eo es = ap₂ ltb eo es
-
-pub each_tested : (k n s each passed : ℕ) → each ≡ each_cost k s → passed ≡ passed_cost n s → ltb each passed ≡ each_less k n s
-unfolding each_less
-each_tested k n s each passed ee ep = ap₂ ltb ee ep

@@ -1,19 +1,16 @@
 // What the ways to make columns cost, and which costs least. It sees the register's limits and knows none of the ways. The public functions are
 // total.
-ghost use Rattle.std.specs.Prelude.{◌≡◌, ◌-◌, ◌≤◌, ◌<◌, min};
-ghost use Rattle.column_costs.specs.Costs.{cells, sweep_cost, passed_cost, each_cost, each_less, eights_cost, ones_cost, eights_least, ones_less};
+ghost use Rattle.std.specs.Prelude.{◌≡◌, ◌≤◌, ◌<◌};
+ghost use Rattle.column_costs.specs.Costs.{cells, sweep_cost, eights_cost, ones_cost, eights_least, ones_less};
 
 // The costs are estimates, from the times and the instructions of the ways, where one word advanced by one clock costs 1. What a column takes in a
 // sweep is left out of each.
 //
-// By a sweep so much costs each slice, beside 1 for each cell of the slices but one.
+// By a sweep so much costs each slice, beside 1 for each cell.
 const SWEPT_SLICE_COST: u64 = 16;
 
-// By eights of clocks so many cells cost 1, or so much each column for every eighth slice, and so much costs each slice, each column, and the
-// table of 8 clocks.
+// By eights of clocks so many cells cost 1, and so much costs each slice, each column, and the table of 8 clocks.
 const CELLS_FOR_ONE: u64 = 5;
-
-const EACH_COST: u64 = 2;
 
 const SLICE_COST: u64 = 20;
 
@@ -28,18 +25,8 @@ const CLOCK_COST: u64 = 4;
 
 const POWERS_COST: u64 = 256;
 
-// From so many columns on a sweep costs least, and more of them cost no more.
+// From so many columns on a sweep costs least.
 const MANY: usize = 65536;
-
-// One slice less.
-fn one_less(s: u16) -> u16
-    ensures { result ≡ s - 1 }
-{
-    if s == 0 {
-        return 0;
-    }
-    s - 1
-}
 
 // The cells of n chains in s slices.
 fn all_cells(n: u16, s: u16) -> u64
@@ -55,36 +42,7 @@ fn sweep_cost(n: u16, s: u16) -> u64
     ensures { result ≡ sweep_cost n s }
 {
     let slices = register::slice_limit(s) as u64;
-    all_cells(n, one_less(s)) + SWEPT_SLICE_COST * slices
-}
-
-// All words advanced by 8 clocks for every eighth slice.
-fn passed_cost(n: u16, s: u16) -> u64
-    ensures { (result ≡ passed_cost n s) × (result ≤ 26214) }
-{
-    all_cells(n, s) / CELLS_FOR_ONE
-}
-
-// Each column advanced by itself, by 8 clocks for every eighth slice.
-fn each_cost(count: usize, s: u16) -> u64
-    ensures { (result ≡ each_cost count s) × (result ≤ 8388608) }
-{
-    let slices = register::slice_limit(s) as u64;
-    let few = numbers::shorter(count, MANY) as u64;
-    EACH_COST * few * (slices / 8)
-}
-
-fn least(a: u64, b: u64) -> u64
-    ensures { result ≡ min a b }
-{
-    if a < b { a } else { b }
-}
-
-// Whether so many columns, of n chains in s slices, cost less each advanced by itself than by all words.
-pub fn each_less(count: usize, n: u16, s: u16) -> bool
-    ensures { result ≡ each_less count n s }
-{
-    each_cost(count, s) < passed_cost(n, s)
+    all_cells(n, s) + SWEPT_SLICE_COST * slices
 }
 
 // By eights of clocks.
@@ -93,7 +51,7 @@ fn eights_cost(count: usize, n: u16, s: u16) -> u64
     ensures { result ≡ eights_cost count n s }
 {
     let slices = register::slice_limit(s) as u64;
-    least(passed_cost(n, s), each_cost(count, s))
+    all_cells(n, s) / CELLS_FOR_ONE
         + SLICE_COST * slices
         + BETWEEN_COST * (count as u64)
         + EIGHT_COST

@@ -4,17 +4,15 @@ ghost use Rattle.std.specs.Prelude.{◌≡◌, min, length};
 ghost use Rattle.rows.specs.Lists.{cells_of};
 ghost use Rattle.ties.specs.Ties.{ties_in};
 ghost use Rattle.marked_words.specs.Back.{back};
-ghost use Rattle.register.specs.Circuit.{circuit, chains};
+ghost use Rattle.register.specs.Circuit.{chains};
 ghost use Rattle.set_layout.specs.Layout.{tie_count_of};
 ghost use Rattle.set_file.specs.Reading.{taken_circuit, TakenFrom};
 ghost use Rattle.signatures.specs.Columns.{columns_below};
 ghost use Rattle.signatures.specs.Symbols.{column_at, listing};
 ghost use Rattle.symbol_columns.specs.Powered.{FlagsIn};
 ghost use Rattle.listed_symbols.specs.Heads.{HeadsIn};
-ghost use Rattle.columns.specs.Made.{Made};
 ghost use Rattle.columns.specs.Listing.{list_reply, columns_after, said_listed};
 
-use register::Register;
 use rows::Rows;
 use set_file::{SetAnswer, Taken};
 
@@ -25,63 +23,24 @@ pub enum Listed {
     Declined { number: u64 },
 }
 
-// Writes the columns of the marked cells over the end of the list, for s slices, at most 512, and at most 256 chains with these spread words, which
-// are n. There are three ways, and the one that costs least is taken: a few columns are made one by one, by the powers of the register; more
-// of them by eights of clocks; and where most cells are marked, or there is one slice, all the chains' words are advanced by one clock for each
-// slice. The words are then no longer the spread words.
-fn fill_words(
-    register: Register,
-    words: &mut [u64],
-    n: u16,
-    s: u16,
-    list: &[u8],
-    marks: Rows,
-    columns: &mut [u64],
-)
-    ensures { Made register words.old s → columns.new ≡ back (columns_below (circuit (min register.m 64) register.taps register.inversion words.old) s (cells_of list.now marks) s) columns.old }
-{
-    if column_costs::eights_least(register.m, columns.len(), n, s) {
-        let each = column_costs::each_less(columns.len(), n, s);
-        eighth_columns::fill_by_eights(register, each, words, s, list, marks, columns);
-        return;
-    }
-    if column_costs::ones_less(register.m, columns.len(), n, s) {
-        sparse_columns::fill_few(register, words, s, list, marks, columns);
-        return;
-    }
-    swept_columns::fill_swept(register, words, s, list, marks, columns);
-}
-
 // Writes the columns of the marked cells over the end of the list, by slice and then by chain, for a register and chains as a taken
-// set has them, by the way that costs least; where the width, the tap word or a spread word isn't a taken set's, by a sweep. It meets no
-// number: a width counts as at most 64, the slices as at most 512, and a row past the end has no mark. Where the list is shorter than the
-// columns, the first of them are lost.
+// set has them. There are three ways, and the one that costs least is taken: a few columns are made one by one, by the powers of the
+// register; more of them by all the chains' words advanced by 8 clocks for every eighth slice, and those of marked cells by the clocks
+// between; and where most cells are marked, all the chains' words are advanced by one clock for each slice. It meets no number: a width
+// counts as at most 64, the slices as at most 512, and a row past the end has no mark. Where the list is shorter than the columns, the
+// first of them are lost.
 pub fn fill_columns(taken: Taken, list: &[u8], marks: Rows, columns: &mut [u64])
     ensures { columns.new ≡ back (columns_below (taken_circuit taken) (min taken.s 512) (cells_of list.now marks) (min taken.s 512)) columns.old }
 {
-    let register = taken.register;
-    let n = taken.n;
-    let chains = register::chain_limit(n);
-    let slices = register::slice_limit(taken.s);
-    let spread = taken.spread;
-    let mut words = chains::all_words(spread);
-    let width = register::width_limit(register.m);
-    if (width < 1)
-        | word::is_beyond(width, register.taps)
-        | chains::is_bad_spread(width, &words[..chains])
-    {
-        swept_columns::fill_swept(register, &mut words[..chains], slices, list, marks, columns);
+    if column_costs::eights_least(taken.register.m, columns.len(), taken.n, taken.s) {
+        eighth_columns::fill_by_eights(taken, list, marks, columns);
         return;
     }
-    fill_words(
-        register,
-        &mut words[..chains],
-        n,
-        slices,
-        list,
-        marks,
-        columns,
-    );
+    if column_costs::ones_less(taken.register.m, columns.len(), taken.n, taken.s) {
+        sparse_columns::fill_few(taken, list, marks, columns);
+        return;
+    }
+    swept_columns::fill_swept(taken, list, marks, columns);
 }
 
 // Writes the columns of the symbols over the list, one for each cell that the rows mark, by slice and then by chain: an unnamed cell's own, and
@@ -144,14 +103,14 @@ pub fn list_columns(set: &[u8], columns: &mut [u64]) -> Listed
         };
     };
     let spread = read.spread;
+    let taken = Taken {
+        register,
+        n,
+        s,
+        spread,
+    };
     let count = set_layout::tie_count(set);
     if count != 0 {
-        let taken = Taken {
-            register,
-            n,
-            s,
-            spread,
-        };
         return list_named(taken, set, count, columns);
     }
     let marks = set_layout::mark_rows(n);
@@ -160,16 +119,6 @@ pub fn list_columns(set: &[u8], columns: &mut [u64]) -> Listed
         return Listed::Declined { number: 14 };
     }
     let end = symbols as usize;
-    let mut words = chains::all_words(spread);
-    let chains = register::chain_limit(n);
-    fill_words(
-        register,
-        &mut words[..chains],
-        n,
-        s,
-        set,
-        marks,
-        &mut columns[..end],
-    );
+    fill_columns(taken, set, marks, &mut columns[..end]);
     Listed::Count { symbols }
 }

@@ -34,7 +34,6 @@ use Rattle.signatures.specs.Later.{later}
 use Rattle.signatures.specs.Columns.{columns_below}
 use Rattle.signatures.specs.Given.{Given}
 use Rattle.powers.proofs.PowerLaws.{later_xor, later_add}
-use Rattle.marked_words.proofs.BackLaws.{joined_none}
 use Rattle.unclocking.specs.Unclocked.{earlier}
 use Rattle.unclocking.proofs.UnclockLaws.{earlier_lt, later_earlier, later_one_to_one}
 use Rattle.swept_columns.proofs.FillLaws.{later_words, later_words_get, first_words}
@@ -65,13 +64,6 @@ module _ (g : Given) where
   pub framed_words : (t : ℕ) → framed t ≡ marked_earlier g.wiring t (g.marks t)
   unfolding framed
   framed_words t = refl
-
-  -- .. where none is marked
-  pub framed_blank : (t : ℕ) → ((c : ℕ) → g.marks t c ≡ 0) → framed t ≡ []
-  unfolding framed
-  framed_blank t h =
-      joined_none (λ c. listed (g.marks t c) (get_or (earlier_words g.wiring t g.wiring.spread) c 0)) (chains g.wiring)
-      (λ c l. ap (λ (d : ℕ). listed d (get_or (earlier_words g.wiring t g.wiring.spread) c 0)) (h c))
 
   pub frames : ℕ → ℕ → List ℕ
   frames a zero = []

@@ -6,7 +6,7 @@
 --   next_run       the list of first slices from a on is a and, from the end of its longest run on, the rest
 --   no_run         .. and empty where no slice is left
 --   CutTo          what is known after t slices
---   cut_starts, cut_turns, cut_short, cut_blank, cut_ends
+--   cut_starts, cut_turns, cut_short, cut_ends
 -- Assumes nothing.
 use mathlib.Core.Path.{◌≡◌, refl, sym, ap, ap₂, ◌∙◌, subst}
 use mathlib.Core.Bool.{Bool, true, false, cond}
@@ -186,21 +186,6 @@ module _ (g : Given) (sound : Sound g.wiring) (k : ℕ) (some : 1 ≤ k) where
         go (opened kj eo el ex) =
             any_below_true g.slices _ t inside
             (lt-ltb (words_left g t (suc t)) k (omega (arith, el, ap length (ex ∙ alone_words t cs ec), left_next t t)))
-
-  -- ---- a slice without a mark
-
-  pub cut_blank : (t runs : ℕ) (h l : List ℕ) → 1 ≤ t → framed g t ≡ [] → CutTo g k t runs h l → CutTo g k (t + 1) runs h l
-  unfolding steps
-  cut_blank t runs h l later none so_far = go so_far.run
-    where
-      go : InRun g k t runs h l → CutTo g k (t + 1) runs h l
-      go (none_yet et er eh) = let z : ⊥ = omega arith in absurd z
-      go (in_run a j ds la lj es el eh kl) =
-          let words : h ≡ held_words g a (t + 1) = next_words a t h [] (omega arith) eh (sym none) in
-          record {
-            enough = enough_more t so_far.enough (omega (arith, ap length words, left_next a t, slice_most g sound a t (suc t) (omega arith) (omega arith)));
-            run = in_run a j ds (omega arith) lj es el words kl;
-          }
 
   -- ---- all slices
 

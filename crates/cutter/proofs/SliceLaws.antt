@@ -2,8 +2,7 @@
 use mathlib.Core.Path.{◌≡◌, refl, sym, ap, ap₂, ◌∙◌, subst}
 use mathlib.Core.Bool.{Bool, true, false}
 use mathlib.Core.List.{List, [], ◌∷◌}
-use Prim.Native.Nat.{ℕ, zero, suc, ◌+◌, ◌-◌, ◌*◌, ◌≤◌, ◌<◌, min}
-use native.Mathlib.Nat.{add-zero}
+use Prim.Native.Nat.{ℕ, ◌+◌, ◌-◌, ◌*◌, ◌≤◌, ◌<◌, min}
 use native.Mathlib.Omega.{arith}
 use lib.ListN.{length, take, drop, set, length-drop}
 use lib.Seq.{take_all, length-take-le}
@@ -22,30 +21,24 @@ use Rattle.set_file.proofs.Laws.{Accepted, accepted}
 use Rattle.signatures.specs.Given.{Given, SameMarks}
 use Rattle.signatures.specs.Sets.{given}
 use Rattle.unclocking.specs.Unclocked.{earlier, EightBack}
-use Rattle.slice_columns.specs.Frame.{based, marked_earlier, NextFrom, NextSlice}
+use Rattle.slice_columns.specs.Frame.{eights, marked_earlier, NextFrom}
 use Rattle.slice_columns.proofs.FrameLaws.{earlier_words}
-use Rattle.slice_columns.proofs.SkipLaws.{blank_cells, based_next}
 use Rattle.cutter.specs.Cutting.{short_slice, starts_for}
 use Rattle.column_basis.specs.Basis.{Held}
 use Rattle.run_words.specs.Joining.{SlicePut}
 use Rattle.run_words.specs.declared.Turn.{Turn}
 use Rattle.cutter.specs.Turns.{Sound, seen, SlicedFor}
 use Rattle.cutter.specs.declared.Slices.{Slices}
-use Rattle.cutter.proofs.FrameLaws.{framed, framed_words, framed_blank}
-use Rattle.cutter.proofs.RunLaws.{CutTo, cut_starts, cut_turns, cut_short, cut_blank, cut_ends}
+use Rattle.cutter.proofs.FrameLaws.{framed, framed_words}
+use Rattle.cutter.proofs.RunLaws.{CutTo, cut_starts, cut_turns, cut_short, cut_ends}
 use Rattle.cutter.proofs.SameLaws.{same_starts, same_short, sound_set}
 
 -- ---- the chains' words
 
-earlier_words_none : (k : Circuit) (ws : List ℕ) → ws ≡ earlier_words k 0 ws
+pub earlier_words_none : (k : Circuit) (ws : List ℕ) → ws ≡ earlier_words k 0 ws
 unfolding earlier
 earlier_words_none k [] = refl
 earlier_words_none k (w ∷ ws) = ap (λ (l : List ℕ). w ∷ l) (earlier_words_none k ws)
-
--- .. for slice 0
-pub words_start : (k : Circuit) (few : Bool) (ws : List ℕ) → ws ≡ earlier_words k (based few 0) ws
-words_start k true ws = earlier_words_none k ws
-words_start k false ws = earlier_words_none k ws
 
 -- ---- the set that the pass is over
 
@@ -122,17 +115,17 @@ held_all g sound κ t runs basis dead l some et few long so_far = sliced_all g s
 
 -- what one slice of the pass does with the chains' words, which become ws', the words that the run so far leaves, beside which the basis stands
 -- before and after, and the first slices l of the runs so far
-pub record SlicePassed (g : Given) (table : List ℕ) (few : Bool) (k t runs : ℕ) (ws' basis : List ℕ) (dead : ℕ) (basis' l : List ℕ) (turn : Turn) : Type 0 where
-  pub words : EightBack g.wiring table → ws' ≡ earlier_words g.wiring (based few (t + 1)) g.wiring.spread
+pub record SlicePassed (g : Given) (table : List ℕ) (k t runs : ℕ) (ws' basis : List ℕ) (dead : ℕ) (basis' l : List ℕ) (turn : Turn) : Type 0 where
+  pub words : EightBack g.wiring table → ws' ≡ earlier_words g.wiring (eights (t + 1)) g.wiring.spread
   pub short : Sound g.wiring → EightBack g.wiring table → 1 ≤ k → CutHeld g k t runs basis dead l → turn.left < k → SlicedFor g k l (Slices.Refused 27)
   pub next : Sound g.wiring → EightBack g.wiring table → 1 ≤ k → CutHeld g k t runs basis dead l → k ≤ turn.left
       → CutHeld g k (t + 1) (runs + turn.opened) basis' turn.dead (set l runs t)
 
 -- .. by what its two calls promise: the columns stand behind place p of a list of 256, and have been put to the words
-module _ (r : Register) (table : List ℕ) (few : Bool) (list : List ℕ) (rows : Rows) (s k t runs w p : ℕ) (ws₀ ws ws' cs cs' basis : List ℕ) (dead : ℕ) (basis' l : List ℕ) (turn : Turn)
-    (next : NextFrom table few list rows t ws ws' cs cs' p)
+module _ (r : Register) (table list : List ℕ) (rows : Rows) (s k t runs w p : ℕ) (ws₀ ws ws' cs cs' basis : List ℕ) (dead : ℕ) (basis' l : List ℕ) (turn : Turn)
+    (next : NextFrom r table list rows t ws ws' cs cs' p)
     (put : (h : List ℕ) → Held h basis dead → SlicePut (take (256 - p) (drop p cs')) w k h basis' turn)
-    (so_far : EightBack (seen r ws₀ s list rows).wiring table → ws ≡ earlier_words (seen r ws₀ s list rows).wiring (based few t) ws₀) (inside : t < s)
+    (so_far : EightBack (seen r ws₀ s list rows).wiring table → ws ≡ earlier_words (seen r ws₀ s list rows).wiring (eights t) ws₀) (inside : t < s)
     (room : runs < length l) (fits : length ws ≤ length cs) (long : length cs' ≡ 256) (width : w ≡ min r.m 64) where
   abbrev g : Given
   g = seen r ws₀ s list rows
@@ -140,13 +133,13 @@ module _ (r : Register) (table : List ℕ) (few : Bool) (list : List ℕ) (rows 
   abbrev here : List ℕ
   here = take (256 - p) (drop p cs')
 
-  both : EightBack g.wiring table → (drop p cs' ≡ marked_earlier g.wiring t (g.marks t)) × (ws' ≡ earlier_words g.wiring (based few (t + 1)) ws₀)
-  both right = next.frame g.wiring right fits (so_far right)
+  both : EightBack g.wiring table → (drop p cs' ≡ marked_earlier g.wiring t (g.marks t)) × (ws' ≡ earlier_words g.wiring (eights (t + 1)) ws₀)
+  both right = next.frame r.inversion ws₀ right fits (so_far right)
 
   columns : EightBack g.wiring table → take (256 - p) (drop p cs') ≡ framed g t
   columns right = take_all (256 - p) (drop p cs') (omega (arith, length-drop p cs')) ∙ (both right).0 ∙ sym (framed_words g t)
 
-  pub slice_passed : SlicePassed g table few k t runs ws' basis dead basis' l turn
+  pub slice_passed : SlicePassed g table k t runs ws' basis dead basis' l turn
   slice_passed = record {
     words = λ right. (both right).1;
     short = λ sound right some before few.
@@ -160,33 +153,3 @@ module _ (r : Register) (table : List ℕ) (few : Bool) (list : List ℕ) (rows 
           cut = cut_turns g sound k some t runs w before.words l done.words here turn inside room (columns right) width done.turn before.cut enough;
         });
   }
-
--- ---- slices passed over
-
--- n slices without a mark, behind the first slice
-held_blank : (g : Given) → Sound g.wiring → (k : ℕ) → 1 ≤ k → (n t runs : ℕ) (basis : List ℕ) (dead : ℕ) (l : List ℕ) → 1 ≤ t
-    → ((i : ℕ) → t ≤ i → i < t + n → framed g i ≡ []) → CutHeld g k t runs basis dead l → CutHeld g k (t + n) runs basis dead l
-held_blank g sound k some zero t runs basis dead l later none so_far = subst (λ (x : ℕ). CutHeld g k x runs basis dead l) (sym (add-zero t)) so_far
-held_blank g sound k some (suc n) t runs basis dead l later none so_far =
-    let before : CutHeld g k (t + n) runs basis dead l = held_blank g sound k some n t runs basis dead l later (λ i a b. none i a (omega arith)) so_far in
-    let more : t + n + 1 ≡ t + suc n = omega arith in
-    subst (λ (x : ℕ). CutHeld g k x runs basis dead l) more (record {
-      words = before.words;
-      hold = before.hold;
-      cut = cut_blank g sound k some (t + n) runs before.words l (omega arith) (none (t + n) (omega arith) (omega arith)) before.cut;
-    })
-
--- .. as they are found in the rows of marks
-module _ (r : Register) (few : Bool) (list : List ℕ) (rows : Rows) (s t end next : ℕ) (ws₀ : List ℕ) (found : NextSlice few list rows t end next) where
-  pub words_next : (ws : List ℕ) → ws ≡ earlier_words (seen r ws₀ s list rows).wiring (based few t) ws₀
-      → ws ≡ earlier_words (seen r ws₀ s list rows).wiring (based few next) ws₀
-  words_next ws e =
-      e ∙ ap (λ (n : ℕ). earlier_words (seen r ws₀ s list rows).wiring n ws₀) (sym (based_next few list rows t end next found))
-
-  pub held_next : Sound (seen r ws₀ s list rows).wiring → (k : ℕ) → 1 ≤ k → (runs : ℕ) (basis : List ℕ) (dead : ℕ) (l : List ℕ) → 1 ≤ t
-      → CutHeld (seen r ws₀ s list rows) k t runs basis dead l → CutHeld (seen r ws₀ s list rows) k next runs basis dead l
-  held_next sound k some runs basis dead l later so_far =
-      let sum : t + (next - t) ≡ next = omega (arith, found.later) in
-      subst (λ (x : ℕ). CutHeld (seen r ws₀ s list rows) k x runs basis dead l) sum
-      (held_blank (seen r ws₀ s list rows) sound k some (next - t) t runs basis dead l later
-      (λ i a b. framed_blank (seen r ws₀ s list rows) i (blank_cells list rows i (found.blank i a (omega (arith, found.later))))) so_far)

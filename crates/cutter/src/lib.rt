@@ -42,11 +42,10 @@ fn no_starts() -> [u64; 512]
 }
 
 // The slices one after the other, as many as there are rows of marks to go through: the first slice of each run over the front of `starts`, and
-// how many there are; or 27. The chains' words are the spread words at first, and stay so where `few` says that few cells are marked.
+// how many there are; or 27. The chains' words are the spread words at first.
 fn pass_slices(
     register: Register,
     table: &[u64; 256],
-    few: bool,
     list: &[u8],
     marks: Rows,
     slices: u16,
@@ -61,43 +60,29 @@ fn pass_slices(
     let mut columns = set_layout::no_words();
     let mut basis = column_basis::unit_words();
     let mut dead = turned_words::dead_behind(0);
-    let mut even = byte_tables::no_entries();
-    let mut calm: usize = 0;
     let mut runs: usize = 0;
     let mut t: u16 = 0;
     while t < slices {
-        let place = slice_columns::next_columns(table, few, list, marks, t, words, &mut columns);
-        let turn = run_words::put_slice(
-            &mut basis,
-            dead,
-            &mut even,
-            calm,
-            &columns[place..],
-            width,
-            k,
+        let place = slice_columns::next_columns(
+            register,
+            table,
+            list,
+            marks,
+            t,
+            words,
+            &mut columns,
         );
+        let turn = run_words::put_slice(&mut basis, dead, &columns[place..], width, k);
         dead = turn.dead;
-        calm = turn.calm;
         let left = turn.left;
         if left < k {
             return Slices::Refused { number: 27 };
         }
         starts[runs] = t as u64;
         runs += turn.opened;
-        t = slice_columns::next_slice(few, list, marks, t + 1, slices);
+        t += 1;
     }
     Slices::Cut { runs }
-}
-
-// A look-up that waits for the one before it takes about as long as so many that wait for none: an estimate, by time.
-const WAITING: usize = 3;
-
-// Whether so few cells are marked that undoing each of their columns by itself takes less time than undoing the chains' words for all: slices / 16
-// look-ups on average for each column, which wait for one another, against slices / 8 for each chain, which don't. Either way gives the same
-// columns.
-fn are_few(list: &[u8], marks: Rows, slices: u16, chains: usize) -> bool {
-    let columns = marked_rows::estimate_marks(list, marks, slices);
-    columns < (chains / WAITING * 2) as u64
 }
 
 // The slices of a taken set: the first slice of each run over the front of `starts`, and how many there are; or 27.
@@ -112,11 +97,9 @@ fn cut_slices(taken: Taken, set: &[u8], k: usize, starts: &mut [u64]) -> Slices
     let spread = taken.spread;
     let mut words = chains::all_words(spread);
     let table = unclocking::eight_back(register);
-    let few = are_few(set, marks, slices, chains);
     pass_slices(
         register,
         &table,
-        few,
         set,
         marks,
         slices,

@@ -1,16 +1,19 @@
 -- A register raised to 64 bits: the tap word and all words moved up so that the highest bit is bit 63. It goes as the narrower one does, and its
 -- columns moved down are that one's (columns_lowered). Assumes nothing.
 use mathlib.Core.Path.{◌≡◌, refl, sym, ap, ap₂, ◌∙◌, subst}
-use mathlib.Core.Bool.{false}
-use mathlib.Core.List.{List, ◌++◌, map, map-append}
+use mathlib.Core.Bool.{Bool, false, ◌||◌}
+use mathlib.Core.List.{List, [], ◌∷◌, ◌++◌, map, map-append}
 use Prim.Native.Nat.{ℕ, zero, suc, ◌+◌, ◌-◌, ◌*◌, ◌/◌, ◌%◌, ◌^◌, ◌≤◌, ◌<◌, min}
 use native.Mathlib.Omega.{arith}
 use native.Mathlib.Nat.{zero-mul, mul_comm, mul_assoc, mul-mod_left, mod-eq_of_lt}
+use borrow.Author.Tests.{ltb-false}
 use lib.Bits.{bit_xor}
-use lib.ListN.{length, get_or, length-map, get_or-map}
+use lib.Dec.{ltb}
+use lib.ListN.{length, take, get_or, length-map, get_or-map}
 use lib.Pow.{shl_lt, shl-shr, shr-shr, mod-pow-add}
-use Rattle.word.specs.Word.{digit}
-use Rattle.word.proofs.WordLaws.{xor_scaled}
+use Rattle.word.specs.Word.{digit, beyond}
+use Rattle.word.proofs.BoolLaws.{or_false_left, or_false_right}
+use Rattle.word.proofs.WordLaws.{xor_scaled, within}
 use Rattle.chains.specs.Driven.{chosen, bad_spread}
 use Rattle.chains.proofs.Laws.{good_spread}
 use Rattle.register.specs.Circuit.{Circuit, circuit, chains, advanced}
@@ -83,39 +86,58 @@ module _ (m c : ℕ) (some : 1 ≤ m) (sum : m + c ≡ 64) where
       pub columns_lowered : map (λ w. w / 2 ^ c) (columns_below raised s u s) ≡ columns_below narrow s u s
       columns_lowered = lowered_below s (omega arith)
 
--- ---- good spread words
+-- ---- the spread words of a taken set
 
-module _ (m c : ℕ) (ws : List ℕ) (sum : m + c ≡ 64) where
+map_take : (f : ℕ → ℕ) (n : ℕ) (l : List ℕ) → take n (map f l) ≡ map f (take n l)
+map_take f zero l = refl
+map_take f (suc n) [] = refl
+map_take f (suc n) (x ∷ l) = ap (λ (y : List ℕ). f x ∷ y) (map_take f n l)
+
+module _ (m c n : ℕ) (spread : List ℕ) (sum : m + c ≡ 64) where
+  pub raised_length : length (take n (map (λ w. w * 2 ^ c % 2 ^ 64) spread)) ≡ length (take n spread)
+  raised_length = ap length (map_take (λ w. w * 2 ^ c % 2 ^ 64) n spread) ∙ length-map (take n spread) (λ w. w * 2 ^ c % 2 ^ 64)
+
   -- nothing is lost
-  raised_whole : (w : ℕ) → w < 2 ^ m → w * 2 ^ c % 2 ^ 64 ≡ w * 2 ^ c
+  pub raised_whole : (w : ℕ) → w < 2 ^ m → w * 2 ^ c % 2 ^ 64 ≡ w * 2 ^ c
   raised_whole w h = ap (λ (x : ℕ). w * 2 ^ c % 2 ^ x) (sym sum) ∙ mod-eq_of_lt (shl_lt m c h)
 
-  raised_words : bad_spread m ws ≡ false → (i : ℕ) → get_or (map (λ w. w * 2 ^ c % 2 ^ 64) ws) i 0 ≡ get_or ws i 0 * 2 ^ c
+  pub raised_words : bad_spread m (take n spread) ≡ false → (i : ℕ) → get_or (take n (map (λ w. w * 2 ^ c % 2 ^ 64) spread)) i 0 ≡ get_or (take n spread) i 0 * 2 ^ c
   raised_words good i =
       let none : 0 ≡ 0 * 2 ^ c % 2 ^ 64 = sym (ap (λ (x : ℕ). x % 2 ^ 64) (zero-mul (2 ^ c))) in
-      ap (get_or (map (λ w. w * 2 ^ c % 2 ^ 64) ws) i) none
-      ∙ get_or-map (λ w. w * 2 ^ c % 2 ^ 64) ws i 0
-      ∙ raised_whole (get_or ws i 0) (good_spread m ws good i)
+      ap (λ (l : List ℕ). get_or l i 0) (map_take (λ w. w * 2 ^ c % 2 ^ 64) n spread)
+      ∙ ap (get_or (map (λ w. w * 2 ^ c % 2 ^ 64) (take n spread)) i) none
+      ∙ get_or-map (λ w. w * 2 ^ c % 2 ^ 64) (take n spread) i 0
+      ∙ raised_whole (get_or (take n spread) i 0) (good_spread m (take n spread) good i)
 
--- the columns of a register of m bits, from those of the raised one
-pub lowered_columns : (m taps v mr tr vr : ℕ) (ws raised : List ℕ) (s : ℕ) (u : Response) → 1 ≤ m → m < 64 → mr ≡ 64 → tr ≡ taps * 2 ^ (64 - m) % 2 ^ 64
-    → raised ≡ map (λ w. w * 2 ^ (64 - m) % 2 ^ 64) ws → taps < 2 ^ min m 64 → bad_spread (min m 64) ws ≡ false
-    → map (λ w. w / 2 ^ (64 - m)) (columns_below (circuit (min mr 64) tr vr raised) s u s) ≡ columns_below (circuit (min m 64) taps v ws) s u s
-lowered_columns m taps v mr tr vr ws raised s u some few em et er ht good =
-    ap₂ (λ (x y : ℕ). map (λ w. w / 2 ^ c) (columns_below (circuit x y vr raised) s u s)) full (et ∙ raised_whole m c ws sum taps (subst (λ (x : ℕ). taps < 2 ^ x) own ht))
-    ∙ ap (λ (l : List ℕ). map (λ w. w / 2 ^ c) (columns_below (circuit 64 (taps * 2 ^ c) vr l) s u s)) er
-    ∙ columns_lowered m c some sum taps v vr ws (map (λ w. w * 2 ^ c % 2 ^ 64) ws) (length-map ws (λ w. w * 2 ^ c % 2 ^ 64))
-    (raised_words m c ws sum (ap (λ (x : ℕ). bad_spread x ws) (sym own) ∙ good)) s u
-    ∙ ap (λ (x : ℕ). columns_below (circuit x taps v ws) s u s) (sym own)
+-- the columns of a taken set: its width counts as at most 64
+pub lowered_taken : (m taps v n width mr tr vr : ℕ) (spread raised : List ℕ) (s : ℕ) (u : Response) → width ≡ min m 64 → 1 ≤ m → taps < 2 ^ min m 64
+    → bad_spread (min m 64) (take n spread) ≡ false → raised ≡ map (λ w. w * 2 ^ (64 - width) % 2 ^ 64) spread → mr ≡ 64
+    → tr ≡ taps * 2 ^ (64 - width) % 2 ^ 64
+    → map (λ w. w / 2 ^ (64 - width)) (columns_below (circuit (min mr 64) tr vr (take n raised)) s u s) ≡ columns_below (circuit (min m 64) taps v (take n spread)) s u s
+lowered_taken m taps v n width mr tr vr spread raised s u ew hm ht good er em et =
+    ap₂ (λ (x y : ℕ). map (λ w. w / 2 ^ c) (columns_below (circuit x y vr (take n raised)) s u s)) full (et ∙ raised_whole (min m 64) c n spread sum taps ht)
+    ∙ ap (λ (l : List ℕ). map (λ w. w / 2 ^ c) (columns_below (circuit 64 (taps * 2 ^ c) vr (take n l)) s u s)) er
+    ∙ columns_lowered (min m 64) c some sum taps v vr (take n spread) (take n (map (λ w. w * 2 ^ c % 2 ^ 64) spread))
+    (raised_length (min m 64) c n spread sum) (raised_words (min m 64) c n spread sum good) s u
   where
     c : ℕ
-    c = 64 - m
+    c = 64 - width
 
-    sum : m + c ≡ 64
+    sum : min m 64 + c ≡ 64
     sum = omega arith
 
-    own : min m 64 ≡ m
-    own = omega arith
+    some : 1 ≤ min m 64
+    some = omega arith
 
     full : min mr 64 ≡ 64
     full = omega arith
+
+-- the test for it
+pub raisable : (m taps width : ℕ) (past bad r : Bool) → width ≡ min m 64 → past ≡ beyond width taps → r ≡ bad
+    → ((ltb width 1 || past) || r) ≡ false → (1 ≤ m) × (taps < 2 ^ min m 64) × (bad ≡ false)
+raisable m taps width past bad r ew ep er e =
+    let both = or_false_left (ltb width 1 || past) r e in (
+      omega (arith, ltb-false width 1 (or_false_left (ltb width 1) past both)),
+      subst (λ (x : ℕ). taps < 2 ^ x) ew (within width taps (sym ep ∙ or_false_right (ltb width 1) past both)),
+      sym er ∙ or_false_right (ltb width 1 || past) r e,
+    )

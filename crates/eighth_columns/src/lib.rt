@@ -1,75 +1,92 @@
-// Columns by eights: from the last slice to the first, each from its chain's word after whole eights of clocks, by a table of 8 clocks of a register
-// raised to 64 bits. It sees the table, and the marked words of a row some clocks later. The public function is total.
-ghost use Rattle.std.specs.Prelude.{◌≡◌, false, List, map, ℕ, ◌-◌, ◌*◌, ◌/◌, ◌%◌, ◌^◌, ◌≤◌, ◌<◌, min, length};
+// Columns by eights: from the last slice to the first, with all the chains' words advanced by 8 clocks for every eighth slice, and those of
+// marked cells by the clocks between, in a register raised to 64 bits. It sees the table of 8 clocks, the marked words of a row, a taken set
+// and the sweep. The public function is total.
+ghost use Rattle.std.specs.Prelude.{◌≡◌, cond, false, map, ◌-◌, ◌*◌, ◌/◌, ◌%◌, ◌^◌, ◌≤◌, ◌<◌, min, eqb, length, take};
+ghost use Rattle.rows.specs.Row.{cell};
+ghost use Rattle.rows.specs.Marks.{marked_words};
 ghost use Rattle.rows.specs.Lists.{cells_of};
 ghost use Rattle.chains.specs.Driven.{bad_spread};
-ghost use Rattle.register.specs.Circuit.{Circuit, circuit};
 ghost use Rattle.marked_words.specs.Back.{back};
-ghost use Rattle.signatures.specs.Later.{later};
+ghost use Rattle.set_file.specs.Reading.{taken_circuit};
 ghost use Rattle.signatures.specs.Columns.{columns_below};
-ghost use Rattle.eight_clocks.specs.Eight.{EightOn};
+ghost use Rattle.eight_clocks.specs.Eight.{looked_on};
 
 use register::Register;
 use rows::Rows;
+use set_file::Taken;
 
-// The chains' words for a slice that `whole` eights of clocks follow, from those after `held` of these: they are advanced by one eight more, by
-// the table, unless each column is to be advanced by itself. Answers with how many eights the words then have behind them.
-fn pass_slice(table: &[u64; 256], each: bool, whole: u16, held: u16, words: &mut [u64]) -> u16
-    ensures few { held ≤ whole → result ≤ whole }
-    ensures words { (k : Circuit) (ws : List ℕ) → k.width ≡ 64 → EightOn k table.now → words.old ≡ map (later k (8 * held)) ws → words.new ≡ map (later k (8 * result)) ws }
-{
-    if each | (whole <= held) {
-        return held;
-    }
-    eight_clocks::advance_eight(64, table, words);
-    held + 1
-}
-
-// Writes the columns over the end of the list, for a register of 64 bits. It goes from the last slice, whose columns are the spread words, to the
-// first. Answers with how many places stand before them.
-fn fill_wide(
+// The columns of a row's marked cells over the end of the list, for a slice that so many clocks follow, where `words` are the chains' words after
+// the whole eights of these: the words are listed, and then advanced by the clocks between. Answers with how many places stand before them.
+// Where the list is shorter than the columns, the first of them are lost.
+fn list_slice(
     register: Register,
-    each: bool,
-    words: &mut [u64],
-    s: u16,
-    list: &[u8],
-    marks: Rows,
+    table: &[u64; 256],
+    row: &[u8],
+    clocks: u16,
+    words: &[u64],
     columns: &mut [u64],
 ) -> usize
-    requires { 64 ≤ register.m }
-    ensures place { result ≡ length columns.old - length (columns_below (circuit (min register.m 64) register.taps register.inversion words.old) s (cells_of list.now marks) s) }
-    ensures list { columns.new ≡ back (columns_below (circuit (min register.m 64) register.taps register.inversion words.old) s (cells_of list.now marks) s) columns.old }
+    ensures place { result ≡ length columns.old - length (marked_words words.now (cell row.now) (length words.now)) }
+    ensures list { columns.new ≡ back (map (looked_on (min register.m 64) table.now (clocks % 8)) (marked_words words.now (cell row.now) (length words.now))) columns.old }
 {
+    let place = marked_words::list_row(columns, words, row);
+    eight_clocks::advance_few(register.m, clocks, table, &mut columns[place..]);
+    place
+}
+
+// The chains' words for the slice before one that so many clocks follow, from those for it: eight slices share their words, and past the last of
+// these they are advanced by 8 clocks, by the table.
+fn pass_slice(register: Register, table: &[u64; 256], clocks: u16, words: &mut [u64])
+    ensures { words.new ≡ cond (eqb (clocks % 8) 7) (map (looked_on (min register.m 64) table.now 8) words.old) words.old }
+{
+    if clocks % 8 == 7 {
+        eight_clocks::advance_eight(register.m, table, words);
+    }
+}
+
+// Writes the columns over the end of the list, for a register of at least 8 bits. It goes from the last slice, whose columns are the spread
+// words, to the first. Answers with how many places stand before them.
+fn fill_wide(taken: Taken, list: &[u8], marks: Rows, columns: &mut [u64]) -> usize
+    requires { 8 ≤ taken.register.m }
+    ensures place { result ≡ length columns.old - length (columns_below (taken_circuit taken) (min taken.s 512) (cells_of list.now marks) (min taken.s 512)) }
+    ensures list { columns.new ≡ back (columns_below (taken_circuit taken) (min taken.s 512) (cells_of list.now marks) (min taken.s 512)) columns.old }
+{
+    let register = taken.register;
+    let chains = register::chain_limit(taken.n);
+    let spread = taken.spread;
+    let mut words = chains::all_words(spread);
     let table = eight_clocks::eight_on(register);
+    let slices = register::slice_limit(taken.s);
     let mut place = columns.len();
-    let mut held: u16 = 0;
-    let mut t = s;
+    let mut t = slices;
     while 0 < t {
-        let clocks = s - t;
+        let clocks = slices - t;
         t -= 1;
-        held = pass_slice(&table, each, clocks / 8, held, words);
-        place = looked_words::list_later(
-            &mut columns[..place],
+        place = list_slice(
+            register,
             &table,
-            clocks,
-            held,
-            words,
             rows::row_of(list, marks, t),
+            clocks,
+            &words[..chains],
+            &mut columns[..place],
         );
+        pass_slice(register, &table, clocks, &mut words[..chains]);
     }
     place
 }
 
-// Moves the words up by so many places.
-fn raise_words(shift: u64, words: &mut [u64])
+// The words moved up by so many places.
+fn raise_words(shift: u64, words: [u64; 256]) -> [u64; 256]
     requires { shift < 64 }
-    ensures { words.new ≡ map (λ w. w * 2 ^ shift % 2 ^ 64) words.old }
+    ensures { result ≡ map (λ w. w * 2 ^ shift % 2 ^ 64) words }
 {
-    let mut c = 0;
-    while c < words.len() {
-        words[c] = words[c] << shift;
+    let mut raised = chains::all_words(words);
+    let mut c: usize = 0;
+    while c < 256 {
+        raised[c] = raised[c] << shift;
         c += 1;
     }
+    raised
 }
 
 // Moves the words down by so many places.
@@ -84,48 +101,41 @@ fn lower_words(shift: u64, words: &mut [u64])
     }
 }
 
-// Writes the columns over the end of the list, for a tap word and spread words without a bit at or above the width, which is below 64. They are
-// made in a register of 64 bits, with each bit as far from the top as it stands in the narrower one, and then moved down: so the bits that
-// leave it are always the highest of a word, and no mask is needed.
-fn fill_raised(
-    register: Register,
-    each: bool,
-    words: &mut [u64],
-    s: u16,
-    list: &[u8],
-    marks: Rows,
-    columns: &mut [u64],
-)
-    requires { (1 ≤ register.m) × (register.m < 64) }
-    ensures { register.taps < 2 ^ min register.m 64 → bad_spread (min register.m 64) words.old ≡ false → columns.new ≡ back (columns_below (circuit (min register.m 64) register.taps register.inversion words.old) s (cells_of list.now marks) s) columns.old }
+// Writes the columns over the end of the list, for a tap word and spread words without a bit at or above the width. They are made in a register
+// of 64 bits, with each bit as far from the top as it stands in the narrower one, and then moved down: so the bits that leave it are always
+// the highest of a word, and no mask is needed.
+fn fill_raised(taken: Taken, list: &[u8], marks: Rows, columns: &mut [u64])
+    requires le_m { 1 ≤ taken.register.m }
+    requires taps_bound { taken.register.taps < 2 ^ min taken.register.m 64 }
+    requires spread_value { bad_spread (min taken.register.m 64) (take taken.n taken.spread) ≡ false }
+    ensures { columns.new ≡ back (columns_below (taken_circuit taken) (min taken.s 512) (cells_of list.now marks) (min taken.s 512)) columns.old }
 {
-    let shift = 64 - register.m;
-    raise_words(shift, words);
-    let raised = Register::fresh(64, register.taps << shift, 0);
-    let place = fill_wide(raised, each, words, s, list, marks, columns);
+    let shift = 64 - register::width_limit(taken.register.m);
+    let words = taken.spread;
+    let spread = raise_words(shift, words);
+    let register = Register::fresh(64, taken.register.taps << shift, 0);
+    let n = taken.n;
+    let s = taken.s;
+    let raised = Taken {
+        register,
+        n,
+        s,
+        spread,
+    };
+    let place = fill_wide(raised, list, marks, columns);
     lower_words(shift, &mut columns[place..]);
 }
 
-// Writes the columns of the marked cells over the end of the list, as `swept_columns::fill_swept` does, by eights of clocks, for a register of at
-// least 1 bit and a tap word and spread words as a taken set has them: all the words are advanced by 8 clocks for every eighth slice, or each
-// column by itself. It meets no number.
-pub fn fill_by_eights(
-    register: Register,
-    each: bool,
-    words: &mut [u64],
-    s: u16,
-    list: &[u8],
-    marks: Rows,
-    columns: &mut [u64],
-)
-    ensures { 1 ≤ register.m → register.taps < 2 ^ min register.m 64 → bad_spread (min register.m 64) words.old ≡ false → columns.new ≡ back (columns_below (circuit (min register.m 64) register.taps register.inversion words.old) s (cells_of list.now marks) s) columns.old }
+// Writes the columns of the marked cells over the end of the list, as `swept_columns::fill_swept` does, by eights of clocks; where the tap word or a
+// spread word isn't a taken set's, by a sweep. It meets no number.
+pub fn fill_by_eights(taken: Taken, list: &[u8], marks: Rows, columns: &mut [u64])
+    ensures { columns.new ≡ back (columns_below (taken_circuit taken) (min taken.s 512) (cells_of list.now marks) (min taken.s 512)) columns.old }
 {
-    if 64 <= register.m {
-        fill_wide(register, each, words, s, list, marks, columns);
+    let width = register::width_limit(taken.register.m);
+    let taps = taken.register.taps;
+    if (width < 1) | word::is_beyond(width, taps) | sparse_columns::has_bad_word(taken) {
+        swept_columns::fill_swept(taken, list, marks, columns);
         return;
     }
-    if register.m == 0 {
-        return;
-    }
-    fill_raised(register, each, words, s, list, marks, columns);
+    fill_raised(taken, list, marks, columns);
 }

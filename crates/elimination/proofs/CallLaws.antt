@@ -20,7 +20,7 @@ use Rattle.elimination.specs.declared.Eliminated.{Eliminated}
 use Rattle.elimination.specs.declared.Eliminated.TheVariants.{Done, Refused}
 use Rattle.combinations.proofs.Theorems.{kept_list, words_and_rank, only_empty_list}
 use Rattle.elimination.proofs.Theorems.{reply_2, reply_15, reply_17, reply_18, reply_done}
-use Rattle.combinations.proofs.Units.{length_units}
+use Rattle.combinations.proofs.Units.{length_units, units_front}
 
 -- what the call answers, e, and leaves in the list l, l'
 abbrev pub Ends : ℕ → List ℕ → List ℕ → Eliminated → List ℕ → Type 0
@@ -73,21 +73,18 @@ ends_done m cs l l' from q g n h e w =
 
 -- ---- the words that the steps leave
 
-pub width_inside : (m : ℕ) (b : Bool) (held : List ℕ) → b ≡ bad_width m → b ≡ false → held ≡ units 64 → m ≤ length held
-width_inside m b held w f e = omega (arith, (good_width m (sym w ∙ f)).1, ap length e, length_units 64)
-
-pub part_few : (m : ℕ) (b : Bool) (held : List ℕ) → b ≡ bad_width m → b ≡ false → held ≡ units 64 → length (take m held) ≤ 64
-part_few m b held w f e = omega (arith, (good_width m (sym w ∙ f)).1, length-take-le m held (width_inside m b held w f e))
-
-steps_kept : (m : ℕ) (cs held : List ℕ) → bad_width m ≡ false → held ≡ units 64 → steps cs (units (length (take m held))) ≡ reduced_list m cs
+steps_kept : (m : ℕ) (cs held : List ℕ) → bad_width m ≡ false → held ≡ units 64 → steps cs (take m held) ≡ reduced_list m cs
 steps_kept m cs held w e =
-    ap (λ (n : ℕ). steps cs (units n)) (length-take-le m held (width_inside m false held (sym w) refl e)) ∙ sym (kept_list m cs)
+    ap (steps cs) (ap (take m) e ∙ units_front m (good_width m w).1) ∙ sym (kept_list m cs)
 
 pub kept_most : (m : ℕ) (cs : List ℕ) (q : ℕ) → Kept m cs q → q ≤ m
 kept_most m cs q g = omega (arith, words_and_rank m cs g.columns, g.count)
 
+pub width_inside : (m : ℕ) (b : Bool) (held : List ℕ) → b ≡ bad_width m → b ≡ false → held ≡ units 64 → m ≤ length held
+width_inside m b held w f e = omega (arith, (good_width m (sym w ∙ f)).1, ap length e, length_units 64)
+
 pub kept_of : (m : ℕ) (cs held : List ℕ) (b d : Bool) (q : ℕ) → b ≡ bad_width m → b ≡ false → d ≡ any_of (beyond m) cs → d ≡ false → held ≡ units 64
-    → q ≡ length (steps cs (units (length (take m held)))) → Kept m cs q
+    → q ≡ length (steps cs (take m held)) → Kept m cs q
 kept_of m cs held b d q w f x g e h =
     let width = sym w ∙ f in
     record { width = width; columns = sym x ∙ g; count = h ∙ ap length (steps_kept m cs held width e) }
@@ -100,7 +97,7 @@ part_long m cs held part q g e h =
 pub held_long : (m : ℕ) (cs held part : List ℕ) (q : ℕ) → Kept m cs q → held ≡ units 64 → length part ≡ length (take m held) → q ≤ length (part ++ drop m held)
 held_long m cs held part q g e h = omega (arith, part_long m cs held part q g e h, length-append part (drop m held))
 
-pub kept_words : (m : ℕ) (cs held part : List ℕ) (q : ℕ) → Kept m cs q → held ≡ units 64 → length part ≡ length (take m held) → take q part ≡ steps cs (units (length (take m held)))
+pub kept_words : (m : ℕ) (cs held part : List ℕ) (q : ℕ) → Kept m cs q → held ≡ units 64 → length part ≡ length (take m held) → take q part ≡ steps cs (take m held)
     → take q (part ++ drop m held) ≡ reduced_list m cs
 kept_words m cs held part q g e h t =
     take-append-le q part (drop m held) (part_long m cs held part q g e h) ∙ t ∙ steps_kept m cs held g.width e

@@ -63,17 +63,6 @@ fn reduce(held: &mut [u64], columns: &[u64]) -> usize
     reduce_plainly(&mut held[..left], &columns[count..])
 }
 
-// The same from the words of as many single bits as `held` has places, whatever it held.
-fn reduce_units(held: &mut [u64], columns: &[u64]) -> usize
-    requires { length held.old ≤ 64 }
-    ensures { (result ≡ length (steps columns.now (units (length held.old)))) × (take result held.new ≡ steps columns.now (units (length held.old))) }
-{
-    let begun = spread_words::begin_units(held, columns);
-    let count = begun.count;
-    let left = begun.left;
-    reduce_plainly(&mut held[..left], &columns[count..])
-}
-
 // A portion of columns: a list of words that are X-free for some columns becomes the list for those and these. Answers with the number of
 // words left, which stand at the front; the places behind them hold 0.
 pub fn add_columns(words: &mut [u64], columns: &[u64]) -> usize
@@ -149,7 +138,7 @@ pub fn eliminate(m: u64, columns: &[u64], words: &mut [u64]) -> Eliminated
     }
     let width = m as usize;
     let mut held = unit_words();
-    let q = reduce_units(&mut held[..width], columns);
+    let q = reduce(&mut held[..width], columns);
     let rank = width - q;
     if q == 0 {
         return refused(17);

@@ -29,7 +29,7 @@ fn put_last(columns: &mut [u64], word: u64) -> usize
 
 // Writes the words of the chains whose bit in `marks` is 1 over the list's end, from the last chain on, and answers with how many
 // places stand before them. The list may be too short for them.
-pub fn list_from_last(columns: &mut [u64], words: &[u64], marks: u64) -> usize
+fn list_from_last(columns: &mut [u64], words: &[u64], marks: u64) -> usize
     ensures value { result ≡ length columns.old - length (marked_words words.now (bits marks) 64) }
     ensures columns_after { columns.new ≡ back (marked_words words.now (bits marks) 64) columns.old }
 {

@@ -1,2 +1,2 @@
+pub mod SingleLaws
 pub mod TurnLaws
-pub mod TableLaws

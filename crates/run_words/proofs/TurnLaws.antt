@@ -12,7 +12,14 @@ use Rattle.combinations.proofs.Units.{length_units}
 use Rattle.turned_words.specs.Turned.{kept, dead_behind}
 use Rattle.column_basis.specs.Basis.{Basis, Held}
 use Rattle.run_words.specs.Joining.{SlicePut, joined, opened}
-use Rattle.spread_words.proofs.SingleLaws.{singles_held}
+use Rattle.run_words.proofs.SingleLaws.{units_basis, units_held}
+
+-- the words of single bits, and the basis beside them
+pub singles_basis : (basis : List ℕ) (dead : ℕ) → basis ≡ units 64 → Basis basis dead
+singles_basis basis dead e = subst (λ (x : List ℕ). Basis x dead) (sym e) (units_basis dead)
+
+pub singles_held : (basis : List ℕ) (dead m : ℕ) → m ≤ 64 → basis ≡ units 64 → dead ≡ dead_behind m → Held (units m) basis dead
+singles_held basis dead m lm eb ed = rw eb (rw ed (units_held m lm))
 
 -- no run yet: every bit is dead
 pub none_held : (basis : List ℕ) (dead : ℕ) → basis ≡ units 64 → dead ≡ dead_behind 0 → Held [] basis dead
@@ -36,9 +43,9 @@ Counts left dead = (l : List ℕ) → length l ≡ 64 → left ≡ length (kept 
 count_held : (l basis : List ℕ) (dead left : ℕ) → Held l basis dead → Counts left dead → left ≡ length l
 count_held l basis dead left h count = count h.slots h.hold.wide ∙ ap length h.hold.held
 
-pub put_joined : (cs basis : List ℕ) (dead : ℕ) (basis' : List ℕ) (dead' m k left calm : ℕ) (h : List ℕ) → Taken cs basis dead basis' dead' → Held h basis dead
-    → Counts left dead' → k ≤ left → SlicePut cs m k h basis' (record { dead = dead'; left = left; opened = 0; calm = calm })
-put_joined cs basis dead basis' dead' m k left calm h f held count enough =
+pub put_joined : (cs basis : List ℕ) (dead : ℕ) (basis' : List ℕ) (dead' m k left : ℕ) (h : List ℕ) → Taken cs basis dead basis' dead' → Held h basis dead
+    → Counts left dead' → k ≤ left → SlicePut cs m k h basis' (record { dead = dead'; left = left; opened = 0 })
+put_joined cs basis dead basis' dead' m k left h f held count enough =
     let after : Held (steps cs h) basis' dead' = f h held in
     let many : left ≡ length (steps cs h) = count_held (steps cs h) basis' dead' left after count in
     record { words = steps cs h; hold = after; turn = joined (omega (arith, many)) refl many refl }
@@ -46,7 +53,7 @@ put_joined cs basis dead basis' dead' m k left calm h f held count enough =
 -- where the columns brought the basis to basisᵗ first
 pub put_opened : (cs basis : List ℕ) (dead : ℕ) (basisᵗ : List ℕ) (deadᵗ : ℕ) (basis' : List ℕ) (dead' m k tried left : ℕ) (h : List ℕ)
     → Taken cs basis dead basisᵗ deadᵗ → Held h basis dead → Counts tried deadᵗ → tried < k
-    → Held (steps cs (units m)) basis' dead' → Counts left dead' → SlicePut cs m k h basis' (record { dead = dead'; left = left; opened = 1; calm = 0 })
+    → Held (steps cs (units m)) basis' dead' → Counts left dead' → SlicePut cs m k h basis' (record { dead = dead'; left = left; opened = 1 })
 put_opened cs basis dead basisᵗ deadᵗ basis' dead' m k tried left h f held countᵗ fewer after count =
     let less : tried ≡ length (steps cs h) = count_held (steps cs h) basisᵗ deadᵗ tried (f h held) countᵗ in
     record {

@@ -1,16 +1,15 @@
 -- The columns of all slices by the powers of the register, written from the end: the words of a slice's marked chains are written and
 -- then advanced where they stand. Assumes nothing.
 use mathlib.Core.Path.{◌≡◌, refl, sym, ap, ap₂, ◌∙◌}
-use mathlib.Core.Bool.{Bool, false, ◌||◌}
+use mathlib.Core.Bool.{false}
 use mathlib.Core.List.{List, [], ◌∷◌, ◌++◌, map, map-append, append_assoc, append-nil}
 use Prim.Native.Nat.{ℕ, zero, suc, ◌+◌, ◌-◌, ◌*◌, ◌≤◌, ◌<◌, min}
 use native.Mathlib.Nat.{mul-le-mul_left, mul-le-mul_right}
 use native.Mathlib.Omega.{arith}
-use borrow.Author.Tests.{le-ltb, ltb-false}
+use borrow.Author.Tests.{le-ltb}
 use lib.Dec.{ltb}
 use lib.ListN.{length, take, drop, get_or, length-map, length-drop, length-take, drop_of_length-le}
 use lib.Seq.{take_all, drop-drop, take_at, drop_at, take-append-le, drop-append-le, length-take-le}
-use Rattle.word.proofs.BoolLaws.{or_false_left, or_false_right}
 use Rattle.numbers.specs.Joined.{joined}
 use Rattle.rows.specs.Row.{cell}
 use Rattle.rows.specs.Lists.{cells_of}
@@ -230,11 +229,3 @@ many_sweep k n s h =
 pub few_pay : (k n s slices chains : ℕ) → slices ≡ min s 512 → chains ≡ min n 256 → ltb (128 * k + 4 * slices + 256) (slices * chains) ≡ ones_pay k n s
 unfolding ones_pay
 few_pay k n s slices chains es en = ap₂ (λ (x y : ℕ). ltb (128 * k + 4 * x + 256) (x * y)) es en
-
--- the test for spread words of a taken set
-pub few_good : (m width n : ℕ) (ws : List ℕ) (r : Bool) → width ≡ min m 64 → r ≡ bad_spread width ws → (ltb 256 n || r) ≡ false
-    → (n ≤ 256) × (bad_spread (min m 64) ws ≡ false)
-few_good m width n ws r ew er e = (
-  ltb-false 256 n (or_false_left (ltb 256 n) r e),
-  ap (λ (x : ℕ). bad_spread x ws) (sym ew) ∙ sym er ∙ or_false_right (ltb 256 n) r e,
-)

@@ -1,40 +1,35 @@
 // Columns one by one, by the powers of the register: for few of them, each is made from its chain's spread word. It sees the register's
 // powers, the marked words of a row and a taken set.
-ghost use Rattle.std.specs.Prelude.{◌≡◌, false, not, ◌||◌, ◌≤◌, min, length, take};
+ghost use Rattle.std.specs.Prelude.{◌≡◌, false, not, ◌||◌, min, take};
 ghost use Rattle.rows.specs.Lists.{cells_of};
 ghost use Rattle.marked_words.specs.Back.{back};
 ghost use Rattle.chains.specs.Driven.{bad_spread};
-ghost use Rattle.register.specs.Circuit.{circuit};
+ghost use Rattle.set_file.specs.Reading.{taken_circuit};
 ghost use Rattle.signatures.specs.Columns.{columns_below};
 ghost use Rattle.sparse_columns.specs.Cost.{ones_pay};
 
-use register::Register;
 use rows::Rows;
 use set_file::Taken;
 
 // Writes the columns over the end of the list. It goes from the last slice with a marked cell to the one before it, and makes the columns of a
 // slice from the spread words of its marked cells by the powers of the register.
-fn fill_sparse(
-    register: Register,
-    words: &[u64],
-    s: u16,
-    list: &[u8],
-    marks: Rows,
-    columns: &mut [u64],
-)
-    requires words_len_bound { length words.now ≤ 256 }
-    requires words_value { bad_spread (min register.m 64) words.now ≡ false }
-    ensures { columns.new ≡ back (columns_below (circuit (min register.m 64) register.taps register.inversion words.now) (min s 512) (cells_of list.now marks) (min s 512)) columns.old }
+fn fill_sparse(taken: Taken, list: &[u8], marks: Rows, columns: &mut [u64])
+    requires { bad_spread (min taken.register.m 64) (take taken.n taken.spread) ≡ false }
+    ensures { columns.new ≡ back (columns_below (taken_circuit taken) (min taken.s 512) (cells_of list.now marks) (min taken.s 512)) columns.old }
 {
+    let register = taken.register;
     let width = register::width_limit(register.m) as usize;
-    let slices = register::slice_limit(s);
+    let chains = register::chain_limit(taken.n);
+    let words = taken.spread;
+    let spread = chains::all_words(words);
+    let slices = register::slice_limit(taken.s);
     let table = powers::powers(register, slices as usize + width);
     let mut place = columns.len();
     let mut t = marked_rows::marked_end(list, marks, slices);
     while 0 < t {
         t -= 1;
         let row = rows::row_of(list, marks, t);
-        let start = marked_words::list_row(&mut columns[..place], words, row);
+        let start = marked_words::list_row(&mut columns[..place], &spread[..chains], row);
         let from = (slices - 1 - t) as usize;
         let to = from + width;
         powers::power_words(&table[from..to], &mut columns[start..place]);
@@ -81,29 +76,14 @@ pub fn needs_sweep(taken: Taken, count: usize) -> bool
     !ones_pay(count, taken.n, taken.s) | has_bad_word(taken)
 }
 
-// Writes the columns of the marked cells over the end of the list, as `swept_columns::fill_swept` does, for at most 512 slices: one by one where
-// there are at most 256 spread words that are a taken set's. It meets no number.
-pub fn fill_few(
-    register: Register,
-    words: &mut [u64],
-    s: u16,
-    list: &[u8],
-    marks: Rows,
-    columns: &mut [u64],
-)
-    ensures { columns.new ≡ back (columns_below (circuit (min register.m 64) register.taps register.inversion words.old) (min s 512) (cells_of list.now marks) (min s 512)) columns.old }
+// Writes the columns of the marked cells over the end of the list, as `swept_columns::fill_swept` does, one by one where the spread
+// words are a taken set's. It meets no number.
+pub fn fill_few(taken: Taken, list: &[u8], marks: Rows, columns: &mut [u64])
+    ensures { columns.new ≡ back (columns_below (taken_circuit taken) (min taken.s 512) (cells_of list.now marks) (min taken.s 512)) columns.old }
 {
-    let width = register::width_limit(register.m);
-    if (256 < words.len()) | chains::is_bad_spread(width, words) {
-        swept_columns::fill_swept(
-            register,
-            words,
-            register::slice_limit(s),
-            list,
-            marks,
-            columns,
-        );
+    if has_bad_word(taken) {
+        swept_columns::fill_swept(taken, list, marks, columns);
         return;
     }
-    fill_sparse(register, words, s, list, marks, columns);
+    fill_sparse(taken, list, marks, columns);
 }

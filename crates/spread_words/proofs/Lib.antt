@@ -1,4 +1,3 @@
 pub mod SpreadLaws
 pub mod TurnLaws
-pub mod SingleLaws
 pub mod CallLaws

@@ -6,24 +6,21 @@ use Prim.Native.Nat.{ℕ, suc, ◌+◌, ◌*◌, ◌/◌, ◌%◌, ◌^◌, ◌�
 use native.Mathlib.Nat.{zero-mul, one-mul, mod-lt, not-suc-le-zero, lt_of_lt_of_le}
 use native.Mathlib.Decide.{dec_lt, ℕ_discrete}
 use native.Mathlib.Omega.{arith}
-use lib.Bits.{bit_xor, bit_and, and_comm, xor_zero_r, xor_lt}
-use lib.ListN.{length, get_or, set, length-set, get_or-eq_default}
+use lib.Bits.{bit_xor, bit_and, xor_lt}
+use lib.ListN.{length, get_or, get_or-eq_default}
 use lib.Pow.{pow_pos, pow-lt, pow_mono, split}
-use lib.Seq.{get_or-set_same, get_or-set_other}
 use Rattle.word.specs.Word.{digit, parity}
 use Rattle.word.specs.Parities.{parities}
-use Rattle.word.specs.Zeros.{zeros}
-use Rattle.word.proofs.Laws.{bit_cases, mod2_lt, parity_zero, parity_comm, parity_pow, digit_xor, and_pow, parities_lt, parities_digit}
+use Rattle.word.proofs.Laws.{bit_cases, mod2_lt, parity_zero, parity_pow, parity_xor, digit_xor}
 use Rattle.word.proofs.LowestLaws.{digit_past}
-use Rattle.word.proofs.FrontLaws.{length_zeros}
-use Rattle.combinations.proofs.Units.{one_bit}
-use Rattle.turned_words.specs.Turned.{kept, Turns, Transposed}
-use Rattle.turned_words.proofs.TurnedLaws.{plus_none, power_other}
-use Rattle.column_basis.specs.Basis.{Basis, Slots, Held}
-use Rattle.turned_words.proofs.DigitLaws.{same_digits, digit_shared, digit_of_zero}
-use Rattle.column_basis.proofs.BasisLaws.{slot_parity}
-use Rattle.column_basis.proofs.SlotLaws.{power_turned, slot_digit}
-use Rattle.spread_words.specs.Spread.{Spread, OwnBits, DeadBits}
+use Rattle.combinations.specs.Step.{units}
+use Rattle.combinations.proofs.Units.{power_top, one_bit, length_units, units_at}
+use Rattle.turned_words.specs.Turned.{kept, XoredInto}
+use Rattle.column_basis.specs.Basis.{Basis, Held}
+use Rattle.column_basis.proofs.BitLaws.{digit_and, digit_none, digit_chosen}
+use Rattle.turned_words.proofs.TurnedLaws.{power_other}
+use Rattle.column_basis.proofs.BasisLaws.{parity_by_digits}
+use Rattle.spread_words.specs.Spread.{Spread, OwnBits}
 use Rattle.spread_words.proofs.SpreadLaws.{all_ones}
 
 -- ---- the loop of the test
@@ -68,7 +65,7 @@ module _ (ws : List ℕ) (dead : ℕ) (s : Spread ws dead) (o : OwnBits ws dead)
       inside lj =
           let here : digit j (bit_xor dead 18446744073709551615) ≡ 1 = digit_xor j dead 18446744073709551615 ∙ ap₂ (λ (x y : ℕ). (x + y) % 2) b (all_ones j lj) in
           let alike : min (digit j (get_or ws i 0)) (digit j (bit_xor dead 18446744073709551615)) ≡ min (digit j (bit_xor dead 18446744073709551615)) (digit j (2 ^ i)) =
-          sym (digit_shared j (get_or ws i 0) (bit_xor dead 18446744073709551615)) ∙ ap (digit j) (o i li) ∙ digit_shared j (bit_xor dead 18446744073709551615) (2 ^ i) in
+          sym (digit_and j (get_or ws i 0) (bit_xor dead 18446744073709551615)) ∙ ap (digit j) (o i li) ∙ digit_and j (bit_xor dead 18446744073709551615) (2 ^ i) in
           cut (digit j (get_or ws i 0)) (digit j (2 ^ i)) (digit j (bit_xor dead 18446744073709551615)) (mod2_lt (get_or ws i 0 / 2 ^ j)) (mod2_lt (2 ^ i / 2 ^ j)) here alike
         where
           cut : (x y m : ℕ) → x < 2 → y < 2 → m ≡ 1 → min x m ≡ min m y → x ≡ y
@@ -77,36 +74,70 @@ module _ (ws : List ℕ) (dead : ℕ) (s : Spread ws dead) (o : OwnBits ws dead)
       outside : (j < 64 → ⊥) → digit j (get_or ws i 0) ≡ digit j (2 ^ i)
       outside n = digit_past 64 (get_or ws i 0) j (small i) (omega arith) ∙ sym (power_other j i (λ (q : j ≡ i). (let z : ⊥ = omega arith in z)))
 
--- ---- the loop over the places: those before place i have their word, and their own bit where they are dead
+-- ---- the loop over the slots: the dead bits of the words before slot i are turned
 
-pub record Filling (ws us : List ℕ) (dead i : ℕ) : Type 0 where
-  pub inside : i ≤ 64
-  pub wide : length us ≡ 64
-  pub done : (j : ℕ) → j < i → get_or us j 0 ≡ bit_xor (get_or ws j 0) (digit j dead * 2 ^ j)
+pub record TurnedIn (ws basis : List ℕ) (dead i : ℕ) : Type 0 where
+  pub long : length basis ≡ 64
+  pub small : (d : ℕ) → d < 64 → get_or basis d 0 < 2 ^ 64
+  pub done : (d j : ℕ) → d < 64 → j < i → digit j (get_or basis d 0) ≡ (digit j (2 ^ d) + min (digit d (get_or ws j 0)) (digit d dead)) % 2
+  pub rest : (d j : ℕ) → d < 64 → i ≤ j → digit j (get_or basis d 0) ≡ digit j (2 ^ d)
 
-pub filling_start : (ws us : List ℕ) (dead : ℕ) → us ≡ zeros 64 → Filling ws us dead 0
-filling_start ws us dead e = record { inside = omega arith; wide = ap length e ∙ length_zeros 64; done = λ j l. absurd (not-suc-le-zero l) }
-
-pub filling_turn : (ws us : List ℕ) (dead i w : ℕ) → Filling ws us dead i → i < 64 → w ≡ get_or ws i 0
-    → Filling ws (set us i (bit_xor w (bit_and dead ((1 * 2 ^ i) % 18446744073709551616)))) dead (i + 1)
-filling_turn ws us dead i w t li ew =
+pub turned_start : (ws basis : List ℕ) (dead : ℕ) → basis ≡ units 64 → TurnedIn ws basis dead 0
+turned_start ws basis dead e =
     record {
-      inside = omega arith;
-      wide = length-set us i new ∙ t.wide;
-      done = λ j l. dite (ℕ_discrete j i) (here j) (λ (n : j ≡ i → ⊥). get_or-set_other us i j new 0 n ∙ t.done j (omega arith));
+      long = ap length e ∙ length_units 64;
+      small = λ d ld. subst (λ (x : ℕ). x < 2 ^ 64) (sym (unit d ld)) (pow-lt ld);
+      done = λ d j ld l. absurd (not-suc-le-zero l);
+      rest = λ d j ld l. ap (digit j) (unit d ld);
     }
   where
-    new : ℕ
-    new = bit_xor w (bit_and dead ((1 * 2 ^ i) % 18446744073709551616))
+    unit : (d : ℕ) → d < 64 → get_or basis d 0 ≡ 2 ^ d
+    unit d ld = ap (λ (l : List ℕ). get_or l d 0) e ∙ units_at 64 d ld
 
-    here : (j : ℕ) → j ≡ i → get_or (set us i new) j 0 ≡ bit_xor (get_or ws j 0) (digit j dead * 2 ^ j)
-    here j q =
-        ap (λ (k : ℕ). get_or (set us i new) k 0) q ∙ get_or-set_same us i new 0 (omega (arith, t.wide))
-        ∙ ap₂ bit_xor ew (ap (bit_and dead) (one_bit i li) ∙ and_comm dead (2 ^ i) ∙ and_pow i dead)
-        ∙ ap (λ (k : ℕ). bit_xor (get_or ws k 0) (digit k dead * 2 ^ k)) (sym q)
+pub turned_turn : (ws basis basis' : List ℕ) (dead i w : ℕ) → TurnedIn ws basis dead i → i < 64 → w ≡ get_or ws i 0
+    → XoredInto basis basis' (bit_and w dead) ((1 * 2 ^ i) % 18446744073709551616) → TurnedIn ws basis' dead (i + 1)
+turned_turn ws basis basis' dead i w t li ew x =
+    record {
+      long = x.long ∙ t.long;
+      small = λ d ld. subst (λ (y : ℕ). y < 2 ^ 64) (sym (word d ld)) (xor_lt 64 (get_or basis d 0) (m d * 2 ^ i) (t.small d ld) (chosen_below (m d) (mod2_lt (bit_and w dead / 2 ^ d))));
+      done = λ d j ld l. word_digit d j ld ∙ dite (ℕ_discrete j i) (here d j ld) (λ (n : j ≡ i → ⊥). other d j n ∙ t.done d j ld (omega arith));
+      rest = λ d j ld l. word_digit d j ld ∙ other d j (λ (q : j ≡ i). (let z : ⊥ = omega arith in z)) ∙ t.rest d j ld (omega arith);
+    }
+  where
+    m : ℕ → ℕ
+    m d = digit d (bit_and w dead)
 
-pub filling_end : (ws us : List ℕ) (dead i : ℕ) → Filling ws us dead i → 64 ≤ i → DeadBits ws us dead
-filling_end ws us dead i t h = record { wide = t.wide; each = λ j lj. t.done j (omega arith) }
+    pi : 2 ^ i < 2 ^ 64
+    pi = pow-lt li
+
+    chosen_below : (y : ℕ) → y < 2 → y * 2 ^ i < 2 ^ 64
+    chosen_below y hy =
+        ⊎_elim (λ (z : y ≡ 0). subst (λ (u : ℕ). u * 2 ^ i < 2 ^ 64) (sym z) (omega (arith, zero-mul (2 ^ i))))
+        (λ (z : y ≡ 1). subst (λ (u : ℕ). u * 2 ^ i < 2 ^ 64) (sym z) (omega (arith, one-mul (2 ^ i), pi))) (bit_cases y hy)
+
+    word : (d : ℕ) → d < 64 → get_or basis' d 0 ≡ bit_xor (get_or basis d 0) (m d * 2 ^ i)
+    word d ld = x.each d (omega (arith, t.long)) ∙ ap (λ (y : ℕ). bit_xor (get_or basis d 0) (m d * y)) (one_bit i li)
+
+    word_digit : (d j : ℕ) → d < 64 → digit j (get_or basis' d 0) ≡ (digit j (get_or basis d 0) + m d * digit j (2 ^ i)) % 2
+    word_digit d j ld =
+        ap (digit j) (word d ld) ∙ digit_xor j (get_or basis d 0) (m d * 2 ^ i)
+        ∙ ap (λ (q : ℕ). (digit j (get_or basis d 0) + q) % 2) (digit_chosen j (m d) (2 ^ i) (mod2_lt (bit_and w dead / 2 ^ d)))
+
+    other : (d j : ℕ) → (j ≡ i → ⊥) → (digit j (get_or basis d 0) + m d * digit j (2 ^ i)) % 2 ≡ digit j (get_or basis d 0)
+    other d j n = ap (λ (v : ℕ). (digit j (get_or basis d 0) + m d * v) % 2) (power_other j i n) ∙ only (digit j (get_or basis d 0)) (m d) (mod2_lt (get_or basis d 0 / 2 ^ j))
+      where
+        only : (y u : ℕ) → y < 2 → (y + u * 0) % 2 ≡ y
+        only y u h = omega arith
+
+    here : (d j : ℕ) → d < 64 → j ≡ i → (digit j (get_or basis d 0) + m d * digit j (2 ^ i)) % 2 ≡ (digit j (2 ^ d) + min (digit d (get_or ws j 0)) (digit d dead)) % 2
+    here d j ld q =
+        ap (λ (k : ℕ). (digit k (get_or basis d 0) + m d * digit k (2 ^ i)) % 2) q
+        ∙ ap₂ (λ (u v : ℕ). (u + m d * v) % 2) (t.rest d i ld (omega arith)) (ap (λ (y : ℕ). y % 2) (power_top i))
+        ∙ ap (λ (v : ℕ). (digit i (2 ^ d) + v) % 2) (times_one (m d) ∙ digit_and d w dead ∙ ap (λ (y : ℕ). min (digit d y) (digit d dead)) ew)
+        ∙ ap (λ (k : ℕ). (digit k (2 ^ d) + min (digit d (get_or ws k 0)) (digit d dead)) % 2) (sym q)
+      where
+        times_one : (y : ℕ) → y * 1 ≡ y
+        times_one y = omega arith
 
 -- ---- the basis
 
@@ -115,34 +146,97 @@ unfolding parities
 parities_none [] y h = refl
 parities_none (w ∷ ws) y h = ap₂ (λ (a b : ℕ). a + 2 * b) (h 0 (omega arith)) (parities_none ws y (λ i l. h (suc i) (omega arith)))
 
-module _ (ws us basis : List ℕ) (dead : ℕ) (s : Spread ws dead) (o : OwnBits ws dead) (f : DeadBits ws us dead) (t : Transposed us basis) (dead-small : dead < 2 ^ 64) where
-  alive_word : (j : ℕ) → j < 64 → digit j dead ≡ 0 → get_or us j 0 ≡ get_or ws j 0
-  alive_word j lj a = f.each j lj ∙ ap (λ (x : ℕ). bit_xor (get_or ws j 0) (x * 2 ^ j)) a ∙ ap (bit_xor (get_or ws j 0)) (zero-mul (2 ^ j)) ∙ xor_zero_r (get_or ws j 0)
+module _ (ws basis : List ℕ) (dead : ℕ) (s : Spread ws dead) (o : OwnBits ws dead) (t : TurnedIn ws basis dead 64) where
+  bit : (d j : ℕ) → d < 64 → digit d dead ≡ 1 → j < 64 → digit j (get_or basis d 0) ≡ (digit j (2 ^ d) + digit d (get_or ws j 0)) % 2
+  bit d j ld e lj =
+      t.done d j ld lj ∙ ap (λ (x : ℕ). (digit j (2 ^ d) + x) % 2) (cut (digit d (get_or ws j 0)) (digit d dead) (mod2_lt (get_or ws j 0 / 2 ^ d)) e)
+    where
+      cut : (x m : ℕ) → x < 2 → m ≡ 1 → min x m ≡ x
+      cut x m h e = omega arith
 
-  dead_word : (j : ℕ) → j < 64 → digit j dead ≡ 1 → get_or us j 0 ≡ 2 ^ j
-  dead_word j lj e = f.each j lj ∙ ap₂ (λ (w x : ℕ). bit_xor w (x * 2 ^ j)) (s.gone j e) e ∙ one-mul (2 ^ j)
+  bit_own : (d : ℕ) → d < 64 → digit d dead ≡ 1 → digit d (get_or basis d 0) ≡ 1
+  bit_own d ld e =
+      bit d d ld e ld ∙ ap₂ (λ (x y : ℕ). (x + y) % 2) (ap (λ (x : ℕ). x % 2) (power_top d)) (ap (digit d) (s.gone d e) ∙ digit_none d)
 
-  inside : (j : ℕ) → digit j dead ≡ 1 → j < 64
-  inside j e = dite (dec_lt j 64) (λ (l : j < 64). l) (λ (n : j < 64 → ⊥). (let z : ⊥ = omega (arith, e, digit_past 64 dead j dead-small (omega arith)) in absurd z))
+  -- the bit of another slot
+  bit_other : (d j : ℕ) → d < 64 → digit d dead ≡ 1 → j < 64 → (j ≡ d → ⊥) → digit j (get_or basis d 0) ≡ digit d (get_or ws j 0)
+  bit_other d j ld e lj n =
+      bit d j ld e lj ∙ ap (λ (x : ℕ). (x + digit d (get_or ws j 0)) % 2) (power_other j d n) ∙ only (digit d (get_or ws j 0)) (mod2_lt (get_or ws j 0 / 2 ^ d))
+    where
+      only : (x : ℕ) → x < 2 → (0 + x) % 2 ≡ x
+      only x h = omega arith
 
-  alone : (d g : ℕ) → d < 64 → digit d dead ≡ 1 → digit g dead ≡ 1 → digit g (get_or basis d 0) ≡ digit g (2 ^ d)
-  alone d g ld e h = t.each d g ld (inside g h) ∙ ap (digit d) (dead_word g (inside g h) h) ∙ power_turned d g
+  even_slot : (d i : ℕ) → d < 64 → digit d dead ≡ 1 → i < 64 → digit i dead ≡ 0 → parity (get_or ws i 0) (get_or basis d 0) ≡ 0
+  even_slot d i ld e li a =
+      parity_by_digits (get_or ws i 0) two (get_or basis d 0) (small ws dead s o i) (xor_lt 64 (2 ^ i) (x * 2 ^ d) pi xs) (t.small d ld) (λ j lj one. sym (agree j lj one))
+      ∙ parity_xor (2 ^ i) (x * 2 ^ d) (get_or basis d 0)
+      ∙ ap₂ (λ (p q : ℕ). (p + q) % 2) (parity_pow i (get_or basis d 0) ∙ bit_other d i ld e li apart) (chosen_parity x (mod2_lt (get_or ws i 0 / 2 ^ d)))
+      ∙ twice x
+    where
+      x : ℕ
+      x = digit d (get_or ws i 0)
+
+      two : ℕ
+      two = bit_xor (2 ^ i) (x * 2 ^ d)
+
+      pi : 2 ^ i < 2 ^ 64
+      pi = pow-lt li
+
+      pd : 2 ^ d < 2 ^ 64
+      pd = pow-lt ld
+
+      chosen_lt : (y : ℕ) → y < 2 → y * 2 ^ d < 2 ^ 64
+      chosen_lt y hy =
+          ⊎_elim (λ (z : y ≡ 0). subst (λ (u : ℕ). u * 2 ^ d < 2 ^ 64) (sym z) (omega (arith, zero-mul (2 ^ d))))
+          (λ (z : y ≡ 1). subst (λ (u : ℕ). u * 2 ^ d < 2 ^ 64) (sym z) (omega (arith, one-mul (2 ^ d), pd))) (bit_cases y hy)
+
+      xs : x * 2 ^ d < 2 ^ 64
+      xs = chosen_lt x (mod2_lt (get_or ws i 0 / 2 ^ d))
+
+      twice : (y : ℕ) → (y + y) % 2 ≡ 0
+      twice y = omega arith
+
+      apart : i ≡ d → ⊥
+      apart q = let z : ⊥ = omega (arith, a, ap (λ (k : ℕ). digit k dead) q, e) in z
+
+      chosen_parity : (y : ℕ) → y < 2 → parity (y * 2 ^ d) (get_or basis d 0) ≡ y
+      chosen_parity y hy =
+          ⊎_elim (λ (z : y ≡ 0). ap (λ (u : ℕ). parity (u * 2 ^ d) (get_or basis d 0)) z ∙ ap (λ (u : ℕ). parity u (get_or basis d 0)) (zero-mul (2 ^ d)) ∙ parity_zero (get_or basis d 0) ∙ sym z)
+          (λ (z : y ≡ 1). ap (λ (u : ℕ). parity (u * 2 ^ d) (get_or basis d 0)) z ∙ ap (λ (u : ℕ). parity u (get_or basis d 0)) (one-mul (2 ^ d)) ∙ parity_pow d (get_or basis d 0) ∙ bit_own d ld e ∙ sym z)
+          (bit_cases y hy)
+
+      agree : (j : ℕ) → j < 64 → digit j (get_or basis d 0) ≡ 1 → digit j two ≡ digit j (get_or ws i 0)
+      agree j lj one =
+          digit_xor j (2 ^ i) (x * 2 ^ d) ∙ ap (λ (q : ℕ). (digit j (2 ^ i) + q) % 2) (digit_chosen j x (2 ^ d) (mod2_lt (get_or ws i 0 / 2 ^ d)))
+          ∙ dite (ℕ_discrete j d) here other
+        where
+          here : j ≡ d → (digit j (2 ^ i) + x * digit j (2 ^ d)) % 2 ≡ digit j (get_or ws i 0)
+          here q =
+              ap₂ (λ (u v : ℕ). (u + x * v) % 2) (power_other j i (λ (r : j ≡ i). apart (sym r ∙ q))) (ap (λ (k : ℕ). digit k (2 ^ d)) q ∙ ap (λ (y : ℕ). y % 2) (power_top d))
+              ∙ only x (mod2_lt (get_or ws i 0 / 2 ^ d)) ∙ ap (λ (k : ℕ). digit k (get_or ws i 0)) (sym q)
+            where
+              only : (y : ℕ) → y < 2 → (0 + y * 1) % 2 ≡ y
+              only y h = omega arith
+
+          alive : (j ≡ d → ⊥) → digit j dead ≡ 0
+          alive n =
+              ⊎_elim (λ (z : digit j dead ≡ 0). z)
+              (λ (z : digit j dead ≡ 1). (let no : ⊥ = omega (arith, one, bit_other d j ld e lj n, ap (digit d) (s.gone j z), digit_none d) in absurd no)) (bit_cases (digit j dead) (mod2_lt (dead / 2 ^ j)))
+
+          other : (j ≡ d → ⊥) → (digit j (2 ^ i) + x * digit j (2 ^ d)) % 2 ≡ digit j (get_or ws i 0)
+          other n =
+              ap (λ (v : ℕ). (digit j (2 ^ i) + x * v) % 2) (power_other j d n) ∙ only (digit j (2 ^ i)) x (mod2_lt (2 ^ i / 2 ^ j)) ∙ sym (own ws dead s o i j li a (alive n))
+            where
+              only : (y u : ℕ) → y < 2 → (y + u * 0) % 2 ≡ y
+              only y u h = omega arith
 
   pub turned_basis : Basis basis dead
   turned_basis =
       record {
         long = t.long;
-        alone = alone;
-        unit = λ i li a. same_digits 64 (get_or basis i 0) (2 ^ i) (t.small i) (pow-lt li) (λ j lj. t.each i j li lj ∙ ⊎_elim (λ (b : digit j dead ≡ 0). ap (digit i) (alive_word j lj b) ∙ own ws dead s o j i lj b a ∙ power_turned i j) (λ (b : digit j dead ≡ 1). ap (digit i) (dead_word j lj b) ∙ power_turned i j) (bit_cases (digit j dead) (mod2_lt (dead / 2 ^ j))));
+        one = bit_own;
+        clear = λ d j ld e lj. bit_other d j ld e (omega arith) (λ (q : j ≡ d). (let z : ⊥ = omega arith in z)) ∙ digit_past (suc j) (get_or ws j 0) d (below ws dead s o j (omega arith)) (omega arith);
       }
-
-  even_slot : (d i : ℕ) → d < 64 → digit d dead ≡ 1 → i < 64 → digit i dead ≡ 0 → parity (get_or ws i 0) (get_or basis d 0) ≡ 0
-  even_slot d i ld e li a =
-      slot_parity dead i d (get_or ws i 0) (get_or basis d 0) li ld a e (small ws dead s o i) (λ j z. own ws dead s o i j li a z) (λ g z. alone d g ld e z)
-      ∙ ap (λ (x : ℕ). (x + digit d (get_or ws i 0)) % 2) (t.each d i ld li ∙ ap (digit d) (alive_word i li a)) ∙ twice (digit d (get_or ws i 0))
-    where
-      twice : (y : ℕ) → (y + y) % 2 ≡ 0
-      twice y = omega arith
 
   pub turned_held : Held (kept dead ws) basis dead
   turned_held =
@@ -158,55 +252,11 @@ module _ (ws us basis : List ℕ) (dead : ℕ) (s : Spread ws dead) (o : OwnBits
         };
       }
 
--- ---- the basis' words without the dead bits are the rows of the slots' words
-
-module _ (l ws basis rows : List ℕ) (dead : ℕ) (s : Slots l ws basis dead) (b : Basis basis dead) (f : DeadBits basis rows dead) (small-basis : (j : ℕ) → get_or basis j 0 < 2 ^ 64) where
-  small_row : (j : ℕ) → j < 64 → get_or rows j 0 < 2 ^ 64
-  small_row j lj = subst (λ (x : ℕ). x < 2 ^ 64) (sym (f.each j lj)) (xor_lt 64 (get_or basis j 0) (digit j dead * 2 ^ j) (small-basis j) (chosen_below (digit j dead) (mod2_lt (dead / 2 ^ j))))
-    where
-      power : 2 ^ j < 2 ^ 64
-      power = pow-lt lj
-
-      chosen_below : (y : ℕ) → y < 2 → y * 2 ^ j < 2 ^ 64
-      chosen_below y hy =
-          ⊎_elim (λ (z : y ≡ 0). subst (λ (u : ℕ). u * 2 ^ j < 2 ^ 64) (sym z) (omega (arith, zero-mul (2 ^ j))))
-          (λ (z : y ≡ 1). subst (λ (u : ℕ). u * 2 ^ j < 2 ^ 64) (sym z) (omega (arith, one-mul (2 ^ j), power))) (bit_cases y hy)
-
-  row_alive : (i j : ℕ) → j < 64 → digit j dead ≡ 0 → digit i (get_or rows j 0) ≡ digit i (2 ^ j)
-  row_alive i j lj a =
-      ap (digit i) (f.each j lj ∙ ap (λ (x : ℕ). bit_xor (get_or basis j 0) (x * 2 ^ j)) a ∙ ap (bit_xor (get_or basis j 0)) (zero-mul (2 ^ j)) ∙ xor_zero_r (get_or basis j 0) ∙ b.unit j lj a)
-
-  row_dead : (i j : ℕ) → j < 64 → digit j dead ≡ 1 → digit i (get_or rows j 0) ≡ (digit i (get_or basis j 0) + digit i (2 ^ j)) % 2
-  row_dead i j lj e =
-      ap (digit i) (f.each j lj ∙ ap (λ (x : ℕ). bit_xor (get_or basis j 0) (x * 2 ^ j)) e ∙ ap (bit_xor (get_or basis j 0)) (one-mul (2 ^ j))) ∙ digit_xor i (get_or basis j 0) (2 ^ j)
-
-  twice : (x : ℕ) → (x + x) % 2 ≡ 0
-  twice x = omega arith
-
-  slot_bit : (i j : ℕ) → i < 64 → digit i (parities ws (2 ^ j)) ≡ digit j (get_or ws i 0)
-  slot_bit i j li = parities_digit ws (2 ^ j) i (omega (arith, s.wide)) ∙ parity_comm (get_or ws i 0) (2 ^ j) ∙ parity_pow j (get_or ws i 0)
-
-  of_dead : (i j : ℕ) → j < 64 → digit i dead ≡ 1 → digit i (get_or rows j 0) ≡ digit j (get_or ws i 0)
-  of_dead i j lj e =
-      ⊎_elim (λ (a : digit j dead ≡ 0). row_alive i j lj a ∙ power_other i j (λ (q : i ≡ j). (let z : ⊥ = omega (arith, e, ap (λ (k : ℕ). digit k dead) q, a) in z)))
-      (λ (a : digit j dead ≡ 1). row_dead i j lj a ∙ ap (λ (x : ℕ). (x + digit i (2 ^ j)) % 2) (b.alone j i lj a e) ∙ twice (digit i (2 ^ j))) (bit_cases (digit j dead) (mod2_lt (dead / 2 ^ j)))
-      ∙ sym (ap (digit j) (s.gone i e) ∙ digit_of_zero j)
-
-  of_alive : (i j : ℕ) → i < 64 → j < 64 → digit i dead ≡ 0 → digit i (get_or rows j 0) ≡ digit j (get_or ws i 0)
-  of_alive i j li lj e =
-      ⊎_elim (λ (a : digit j dead ≡ 0). row_alive i j lj a ∙ power_turned i j ∙ sym (s.own i j li e a))
-      (λ (a : digit j dead ≡ 1).
-      row_dead i j lj a ∙ plus_none (digit i (get_or basis j 0)) (digit i (2 ^ j)) (mod2_lt (get_or basis j 0 / 2 ^ i)) (power_other i j (λ (q : i ≡ j). (let z : ⊥ = omega (arith, e, ap (λ (k : ℕ). digit k dead) q, a) in z)))
-      ∙ sym (slot_digit l ws basis dead i j s b li lj e a))
-      (bit_cases (digit j dead) (mod2_lt (dead / 2 ^ j)))
-
-  pub rows_turned : Turns ws rows
-  rows_turned =
-      record {
-        long = f.wide;
-        each = λ j lj. same_digits 64 (get_or rows j 0) (parities ws (2 ^ j)) (small_row j lj) (subst (λ (n : ℕ). parities ws (2 ^ j) < 2 ^ n) s.wide (parities_lt ws (2 ^ j)))
-            (λ i li. ⊎_elim (of_alive i j li lj) (of_dead i j lj) (bit_cases (digit i dead) (mod2_lt (dead / 2 ^ i))) ∙ sym (slot_bit i j li));
-      }
+pub turned_end : (ws basis : List ℕ) (dead i : ℕ) → Spread ws dead → OwnBits ws dead → TurnedIn ws basis dead i → i ≤ 64 → 64 ≤ i → Basis basis dead × Held (kept dead ws) basis dead
+turned_end ws basis dead i s o t l h =
+    let all : i ≡ 64 = omega arith in
+    let t' : TurnedIn ws basis dead 64 = subst (TurnedIn ws basis dead) all t in
+    (turned_basis ws basis dead s o t', turned_held ws basis dead s o t')
 
 pub tested_all : (ws : List ℕ) (dead alive i : ℕ) → alive ≡ bit_xor dead 18446744073709551615 → Tested ws alive i → 64 ≤ i → OwnBits ws dead
 tested_all ws dead alive i e t h = tested_end ws dead i (subst (λ (a : ℕ). Tested ws a i) e t) h

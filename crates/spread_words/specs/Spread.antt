@@ -3,9 +3,8 @@
 --   Spread ws dead          64 slots; the word of a slot that isn't dead has the slot's bit as its highest, and a dead slot holds 0
 --   OwnBits ws dead         of the bits that aren't dead the word of slot i has bit i alone, where that isn't dead
 --   SpreadFrom l ws dead    the words of the list l in such slots
---   DeadBits ws us dead     the 64 words us are those of ws, each dead place's with its own bit XORed in
 --   FirstTaken cs l l' b    the first of the columns cs are taken: the words that they leave of the list l stand at the front of l'
-use Rattle.std.specs.Prelude.{◌≡◌, List, ℕ, ◌*◌, ◌/◌, ◌^◌, ◌≤◌, ◌<◌, length, get_or, take}
+use Rattle.std.specs.Prelude.{◌≡◌, List, ℕ, ◌/◌, ◌^◌, ◌≤◌, ◌<◌, length, get_or, take}
 use Rattle.std.specs.Int.Bits.{bit_xor, bit_and}
 use Rattle.word.specs.Word.{digit}
 use Rattle.combinations.specs.Step.{steps}
@@ -23,10 +22,6 @@ OwnBits ws dead = (i : ℕ) → i < 64 → bit_and (get_or ws i 0) (bit_xor dead
 pub record SpreadFrom (l ws : List ℕ) (dead : ℕ) : Type 0 where
   pub slots : Spread ws dead
   pub held : kept dead ws ≡ l
-
-pub record DeadBits (ws us : List ℕ) (dead : ℕ) : Type 0 where
-  pub wide : length us ≡ 64
-  pub each : (i : ℕ) → i < 64 → get_or us i 0 ≡ bit_xor (get_or ws i 0) (digit i dead * 2 ^ i)
 
 pub record FirstTaken (cs l l' : List ℕ) (b : Begun) : Type 0 where
   pub inside : b.count ≤ length cs

@@ -1,13 +1,14 @@
 -- The columns of all slices, written from the end: the start, the turn and the end of the loop over the slices. Assumes nothing.
 use mathlib.Core.Path.{◌≡◌, refl, sym, ap, ap₂, ◌∙◌}
 use mathlib.Core.List.{List, [], ◌∷◌, ◌++◌, map, map-map, append-nil}
-use Prim.Native.Nat.{ℕ, zero, suc, ◌+◌, ◌-◌, ◌≤◌, ◌<◌}
+use Prim.Native.Nat.{ℕ, zero, suc, ◌+◌, ◌-◌, ◌≤◌, ◌<◌, min}
 use native.Mathlib.Omega.{arith}
-use lib.ListN.{length, take, drop, get_or, length-map, get_or-map}
+use lib.ListN.{length, take, drop, get_or, length-map, length-append, length-drop, get_or-map}
+use lib.Seq.{take_at, length-take-le}
 use Rattle.numbers.specs.Joined.{joined}
 use Rattle.numbers.proofs.JoinLaws.{joined_ext}
 use Rattle.rows.specs.Row.{cell}
-use Rattle.register.specs.Circuit.{Circuit, chains, advanced}
+use Rattle.register.specs.Circuit.{Circuit, circuit, chains, advanced}
 use Rattle.signatures.specs.Signature.{Response, column}
 use Rattle.signatures.specs.Later.{later}
 use Rattle.rows.specs.Marks.{listed}
@@ -16,6 +17,7 @@ use Rattle.rows.specs.Marks.{marked_words}
 use Rattle.marked_words.specs.Back.{back}
 use Rattle.signatures.proofs.ColumnLaws.{column_closed}
 use Rattle.powers.proofs.PowerLaws.{later_zero}
+use Rattle.numbers.proofs.PartLaws.{take_limit}
 use Rattle.marked_words.proofs.BackLaws.{rest, rest_none, rest_suc, rest_whole, back_none, back_length, back_more, back_more_room}
 
 -- every word after j clocks
@@ -200,12 +202,22 @@ module _ (k : Circuit) (s : ℕ) (u : Response) where
   unfolding Filled
   filled_place l₀ l ws place t f e = f.1 ∙ ap (λ (x : List ℕ). length l₀ - length x) (ap slices_from e ∙ slices_from_start)
 
-  -- the first slice is the last to be listed: the words need no clock more
-  pub filled_last : (l₀ l l' ws row : List ℕ) (place t : ℕ) → (t ≡ 0 → ⊥) → t ≤ 1 → Filled l₀ l place t ws → cell row ≡ u 0
-      → l' ≡ back (marked_words ws (cell row) (length ws)) (take place l) ++ drop place l → l' ≡ back (columns_below k s u s) l₀
-  filled_last l₀ l l' ws row place t some few f er el =
-      let last : t - 1 ≡ 0 = omega arith in
-      filled_ends l₀ l' (map (advanced k.width k.taps) ws) (length (take place l) - length (marked_words ws (cell row) (length ws))) (t - 1)
-      (filled_down l₀ l l' ws (map (advanced k.width k.taps) ws) row place (length (take place l) - length (marked_words ws (cell row) (length ws))) t
-      (omega (arith, some)) f (er ∙ ap u (sym last)) refl el refl)
-      last
+-- the first n words of a list through f, in place
+module _ (f : ℕ → ℕ) (vs ws : List ℕ) (n : ℕ) (h : n ≤ length ws) (e : vs ≡ map f (take n ws)) where
+  part_length : length vs ≡ n
+  part_length = ap length e ∙ length-map (take n ws) f ∙ length-take-le n ws h
+
+  pub part_through : take n (vs ++ drop n ws) ≡ map f (take n ws)
+  part_through = take_at vs (drop n ws) n part_length ∙ e
+
+  pub part_through_length : length (vs ++ drop n ws) ≡ length ws
+  part_through_length = length-append vs (drop n ws) ∙ omega (arith, part_length, length-drop n ws)
+
+-- the limits on chains and slices, where the words are 256
+pub columns_limited : (m taps inversion n s chains slices : ℕ) (spread words l : List ℕ) (u : Response) → chains ≡ min n 256 → slices ≡ min s 512
+    → (words ≡ spread) × (length words ≡ 256)
+    → back (columns_below (circuit m taps inversion (take chains words)) slices u slices) l
+    ≡ back (columns_below (circuit m taps inversion (take n spread)) (min s 512) u (min s 512)) l
+columns_limited m taps inversion n s chains slices spread words l u ec es ew =
+    ap₂ (λ (x : List ℕ) (y : ℕ). back (columns_below (circuit m taps inversion x) y u y) l)
+    (take_limit words n chains (ec ∙ ap (min n) (sym ew.1)) ∙ ap (take n) ew.0) es

@@ -1,9 +1,4 @@
 pub mod KeptLaws
 pub mod TurnedLaws
+pub mod LoopLaws
 pub mod CountLaws
-pub mod DigitLaws
-pub mod PlaceLaws
-pub mod PairLaws
-pub mod RoundLaws
-pub mod RowLaws
-pub mod MaskLaws

@@ -1,25 +1,28 @@
--- Words and their rows: the parities of a column with all words at once, and the slots after a step with a pivot. Assumes nothing.
+-- Words and their rows: the parities of a column with all words at once, the slots after a step with a pivot, and the rows made. Assumes nothing.
 use mathlib.Core.Path.{◌≡◌, refl, sym, ap, ap₂, ◌∙◌, subst}
 use mathlib.Core.Logic.{⊎_elim, dite}
-use mathlib.Core.List.{List, [], ◌∷◌}
-use Prim.Native.Nat.{ℕ, zero, suc, ◌+◌, ◌*◌, ◌/◌, ◌%◌, ◌^◌, ◌<◌}
+use mathlib.Core.List.{List, [], ◌∷◌, ◌++◌}
+use Prim.Native.Nat.{ℕ, zero, suc, ◌+◌, ◌*◌, ◌/◌, ◌%◌, ◌^◌, ◌≤◌, ◌<◌, min}
 use native.Mathlib.Nat.{zero-mul, one-mul, mod-lt, mod-one, mod-eq_of_lt}
-use native.Mathlib.Numerals.{one-add}
+use native.Mathlib.Numerals.{one-add, add-one}
 use native.Mathlib.Decide.{dec_lt, ℕ_discrete}
 use native.Mathlib.Omega.{arith}
 use lib.Bits.{bit_xor, xor_comm, xor_zero_r, xor_self, xor_shifted, xor_lt}
-use lib.ListN.{get_or}
+use lib.ListN.{length, get_or, take, get_or-replicate}
 use lib.Pow.{pow_pos, pow-lt, mod-pow-add}
+use lib.Seq.{take_all, take-suc, length-take-le}
 use Rattle.word.specs.Word.{digit, parity}
 use Rattle.word.specs.Parities.{parities}
 use Rattle.word.specs.Span.{xor_below}
+use Rattle.word.specs.Zeros.{zeros}
 use Rattle.word.specs.Marked.{xor_marked}
-use Rattle.word.proofs.Laws.{bit_cases, mod2_lt, parity_lt, parity_cases, parity_zero, parity_xor, parity_xor_right, digit_xor, parities_zero, parities_xor}
+use Rattle.word.proofs.Laws.{bit_cases, mod2_lt, parity_lt, parity_cases, parity_comm, parity_zero, parity_xor, parity_xor_right, parity_pow, digit_xor, parities_lt, parities_zero, parities_xor}
 use Rattle.word.proofs.XorLaws.{xor_below_ext}
 use Rattle.word.proofs.LowestLaws.{digit_past}
+use Rattle.word.proofs.FrontLaws.{length_zeros}
 use Rattle.combinations.specs.Step.{by_parity, cleared}
-use Rattle.combinations.proofs.Units.{power_digit}
-use Rattle.turned_words.specs.Turned.{Turns}
+use Rattle.combinations.proofs.Units.{power_digit, one_bit}
+use Rattle.turned_words.specs.Turned.{Turns, XoredInto}
 use Rattle.turned_words.proofs.KeptLaws.{Gone}
 
 -- ---- a word by its bits
@@ -161,3 +164,76 @@ gone_after c ws k dead odd g j h = dite (ℕ_discrete j k) here other
         sym (digit_xor j dead (2 ^ k) ∙ plus_none (digit j dead) (digit j (2 ^ k)) (mod2_lt (dead / 2 ^ j)) (power_other j k n)) ∙ h in
         let none : get_or ws j 0 ≡ 0 = g j dead_before in
         slot_even c (get_or ws k 0) ws j (ap (λ (x : ℕ). parity x c) none ∙ parity_zero c) ∙ none
+
+-- ---- the words turned in
+
+-- the rows of the first i words
+pub record Turning (ws rows : List ℕ) (i : ℕ) : Type 0 where
+  pub inside : i ≤ min (length ws) 64
+  pub turns : Turns (take i ws) rows
+
+last_even : (l : List ℕ) (w y : ℕ) → parity w y ≡ 0 → parities (l ++ w ∷ []) y ≡ parities l y
+unfolding parities
+last_even [] w y h = omega arith
+last_even (v ∷ l) w y h = ap (λ (x : ℕ). parity v y + 2 * x) (last_even l w y h)
+
+last_odd : (l : List ℕ) (w y : ℕ) → parity w y ≡ 1 → parities (l ++ w ∷ []) y ≡ parities l y + 2 ^ length l
+unfolding parities
+last_odd [] w y h = omega arith
+last_odd (v ∷ l) w y h = ap (λ (x : ℕ). parity v y + 2 * x) (last_odd l w y h) ∙ twice (parity v y) (parities l y) (length l)
+  where
+    twice : (p x n : ℕ) → p + 2 * (x + 2 ^ n) ≡ p + 2 * x + 2 ^ suc n
+    twice p x n = omega arith
+
+last_word : (l : List ℕ) (w y : ℕ) → bit_xor (parities l y) (parity w y * 2 ^ length l) ≡ parities (l ++ w ∷ []) y
+last_word l w y =
+    ⊎_elim
+    (λ (e : parity w y ≡ 0).
+    ap (λ (d : ℕ). bit_xor (parities l y) (d * 2 ^ length l)) e ∙ ap (bit_xor (parities l y)) (zero-mul (2 ^ length l))
+    ∙ xor_zero_r (parities l y) ∙ sym (last_even l w y e))
+    (λ (e : parity w y ≡ 1).
+    ap (λ (d : ℕ). bit_xor (parities l y) (d * 2 ^ length l)) e ∙ xor_comm (parities l y) (1 * 2 ^ length l)
+    ∙ xor_shifted 1 (length l) (parities l y) (parities_lt l y) ∙ one (parities l y) (2 ^ length l) ∙ sym (last_odd l w y e))
+    (parity_cases w y)
+  where
+    one : (a b : ℕ) → 1 * b + a ≡ a + b
+    one a b = omega arith
+
+pub turning_start : (ws rows : List ℕ) → rows ≡ zeros 64 → Turning ws rows 0
+unfolding parities
+turning_start ws rows e =
+    record {
+      inside = omega arith;
+      turns = record {
+        long = ap length e ∙ length_zeros 64;
+        each = λ b l. ap (λ (x : List ℕ). get_or x b 0) e ∙ get_or-replicate 64 b 0 0 l;
+      };
+    }
+
+pub turning_turn : (ws rows rows' : List ℕ) (i : ℕ) → Turning ws rows i → i < min (length ws) 64
+    → XoredInto rows rows' (get_or ws i 0) ((1 * 2 ^ i) % 18446744073709551616) → Turning ws rows' (i + 1)
+turning_turn ws rows rows' i t h x =
+    let bit = (1 * 2 ^ i) % 18446744073709551616 in
+    let within : i < length ws = omega arith in
+    let count : length (take i ws) ≡ i = length-take-le i ws (omega arith) in
+    record {
+      inside = omega arith;
+      turns = record {
+        long = x.long ∙ t.turns.long;
+        each = λ b l.
+            x.each b (omega (arith, t.turns.long))
+            ∙ ap₂ (λ (r d : ℕ). bit_xor r (d * bit)) (t.turns.each b l) (sym (parity_comm (get_or ws i 0) (2 ^ b) ∙ parity_pow b (get_or ws i 0)))
+            ∙ ap (λ (y : ℕ). bit_xor (parities (take i ws) (2 ^ b)) (parity (get_or ws i 0) (2 ^ b) * y)) (one_bit i (omega arith) ∙ ap (λ (n : ℕ). 2 ^ n) (sym count))
+            ∙ last_word (take i ws) (get_or ws i 0) (2 ^ b)
+            ∙ ap (λ (y : List ℕ). parities y (2 ^ b)) (sym (take-suc ws i 0 within) ∙ ap (λ (n : ℕ). take n ws) (sym (add-one i)));
+      };
+    }
+
+pub turning_end : (ws rows : List ℕ) (i : ℕ) → Turning ws rows i → min (length ws) 64 ≤ i → Turns (take 64 ws) rows
+turning_end ws rows i t h = subst (λ (x : List ℕ). Turns x rows) (dite (dec_lt i 64) short (λ (n : i < 64 → ⊥). ap (λ (k : ℕ). take k ws) (full n))) t.turns
+  where
+    full : (i < 64 → ⊥) → i ≡ 64
+    full n = omega (arith, t.inside)
+
+    short : i < 64 → take i ws ≡ take 64 ws
+    short l = take_all i ws (omega arith) ∙ sym (take_all 64 ws (omega arith))

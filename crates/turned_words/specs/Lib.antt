@@ -1,2 +1,1 @@
 pub mod Turned
-pub mod Exchange

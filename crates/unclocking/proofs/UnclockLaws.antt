@@ -6,8 +6,7 @@
 --   earlier_lt           .. (the same)
 --
 -- A clock with all cells 0, or some of them, takes no two such words to one (later_one_to_one). And for any tap word a clock undone is linear:
--- 8 of them are a look-up of the lowest byte (earlier_eight), and fewer are one of the lowest bits in the same table (looked_earlier).
--- Assumes nothing.
+-- 8 of them are a look-up of the lowest byte (earlier_eight). Assumes nothing.
 use mathlib.Core.Path.{◌≡◌, refl, sym, ap, ap₂, ◌∙◌}
 use mathlib.Core.Logic.{dite}
 use mathlib.Core.List.{List, [], ◌∷◌, map}
@@ -15,11 +14,11 @@ use Prim.Native.Nat.{ℕ, zero, suc, ◌+◌, ◌-◌, ◌*◌, ◌/◌, ◌%◌
 use native.Mathlib.Omega.{arith}
 use native.Mathlib.Decide.{ℕ_discrete}
 use native.Mathlib.Numerals.{add-one}
-use native.Mathlib.Nat.{add-zero, add-suc, pow-suc, mod-lt, mod_self, mod-eq_of_lt, div-one, div_self, one-mul, mul-one, mul_comm, mul_assoc, mul-mod_left}
+use native.Mathlib.Nat.{add-zero, add-suc, pow-suc, mod-lt, mod_self, mod-eq_of_lt, div-one, div_self, one-mul, mul-one, mul_comm, mul_assoc}
 use lib.Bits.{bit_xor, xor_comm, xor_shifted, xor_shr, xor_zero_r, xor_lt}
 use lib.ListN.{length, get_or, set, length-set, get_or-map}
 use lib.Seq.{get_or-set_same, get_or-set_other}
-use lib.Pow.{pow_pos, pow-lt, split, shl-shr, mod-pow-add, mod-mod-pow}
+use lib.Pow.{pow_pos, pow-lt}
 use Rattle.word.specs.Word.{digit}
 use Rattle.word.proofs.Laws.{mod2_lt, digit_xor, xor_cancel}
 use Rattle.word.proofs.WordLaws.{xor_crosswise}
@@ -29,7 +28,7 @@ use Rattle.register.specs.Circuit.{Circuit, circuit, advanced}
 use Rattle.register.proofs.Laws.{advanced_xor, advanced_zero, advanced_lt, advanced_one_to_one}
 use Rattle.signatures.specs.Later.{later}
 use Rattle.word.proofs.LowestLaws.{digit_past}
-use Rattle.unclocking.specs.Unclocked.{before_one, unclocked, earlier, EightBack, looked_back}
+use Rattle.unclocking.specs.Unclocked.{before_one, unclocked, earlier, EightBack}
 
 -- the highest bit of a register as a word
 pub top_none : (m w : ℕ) → w ≡ min m 64 → w < 1 → 1 ≡ 2 ^ (min m 64 - 1)
@@ -125,12 +124,6 @@ unclocked_double m t x =
     let even : x * 2 % 2 ≡ 0 = omega arith in
     ap₂ (λ (y d : ℕ). bit_xor y (chosen d (before_one m t))) half even ∙ xor_zero_r x
 
--- the lowest j bits of a word moved up i places
-to_the_top : (w j i : ℕ) → w * 2 ^ i % 2 ^ (j + i) ≡ w % 2 ^ j * 2 ^ i
-to_the_top w j i =
-    let plain : w % 2 ^ j * 2 ^ i + 0 ≡ w % 2 ^ j * 2 ^ i = omega arith in
-    mod-pow-add (w * 2 ^ i) j i ∙ ap₂ (λ (x y : ℕ). x % 2 ^ j * 2 ^ i + y) (shl-shr w i) (mul-mod_left w (2 ^ i)) ∙ plain
-
 module _ (k : Circuit) where
   pub earlier_more : (j w : ℕ) → unclocked k.width k.taps (earlier k j w) ≡ earlier k (j + 1) w
   unfolding earlier
@@ -164,51 +157,30 @@ module _ (k : Circuit) where
       ap (λ (y : ℕ). unclocked k.width k.taps (earlier k j y)) up ∙ ap (unclocked k.width k.taps) (earlier_down j (x * 2))
       ∙ unclocked_double k.width k.taps x
 
-  -- some clocks: what the lowest bits were, and the bits above them moved down
-  earlier_low : (j w : ℕ) → bit_xor (w / 2 ^ j) (earlier k j (w % 2 ^ j)) ≡ earlier k j w
-  earlier_low j w =
-      ap (λ (y : ℕ). bit_xor y (earlier k j (w % 2 ^ j))) (sym (earlier_down j (w / 2 ^ j))) ∙ sym (earlier_xor j (w / 2 ^ j * 2 ^ j) (w % 2 ^ j))
-      ∙ ap (earlier k j) (xor_shifted (w / 2 ^ j) j (w % 2 ^ j) (mod-lt w (pow_pos j)) ∙ split w j)
-
-  -- 8 clocks: the lowest byte from a table
+  -- 8 clocks: the lowest byte from a table, and the bytes above it moved down
   pub earlier_eight : (w : ℕ) → bit_xor (w / 256) (earlier k 8 (w % 256)) ≡ earlier k 8 w
-  earlier_eight w = earlier_low 8 w
+  earlier_eight w =
+      let parts : bit_xor (w / 256 * 256) (w % 256) ≡ w = xor_shifted (w / 256) 8 (w % 256) (mod-lt w (pow_pos 8)) ∙ whole in
+      ap (λ (y : ℕ). bit_xor y (earlier k 8 (w % 256))) (sym (earlier_down 8 (w / 256))) ∙ sym (earlier_xor 8 (w / 256 * 256) (w % 256))
+      ∙ ap (earlier k 8) parts
+    where
+      whole : w / 256 * 256 + w % 256 ≡ w
+      whole = omega arith
 
   pub eight_all : (table : List ℕ) → EightBack k table → (l : List ℕ) → map (λ w. bit_xor (w / 256) (get_or table (w % 256) 0)) l ≡ map (earlier k 8) l
   eight_all table right [] = refl
   eight_all table right (w ∷ l) =
       ap₂ ◌∷◌ (ap (bit_xor (w / 256)) (right (w % 256) (mod-lt w (pow_pos 8))) ∙ earlier_eight w) (eight_all table right l)
 
-  -- the table's entry for the lowest j bits, at the top of a byte: the first of 8 clocks undone only bring them down
-  entry_few : (j w : ℕ) → j ≤ 8 → earlier k 8 (w * 2 ^ (8 - j) % 256) ≡ earlier k j (w % 2 ^ j)
-  entry_few j w h =
-      let places : 8 ≡ j + (8 - j) = omega arith in
-      let clocks : 8 ≡ 8 - j + j = omega arith in
-      ap (λ (y : ℕ). earlier k 8 (w * 2 ^ (8 - j) % 2 ^ y)) places ∙ ap (earlier k 8) (to_the_top w j (8 - j))
-      ∙ ap (λ (y : ℕ). earlier k y (w % 2 ^ j * 2 ^ (8 - j))) clocks ∙ sym (earlier_add (8 - j) j (w % 2 ^ j * 2 ^ (8 - j)))
-      ∙ ap (earlier k j) (earlier_down (8 - j) (w % 2 ^ j))
-
-  -- up to 8 clocks: the lowest bits from the same table
-  pub looked_earlier : (table : List ℕ) → EightBack k table → (j w : ℕ) → j ≤ 8 → looked_back table j w ≡ earlier k j w
-  unfolding looked_back
-  looked_earlier table right j w h =
-      ap (bit_xor (w / 2 ^ j)) (right (w * 2 ^ (8 - j) % 256) (mod-lt (w * 2 ^ (8 - j)) (pow_pos 8)) ∙ entry_few j w h) ∙ earlier_low j w
-
-  pub looked_all : (table : List ℕ) → EightBack k table → (j : ℕ) → j ≤ 8 → (l : List ℕ) → map (looked_back table j) l ≡ map (earlier k j) l
-  looked_all table right j h [] = refl
-  looked_all table right j h (w ∷ l) = ap₂ ◌∷◌ (looked_earlier table right j w h) (looked_all table right j h l)
-
--- what a turn of the loop over the words stores
-pub few_stored : (table : List ℕ) (j up w : ℕ) → up ≡ 8 - j → bit_xor (w / 2 ^ j) (get_or table (w * 2 ^ up % 2 ^ 64 % 256) 0) ≡ looked_back table j w
-unfolding looked_back
-few_stored table j up w e =
-    ap (λ (y : ℕ). bit_xor (w / 2 ^ j) (get_or table y 0)) (mod-mod-pow (w * 2 ^ up) 56 8 ∙ ap (λ (y : ℕ). w * 2 ^ y % 256) e)
-
 -- neither the inversion word nor the spread words matter
 pub earlier_same : (m t v : ℕ) (ws : List ℕ) (j w : ℕ) → earlier (circuit m t 0 []) j w ≡ earlier (circuit m t v ws) j w
 unfolding earlier
 earlier_same m t v ws zero w = refl
 earlier_same m t v ws (suc j) w = ap (unclocked m t) (earlier_same m t v ws j w)
+
+pub earlier_words_same : (m t v : ℕ) (ws : List ℕ) (j : ℕ) (l : List ℕ) → map (earlier (circuit m t 0 []) j) l ≡ map (earlier (circuit m t v ws) j) l
+earlier_words_same m t v ws j [] = refl
+earlier_words_same m t v ws j (w ∷ l) = ap₂ ◌∷◌ (earlier_same m t v ws j w) (earlier_words_same m t v ws j l)
 
 pub eight_back_same : (m t v : ℕ) (ws l : List ℕ) → EightBack (circuit m t 0 []) l → EightBack (circuit m t v ws) l
 eight_back_same m t v ws l right x h = right x h ∙ earlier_same m t v ws 8 x

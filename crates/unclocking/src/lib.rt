@@ -4,7 +4,7 @@ ghost use Rattle.std.specs.Prelude.{◌≡◌, [], map, ℕ, min, ◌<◌, ◌-�
 ghost use Rattle.std.specs.Int.Bits.{bit_xor};
 ghost use Rattle.chains.specs.Driven.{chosen};
 ghost use Rattle.register.specs.Circuit.{Circuit, circuit};
-ghost use Rattle.unclocking.specs.Unclocked.{before_one, earlier, EightBack, looked_back};
+ghost use Rattle.unclocking.specs.Unclocked.{before_one, earlier, EightBack};
 
 use register::Register;
 
@@ -98,23 +98,6 @@ pub fn unclock_eight(table: &[u64; 256], words: &mut [u64])
     while c < words.len() {
         let w = words[c];
         words[c] = (w / 256) ^ table[(w % 256) as usize];
-        c += 1;
-    }
-}
-
-// Puts for each word what it was so many clocks earlier, without whole eights of them: 0 to 7, by the same table. The lowest bits, one for each
-// clock, are looked up at the top of a byte, for the first of 8 clocks undone only bring them down to where they stand; the bits above them
-// only move down.
-pub fn unclock_few(table: &[u64; 256], clocks: u16, words: &mut [u64])
-    ensures looked { words.new ≡ map (looked_back table.now (clocks % 8)) words.old }
-    ensures few { (k : Circuit) → EightBack k table.now → words.new ≡ map (earlier k (clocks % 8)) words.old }
-{
-    let few = (clocks % 8) as u64;
-    let up = 8 - few;
-    let mut c = 0;
-    while c < words.len() {
-        let w = words[c];
-        words[c] = (w >> few) ^ table[((w << up) % 256) as usize];
         c += 1;
     }
 }

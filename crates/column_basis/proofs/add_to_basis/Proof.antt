@@ -1,5 +1,5 @@
 -- `add_to_basis` meets its contract, with a word that is odd with the column and without.
-use mathlib.Core.Path.{refl, sym, ◌∙◌}
+use mathlib.Core.Path.{refl}
 use native.Mathlib.Omega.{arith}
 use lib.Count.{count_trailing_zeros, trailing_le}
 use Rattle.word.proofs.LowestLaws.{Lowest, trailing_lowest}
@@ -16,36 +16,29 @@ same_length c = search rules
 
 returns : tie.Need-returns
 returns c = let start = c.before.before.before.before in
-    (start.requires, (λ l h. column_none l _ _ _ _ h c.before.reduced.ensures.1 c.if1.true))
+    (start.requires, (λ l h. column_none l _ _ _ _ h c.before.reduced.ensures c.if1.true))
 
 cast-k : tie.Need-overflow-cast-k
 cast-k c = omega (arith, trailing_le 64 c.before.reduced.result)
 
+mul-basis : tie.Need-overflow-mul-basis
+mul-basis c = omega (arith, trailing_le 64 c.before.reduced.result)
+
 lowest : (c : tie.Else1) → Lowest c.before.reduced.result (count_trailing_zeros 64 c.before.reduced.result)
 lowest c = trailing_lowest _ _ c.if1.false (search rules) refl
 
-clear-bit-requires : tie.Need-clear-bit-requires
-clear-bit-requires c κs = (c.before.before.before.before.before.requires, (lowest c.before).place)
-
-mul-basis : tie.Need-overflow-mul-basis
-mul-basis c = omega (arith, trailing_le 64 c.before.before.before.before.before.reduced.result)
-
 slice-write-basis : tie.Need-slice-write-basis
-slice-write-basis c =
-    omega (arith, (lowest c.before.before.before.before).place, c.before.before.clear-bit.ensures.long, c.before.before.before.before.before.before.before.before.requires.long)
+slice-write-basis c = omega (arith, (lowest c).place, c.before.before.before.before.requires.long)
 
 shl-result : tie.Need-overflow-shl-result
-shl-result c = (lowest c.before.before.before.before).place
+shl-result c = (lowest c).place
 
 same-length-2 : tie.Need-same-length-2
 same-length-2 c = search rules
 
 returns-2 : tie.Need-returns-2
-returns-2 c = let start = c.before.before.before.before.before.before.before.before in
-    let low = lowest c.before.before.before.before in
-    let made = c.before.before.before.before.before.reduced.ensures in
-    let cleared = c.before.before.clear-bit.ensures in
-    (basis_one _ _ _ _ _ start.requires low made.0 cleared, (λ l h. column_one l _ _ _ _ _ _ h made.1 low made.0 start.requires.long cleared))
+returns-2 c = let start = c.before.before.before.before in
+    (basis_one _ _ _ _ start.requires (lowest c), (λ l h. column_one l _ _ _ _ _ h c.before.reduced.ensures (lowest c) start.requires.long))
 
 pub add-to-basis-spec : {M : Type 1} → statement M
 add-to-basis-spec =
@@ -55,7 +48,6 @@ add-to-basis-spec =
     same_length
     returns
     cast-k
-    clear-bit-requires
     mul-basis
     slice-write-basis
     shl-result

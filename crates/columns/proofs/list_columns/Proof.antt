@@ -1,10 +1,9 @@
 -- `list_columns` meets its contract, by the reader's answer, by the count of entries and then by the room in the list.
-use mathlib.Core.Path.{sym, ◌∙◌}
+use mathlib.Core.Path.{sym}
 use lib.Seq.{length-take-le}
 use borrow.Author.Rules.{rules}
 use Rattle.set_file.proofs.ReadLaws.{refused_set, taken_set}
 use Rattle.columns.proofs.CallLaws.{list_set_refused, bare_short, bare_listed}
-use Rattle.columns.proofs.MadeLaws.{made_taken, own_words, all_slices, columns_limited}
 use Rattle.columns.proofs.list_columns.Statement.{statement}
 use Rattle.columns.proofs.list_columns.Tie as tie
 
@@ -24,21 +23,15 @@ returns-3 c =
     bare_short _ _ taken _ c.before.before.mark-rows.ensures _ c.before.before.before.before.tie-count.ensures c.before.before.before.if1.false _ c.before.count-marks.ensures
     c.before.before.before.before.before.before.before.before.before.before.before.before.args.columns.now c.if2.true
 
-slice-aggregate-fill-words : tie.Need-slice-aggregate-fill-words
-slice-aggregate-fill-words c = sym (length-take-le _ _ (search rules))
-
-slice-aggregate-fill-words-2 : tie.Need-slice-aggregate-fill-words-2
-slice-aggregate-fill-words-2 c = sym (length-take-le _ _ (search rules))
+slice-aggregate-fill-columns : tie.Need-slice-aggregate-fill-columns
+slice-aggregate-fill-columns c = sym (length-take-le _ _ (search rules))
 
 returns-4 : tie.Need-returns-4
 returns-4 c =
-    let args = c.before.before.before.before.before.before.before.before.before.before.before.before.before.before.before.before.before.before.before.before.args in
-    let taken = taken_set _ _ _ _ _ _ c.before.before.before.before.before.before.before.before.before.before.before.before.before.before.before.before.before.read_set.ensures c.before.before.before.before.before.before.before.before.before.before.before.before.before.before.before.answer.given.1 in
-    let chains = c.before.before.before.before.before.before.chain-limit.ensures in
-    let words = c.before.before.before.before.before.before.before.All-words.ensures in
-    let made = made_taken _ _ taken _ (own_words _ _ _ _ chains words) in
-    bare_listed _ _ taken _ c.before.before.before.before.before.before.before.before.before.before.mark-rows.ensures _ c.before.before.before.before.before.before.before.before.before.before.before.before.tie-count.ensures c.before.before.before.before.before.before.before.before.before.before.before.if1.false _ c.before.before.before.before.before.before.before.before.before.count-marks.ensures args.columns.now _
-    c.before.before.before.before.before.before.before.before.if2.false (c.before.before.before.fill-words.ensures made ∙ columns_limited _ _ _ _ _ _ _ _ _ _ _ chains (all_slices _ made.slices) words)
+    let taken = taken_set _ _ _ _ _ _ c.before.before.before.before.before.before.before.before.before.before.before.before.before.read_set.ensures c.before.before.before.before.before.before.before.before.before.before.before.answer.given.1 in
+    let count = c.before.before.before.before.before.count-marks in
+    bare_listed _ _ taken _ c.before.before.before.before.before.before.mark-rows.ensures _ c.before.before.before.before.before.before.before.before.tie-count.ensures c.before.before.before.before.before.before.before.if1.false _ count.ensures c.before.before.before.before.before.before.before.before.before.before.before.before.before.before.before.before.args.columns.now _
+    c.before.before.before.before.if2.false c.before.before.fill-columns.ensures
 
 pub list-columns-spec : {M : Type 1} → statement M
 list-columns-spec =
@@ -56,12 +49,8 @@ list-columns-spec =
     (λ c κs. search rules)
     (λ c κs. search rules)
     returns-3
-    (λ c κs. search rules)
-    (λ c κs. search rules)
     (λ c. search rules)
-    slice-aggregate-fill-words
-    (λ c. search rules)
-    slice-aggregate-fill-words-2
+    slice-aggregate-fill-columns
     (λ c κs. search rules)
     (λ c. search rules)
     returns-4)

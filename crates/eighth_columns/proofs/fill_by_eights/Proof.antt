@@ -1,31 +1,48 @@
 -- `fill_by_eights` meets its contract: both ways to fill the list do.
-use native.Mathlib.Omega.{arith}
+use Rattle.eighth_columns.proofs.RaisedLaws.{raisable}
 use borrow.Author.Rules.{rules}
 use Rattle.eighth_columns.proofs.fill_by_eights.Statement.{statement}
 use Rattle.eighth_columns.proofs.fill_by_eights.Tie as tie
 
-returns : tie.Need-returns
-returns c some small good = c.before.before.before.before.fill-wide.ensures.1
+width-limit-requires : tie.Need-width-limit-requires
+width-limit-requires c κs = search rules
 
-returns-2 : tie.Need-returns-2
-returns-2 c some small good = let z : ⊥ = omega (arith, c.if2.true, some) in absurd z
+is-beyond-requires : tie.Need-is-beyond-requires
+is-beyond-requires c κs = search rules
+
+has-bad-word-requires : tie.Need-has-bad-word-requires
+has-bad-word-requires c κs = search rules
+
+fill-swept-requires : tie.Need-fill-swept-requires
+fill-swept-requires c κs = search rules
+
+same_length : tie.Need-same-length
+same_length c = search rules
+
+returns : tie.Need-returns
+returns c = search rules
 
 fill-raised-requires : tie.Need-fill-raised-requires
-fill-raised-requires c κs = (omega (arith, c.before.before.if2.false), omega (arith, c.before.before.before.before.if1.false))
+fill-raised-requires c κs =
+    let fits = raisable _ _ _ _ _ _ c.before.before.before.before.width-limit.ensures c.before.before.before.is-beyond.ensures c.before.before.has-bad-word.ensures c.before.if1.false in
+    (fits.0, (fits.1, fits.2))
 
-returns-3 : tie.Need-returns-3
-returns-3 c some small good = c.before.before.before.before.fill-raised.ensures small good
+same-length-2 : tie.Need-same-length-2
+same-length-2 c = search rules
+
+returns-2 : tie.Need-returns-2
+returns-2 c = search rules
 
 pub fill-by-eights-spec : {M : Type 1} → statement M
 fill-by-eights-spec =
     tie.close
     (tie.spec
-    (λ c κs. search rules)
-    (λ c. search rules)
-    (λ c. search rules)
+    width-limit-requires
+    is-beyond-requires
+    has-bad-word-requires
+    fill-swept-requires
+    same_length
     returns
-    returns-2
     fill-raised-requires
-    (λ c. search rules)
-    (λ c. search rules)
-    returns-3)
+    same-length-2
+    returns-2)

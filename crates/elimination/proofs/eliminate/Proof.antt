@@ -2,19 +2,19 @@
 use mathlib.Core.Path.{sym}
 use native.Mathlib.Omega.{arith}
 use lib.Seq.{length-take-le}
-use Rattle.elimination.proofs.CallLaws.{Kept, kept_of, kept_most, kept_words, held_long, width_inside, part_few, ends_2, ends_15, ends_17, ends_18, ends_done}
+use Rattle.elimination.proofs.CallLaws.{Kept, kept_of, kept_most, kept_words, held_long, width_inside, ends_2, ends_15, ends_17, ends_18, ends_done}
 use borrow.Author.Rules.{rules}
 use Rattle.elimination.proofs.eliminate.Statement.{statement}
 use Rattle.elimination.proofs.eliminate.Tie as tie
 
-kept : (c : tie.After-held2) → Kept c.before.before.before.before.before.before.before.before.before.before.args.m c.before.before.before.before.before.before.before.before.before.before.args.columns.now c.before.reduce-units.result
+kept : (c : tie.After-held2) → Kept c.before.before.before.before.before.before.before.before.before.before.args.m c.before.before.before.before.before.before.before.before.before.before.args.columns.now c.before.reduce.result
 kept c =
     let width_test = c.before.before.before.before.before.before.before.is-bad-width.ensures in
     let width-taken = c.before.before.before.before.before.before.if1.false in
     let columns-test = c.before.before.before.before.before.has-column-beyond.ensures in
     let columns-taken = c.before.before.before.before.if2.false in
     kept_of _ _ _ _ _ _ width_test width-taken columns-test
-    columns-taken c.before.before.before.unit-words.ensures c.before.reduce-units.ensures.0
+    columns-taken c.before.before.before.unit-words.ensures c.before.reduce.ensures.0
 
 is-bad-width-requires : tie.Need-is-bad-width-requires
 is-bad-width-requires c κs = search rules
@@ -44,16 +44,14 @@ array-borrow-prefix-held c =
     let width_test = c.before.before.before.before.is-bad-width.ensures in
     width_inside _ _ _ width_test c.before.before.before.if1.false c.unit-words.ensures
 
-slice-aggregate-reduce-units : tie.Need-slice-aggregate-reduce-units
-slice-aggregate-reduce-units c =
+slice-aggregate-reduce : tie.Need-slice-aggregate-reduce
+slice-aggregate-reduce c =
     let width_test = c.before.before.before.before.before.is-bad-width.ensures in
     let width-taken = c.before.before.before.before.if1.false in
     sym (length-take-le _ _ (width_inside _ _ _ width_test width-taken c.before.unit-words.ensures))
 
-reduce-units-requires : tie.Need-reduce-units-requires
-reduce-units-requires c κs =
-    let width_test = c.before.before.before.before.before.is-bad-width.ensures in
-    part_few _ _ _ width_test c.before.before.before.before.if1.false c.before.unit-words.ensures
+reduce-requires : tie.Need-reduce-requires
+reduce-requires c κs = search rules
 
 sub-rank : tie.Need-overflow-sub-rank
 sub-rank c = kept_most _ _ _ (kept c)
@@ -74,17 +72,17 @@ returns-4 c =
 
 array-share-prefix-held : tie.Need-array-share-prefix-held
 array-share-prefix-held c =
-    let words_left = c.before.before.before.before.reduce-units.new.0 in
+    let words_left = c.before.before.before.before.reduce.new.0 in
     let units = c.before.before.before.before.before.before.unit-words.ensures in
-    let same_long = c.before.before.before.before.reduce-units.auto.0 in
+    let same_long = c.before.before.before.before.reduce.auto.0 in
     let so_far = kept c.before.before.before in
     held_long _ _ _ words_left _ so_far units same_long
 
 slice-aggregate-write-front : tie.Need-slice-aggregate-write-front
 slice-aggregate-write-front c =
-    let words_left = c.before.before.before.before.before.reduce-units.new.0 in
+    let words_left = c.before.before.before.before.before.reduce.new.0 in
     let units = c.before.before.before.before.before.before.before.unit-words.ensures in
-    let same_long = c.before.before.before.before.before.reduce-units.auto.0 in
+    let same_long = c.before.before.before.before.before.reduce.auto.0 in
     let so_far = kept c.before.before.before.before in
     sym (length-take-le _ _ (held_long _ _ _ words_left _ so_far units same_long))
 
@@ -98,8 +96,8 @@ returns-5 : tie.Need-returns-5
 returns-5 c =
     let some_word = c.before.before.before.before.before.before.if3.false in
     let units = c.before.before.before.before.before.before.before.before.before.before.unit-words.ensures in
-    let same_long = c.before.before.before.before.before.before.before.before.reduce-units.auto.0 in
-    let reduced = c.before.before.before.before.before.before.before.before.reduce-units.ensures.1 in
+    let same_long = c.before.before.before.before.before.before.before.before.reduce.auto.0 in
+    let reduced = c.before.before.before.before.before.before.before.before.reduce.ensures.1 in
     let so_far = kept c.before.before.before.before.before.before.before in
     let written = c.before.before.write-front.ensures in
     ends_done _ _ c.before.before.before.before.before.before.before.before.before.before.before.before.before.before.before.before.before.args.words.now _ _ _ so_far some_word (search rules)
@@ -118,8 +116,8 @@ eliminate-spec =
     returns-2
     unit-words-requires
     array-borrow-prefix-held
-    slice-aggregate-reduce-units
-    reduce-units-requires
+    slice-aggregate-reduce
+    reduce-requires
     sub-rank
     refused-requires-3
     returns-3

@@ -1,7 +1,6 @@
 -- `open_run` meets its contract: the basis is that of the words of single bits, and then that of those after the columns.
 use mathlib.Core.Path.{◌∙◌}
-use Rattle.spread_words.proofs.SingleLaws.{singles_basis, singles_held}
-use Rattle.run_words.proofs.TurnLaws.{singles_over}
+use Rattle.run_words.proofs.TurnLaws.{singles_over, singles_basis, singles_held}
 use borrow.Author.Rules.{rules}
 use Rattle.run_words.proofs.open_run.Statement.{statement}
 use Rattle.run_words.proofs.open_run.Tie as tie

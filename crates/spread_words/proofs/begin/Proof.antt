@@ -1,27 +1,17 @@
--- `begin` meets its contract: the words are single bits, or no column is taken, or the first are on the words in their slots.
+-- `begin` meets its contract: no column is taken, or the first are on the words in their slots.
+use mathlib.Core.Path.{sym}
+use lib.Seq.{length-take-le}
 use borrow.Author.Tests.{not-false}
-use Rattle.spread_words.proofs.CallLaws.{first_none, first_units, first_spread}
+use Rattle.spread_words.proofs.CallLaws.{first_none, first_some}
 use borrow.Author.Rules.{rules}
 use Rattle.spread_words.proofs.begin.Statement.{statement}
 use Rattle.spread_words.proofs.begin.Tie as tie
 
-are-units-requires : tie.Need-are-units-requires
-are-units-requires c κs = search rules
-
-begin-units-requires : tie.Need-begin-units-requires
-begin-units-requires c κs = (c.before.before.are-units.ensures c.before.if2.true).1
-
-same_length : tie.Need-same-length
-same_length c = search rules
+taken-count-requires : tie.Need-taken-count-requires
+taken-count-requires c κs = search rules
 
 returns : tie.Need-returns
-returns c = first_units _ _ _ _ (c.before.before.before.before.before.are-units.ensures c.before.before.before.before.if2.true).0 c.before.before.begin-units.ensures
-
-pays-requires : tie.Need-pays-requires
-pays-requires c κs = search rules
-
-returns-2 : tie.Need-returns-2
-returns-2 c = first_none _ _
+returns c = first_none _ _
 
 no-words-requires : tie.Need-no-words-requires
 no-words-requires c κs = search rules
@@ -32,11 +22,11 @@ slice-aggregate-spread c = search rules
 spread-requires : tie.Need-spread-requires
 spread-requires c κs = search rules
 
-same-length-2 : tie.Need-same-length-2
-same-length-2 c = search rules
+same_length : tie.Need-same-length
+same_length c = search rules
 
-returns-3 : tie.Need-returns-3
-returns-3 c = first_none _ _
+returns-2 : tie.Need-returns-2
+returns-2 c = first_none _ _
 
 slice-aggregate-has-own-bits : tie.Need-slice-aggregate-has-own-bits
 slice-aggregate-has-own-bits c = search rules
@@ -44,52 +34,47 @@ slice-aggregate-has-own-bits c = search rules
 has-own-bits-requires : tie.Need-has-own-bits-requires
 has-own-bits-requires c κs = search rules
 
+same-length-2 : tie.Need-same-length-2
+same-length-2 c = search rules
+
+returns-3 : tie.Need-returns-3
+returns-3 c = first_none _ _
+
+slice-aggregate-reduce-spread : tie.Need-slice-aggregate-reduce-spread
+slice-aggregate-reduce-spread c = search rules
+
+slice-aggregate-reduce-spread-2 : tie.Need-slice-aggregate-reduce-spread-2
+slice-aggregate-reduce-spread-2 c = sym (length-take-le _ _ (search rules))
+
+reduce-spread-requires : tie.Need-reduce-spread-requires
+reduce-spread-requires c κs = let else2 = c.before.before.before.before.before.before in
+    ((else2.before.before.spread.ensures else2.if2.false).slots, c.before.before.before.before.has-own-bits.ensures (not-false c.before.before.before.before.has-own-bits.result c.before.before.before.if3.false))
+
 same-length-3 : tie.Need-same-length-3
 same-length-3 c = search rules
 
 returns-4 : tie.Need-returns-4
-returns-4 c = first_none _ _
-
-slice-aggregate-turn-in : tie.Need-slice-aggregate-turn-in
-slice-aggregate-turn-in c = search rules
-
-turn-in-requires : tie.Need-turn-in-requires
-turn-in-requires c κs =
-    let own = c.before.before.has-own-bits in
-    ((c.before.before.before.before.before.before.spread.ensures c.before.before.before.before.if4.false).slots, own.ensures (not-false own.result c.before.if5.false))
-
-begin-held-requires : tie.Need-begin-held-requires
-begin-held-requires c κs = search rules
-
-same-length-4 : tie.Need-same-length-4
-same-length-4 c = search rules
-
-returns-5 : tie.Need-returns-5
-returns-5 c =
-    let else4 = c.before.before.before.before.before.before.before.before.before in
-    first_spread _ _ _ _ _ _ _ (else4.before.before.spread.ensures else4.if4.false).held c.before.before.before.before.turn_in.ensures.1 c.before.before.begin-held.ensures
+returns-4 c = let else2 = c.before.before.before.before.before.before.before.before.before in
+    let spread = else2.before.before in
+    first_some _ _ _ _ _ _ _ spread.before.before.before.before.before.taken-count.ensures (spread.spread.ensures else2.if2.false) c.before.before.reduce-spread.ensures
 
 pub begin-spec : {M : Type 1} → statement M
 begin-spec =
     tie.close
     (tie.spec
-    are-units-requires
-    begin-units-requires
-    same_length
+    taken-count-requires
     returns
-    pays-requires
-    returns-2
     no-words-requires
     slice-aggregate-spread
     spread-requires
-    same-length-2
-    returns-3
+    same_length
+    returns-2
     slice-aggregate-has-own-bits
     has-own-bits-requires
+    same-length-2
+    returns-3
+    slice-aggregate-reduce-spread
+    slice-aggregate-reduce-spread-2
+    reduce-spread-requires
     same-length-3
-    returns-4
-    slice-aggregate-turn-in
-    turn-in-requires
-    begin-held-requires
-    same-length-4
-    returns-5)
+    returns-4)

@@ -2,7 +2,7 @@
 //! that is still marked.
 
 use super::elimination::{pays, skip_even, skip_plainly};
-use super::response::{list_row, marks_at, Marks};
+use super::response::{list_row, Marks};
 use super::set::Read;
 use super::*;
 
@@ -33,17 +33,22 @@ fn is_closed(read: Read, words: &[u64]) -> bool {
     later.all(|w| residue(&tops, w) == 0)
 }
 
-/// The marks of the first t rows together: those of 32 bytes by words, gathered as the cells that no row marks.
-fn joint_marks(marks: Marks, t: usize) -> [u8; 32] {
-    let mut none = [u64::MAX; 4];
-    for t in 0..t {
-        for (i, none) in none.iter_mut().enumerate() {
-            *none &= !marks_at(marks.row(t), i, 256);
-        }
+/// Puts the marks of a row to those that are there.
+#[inline]
+fn add_front(all: &mut [u8; 32], row: &[u8]) {
+    for (to, from) in all.iter_mut().zip(row) {
+        *to |= from;
     }
+}
+
+/// The marks of the first t rows together.
+fn joint_marks(marks: Marks, t: usize) -> [u8; 32] {
     let mut all = [0; 32];
-    for (to, none) in all.chunks_exact_mut(8).zip(none) {
-        to.copy_from_slice(&(!none).to_le_bytes());
+    for t in 0..t {
+        match <&[u8; 32]>::try_from(marks.row(t)) {
+            Ok(row) => add_front(&mut all, row),
+            Err(_) => add_front(&mut all, marks.row(t)),
+        }
     }
     all
 }

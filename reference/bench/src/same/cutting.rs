@@ -29,13 +29,6 @@ fn unclock_eight(table: &[u64; 256], words: &mut [u64]) {
     }
 }
 
-/// Puts for each word what it was so many clocks earlier, 0 to 7: the lowest bits, one for each clock, are looked up at the top of a byte.
-fn unclock_few(table: &[u64; 256], clocks: usize, words: &mut [u64]) {
-    for w in words {
-        *w = *w >> clocks ^ table[(*w << (8 - clocks) & 255) as usize];
-    }
-}
-
 /// The words that a run so far leaves, as a basis of its columns beside them.
 struct Held {
     basis: [u64; 64],
@@ -83,8 +76,7 @@ fn pass_slice(table: &[u64; 256], t: usize, words: &mut [u64]) {
 }
 
 /// By one pass: all columns of a run clocked together have the rank that they had, so a slice's columns are the chains' words unclocked
-/// once for each slice before it. All chains' words are unclocked 8 times together, those of marked cells for the slices between, by one
-/// table.
+/// once for each slice before it. All chains' words are unclocked 8 times together, those of marked cells for the slices between.
 fn cut_slices(
     set: &[u8],
     read: Read,
@@ -101,7 +93,7 @@ fn cut_slices(
     let mut runs = 0;
     for t in 0..read.s {
         let place = list_row(&mut columns, words, marks.row(t));
-        unclock_few(&table, t % 8, &mut columns[place..]);
+        unclock_words(read, t % 8, &mut columns[place..]);
         let opened = put_slice(&mut held, &columns[place..], read.m as usize, k);
         if held.count() < k {
             return Err(27);

@@ -20,49 +20,31 @@ fn add_column(words: &mut [u64], column: u64) -> usize {
     words.len() - 1
 }
 
-/// Exchanges bits in pairs of words so many places apart.
-fn exchange(words: &mut [u64; 64], step: usize, mask: u64) {
-    for pair in words.chunks_exact_mut(2 * step) {
-        let (first, second) = pair.split_at_mut(step);
-        for (a, b) in first.iter_mut().zip(second) {
-            let change = (*a >> step ^ *b) & mask;
-            *a ^= change << step;
-            *b ^= change;
-        }
+/// XORs x into the words whose bit in `marks` is 1, from one such bit to the next.
+fn xor_into(words: &mut [u64], marks: u64, x: u64) {
+    let mut left = marks & low_mask(words.len());
+    while left != 0 {
+        words[left.trailing_zeros() as usize] ^= x;
+        left &= left - 1;
     }
-}
-
-/// The words transposed: bit j of word i is bit i of word j.
-fn transposed(mut words: [u64; 64]) -> [u64; 64] {
-    exchange(&mut words, 32, 0x0000_0000_ffff_ffff);
-    exchange(&mut words, 16, 0x0000_ffff_0000_ffff);
-    exchange(&mut words, 8, 0x00ff_00ff_00ff_00ff);
-    exchange(&mut words, 4, 0x0f0f_0f0f_0f0f_0f0f);
-    exchange(&mut words, 2, 0x3333_3333_3333_3333);
-    exchange(&mut words, 1, 0x5555_5555_5555_5555);
-    words
 }
 
 /// The words' rows: for each bit that bit of every word, bit k for word k.
 fn turn(words: &[u64]) -> [u64; 64] {
     let mut rows = [0; 64];
-    let count = words.len().min(64);
-    rows[..count].copy_from_slice(&words[..count]);
-    transposed(rows)
+    for (k, w) in words.iter().enumerate() {
+        xor_into(&mut rows, *w, 1 << k);
+    }
+    rows
 }
 
-/// Takes a column into a basis whose words have no dead bit but their own: the bits that are dead then.
-fn add_to_basis(basis: &mut [u64; 64], dead: u64, column: u64) -> u64 {
-    let rest = column ^ xor_marked(basis, column & dead);
-    if rest == 0 {
-        return dead;
+/// What is left of a column without its dead bits.
+fn reduced(basis: &[u64; 64], dead: u64, column: u64) -> u64 {
+    let mut rest = column;
+    while rest & dead != 0 {
+        rest ^= basis[(rest & dead).trailing_zeros() as usize];
     }
-    let k = rest.trailing_zeros();
-    for w in &mut basis[..64 - dead.leading_zeros() as usize] {
-        *w ^= rest & (*w >> k & 1).wrapping_neg();
-    }
-    basis[k as usize] = rest;
-    dead ^ 1 << k
+    rest
 }
 
 /// The columns one after the other, until every bit is dead: the bits that are.
@@ -71,29 +53,28 @@ pub fn take_columns(basis: &mut [u64; 64], mut dead: u64, columns: &[u64]) -> u6
         if dead == u64::MAX {
             break;
         }
-        dead = add_to_basis(basis, dead, *column);
+        let rest = reduced(basis, dead, *column);
+        if rest != 0 {
+            let k = rest.trailing_zeros();
+            basis[k as usize] = rest;
+            dead ^= 1 << k;
+        }
     }
     dead
 }
 
-/// The first columns, until every bit is dead or four in a row changed nothing with many behind them: the bits that are dead, and how many
-/// columns were taken.
-fn take_first(basis: &mut [u64; 64], mut dead: u64, columns: &[u64]) -> (u64, usize) {
-    let mut calm = 0;
-    for (i, column) in columns.iter().enumerate() {
-        if dead == u64::MAX || 4 <= calm && 128 <= columns.len() - i {
-            return (dead, i);
+/// The words of the slots, made from the basis; in the dead ones stands anything.
+fn slot_words(basis: &mut [u64; 64], dead: u64) -> [u64; 64] {
+    let mut words = unit_words();
+    for d in (0..64).rev() {
+        if dead >> d & 1 != 0 {
+            let bit = 1 << d;
+            let row = basis[d] ^ xor_marked(basis, basis[d] & (dead ^ bit));
+            basis[d] = row;
+            xor_into(&mut words, row, bit);
         }
-        let next = add_to_basis(basis, dead, *column);
-        calm = if next == dead { calm + 1 } else { 0 };
-        dead = next;
     }
-    (dead, columns.len())
-}
-
-/// The words, each dead place's with its own bit XORed in.
-pub fn with_dead_bits(words: &[u64; 64], dead: u64) -> [u64; 64] {
-    std::array::from_fn(|i| words[i] ^ dead & 1 << i)
+    words
 }
 
 /// Puts each word into the slot of its highest bit: the bits that are dead then; all of them where the highest bits don't ascend.
@@ -119,6 +100,15 @@ fn has_own_bits(slots: &[u64; 64], dead: u64) -> bool {
     slots.iter().enumerate().all(own)
 }
 
+/// The basis of the slots' words: their dead bits, turned.
+fn turn_in(slots: &[u64; 64], dead: u64) -> [u64; 64] {
+    let mut basis = unit_words();
+    for (i, w) in slots.iter().enumerate() {
+        xor_into(&mut basis, w & dead, 1 << i);
+    }
+    basis
+}
+
 /// The words of the slots that aren't dead over the front of the list; how many they are.
 fn keep_alive(slots: &[u64; 64], dead: u64, words: &mut [u64]) -> usize {
     let mut at = 0;
@@ -132,47 +122,37 @@ fn keep_alive(slots: &[u64; 64], dead: u64, words: &mut [u64]) -> usize {
     at
 }
 
-/// The first columns by a basis of the words: how many were taken, and how many words are left, over the front of the list.
-fn begin_held(
-    mut basis: [u64; 64],
-    dead: u64,
-    columns: &[u64],
-    words: &mut [u64],
-) -> (usize, usize) {
-    let (gone, count) = take_first(&mut basis, dead, columns);
-    if gone == u64::MAX {
-        return (count, 0);
+/// How many of the columns, from the first on, are taken by a basis.
+fn taken_count(words: usize, columns: usize) -> usize {
+    if words < 24 {
+        0
+    } else if 128 <= columns {
+        128
+    } else if words * columns < 700 {
+        0
+    } else {
+        columns
     }
-    (count, keep_alive(&transposed(basis), gone, words))
-}
-
-/// .. of the words of as many single bits as the list has places.
-fn begin_units(words: &mut [u64], columns: &[u64]) -> (usize, usize) {
-    let dead = !low_mask(words.len());
-    begin_held(unit_words(), dead, columns, words)
-}
-
-/// Whether a basis pays for so many words and columns.
-fn basis_pays(words: usize, columns: usize) -> bool {
-    24 <= words && 700 / words <= columns
 }
 
 /// The first columns by a basis, where it pays and the words allow it: how many were taken, and how many words are left.
 fn begin(words: &mut [u64], columns: &[u64]) -> (usize, usize) {
-    let mut units = words.iter().enumerate();
-    if 4 <= columns.len() && words.len() <= 64 && units.all(|(i, w)| *w == 1 << i) {
-        return begin_units(words, columns);
-    }
-    if !basis_pays(words.len(), columns.len()) {
+    let count = taken_count(words.len(), columns.len());
+    let mut slots = [0; 64];
+    if count == 0 {
         return (0, words.len());
     }
-    let mut slots = [0; 64];
     let dead = spread_words(words, &mut slots);
     if dead == u64::MAX || !has_own_bits(&slots, dead) {
         return (0, words.len());
     }
-    let basis = transposed(with_dead_bits(&slots, dead));
-    begin_held(basis, dead, columns, words)
+    let mut basis = turn_in(&slots, dead);
+    let gone = take_columns(&mut basis, dead, &columns[..count]);
+    if gone == u64::MAX {
+        return (count, 0);
+    }
+    let made = slot_words(&mut basis, gone);
+    (count, keep_alive(&made, gone, words))
 }
 
 /// The parities of every byte of a column with the words: bit i doubles the entries that its byte has so far.
@@ -270,9 +250,8 @@ pub fn eliminate(m: u64, columns: &[u64], words: &mut [u64]) -> Result<(u64, usi
     if m < 64 && is_beyond(m, columns.iter().fold(0, |a, c| a | c)) {
         return Err(15);
     }
-    let mut held = [0; 64];
-    let (count, left) = begin_units(&mut held[..m as usize], columns);
-    let left = reduce_plainly(&mut held[..left], &columns[count..]);
+    let mut held = unit_words();
+    let left = reduce(&mut held[..m as usize], columns);
     let q = put_words(&held[..left], words)?;
     Ok((m - q as u64, q))
 }

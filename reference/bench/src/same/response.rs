@@ -297,128 +297,36 @@ pub fn advance_few(m: u64, table: &[u64], clocks: u64, words: &mut [u64]) {
     }
 }
 
-/// The columns of all slices, all chains' words advanced by one clock for each but the first.
-fn fill_by_sweep(marks: Marks, read: Read, spread: &[u64; 256], columns: &mut [u64]) {
-    let mut all = *spread;
+/// All chains' words advanced by eight clocks for every eighth slice, and those of marked cells by the clocks between, in a register of 64 bits.
+fn fill_wide(marks: Marks, read: Read, mut all: [u64; 256], columns: &mut [u64]) {
+    let table = eight_on(read);
     let words = &mut all[..read.n];
     let mut place = columns.len();
-    for t in (0..read.s).rev() {
-        place = list_row(&mut columns[..place], words, marks.row(t));
-        if t != 0 {
-            advance_words(read, words);
-        }
-    }
-}
-
-/// A word so many clocks later, 1 to 8, in a register of 64 bits.
-fn look(table: &[u64; 256], clocks: usize, w: u64) -> u64 {
-    w << clocks ^ table[(w >> (64 - clocks)) as usize % 256]
-}
-
-/// The words of a row's marked chains over the end of the list, 1 to 7 clocks later, for 256 chains: each is looked up as it is listed. (The
-/// library has a second way here, for lists that are too short: no call comes to it.)
-fn list_looked(
-    columns: &mut [u64],
-    table: &[u64; 256],
-    clocks: usize,
-    words: &[u64; 256],
-    row: &[u8; 32],
-) -> usize {
-    let mut place = columns.len();
-    for i in (0..4).rev() {
-        let mut marks = word(row, 8 * i);
-        if marks == 0 {
-            continue;
-        }
-        let end = place;
-        place -= marks.count_ones() as usize;
-        for column in &mut columns[place..end] {
-            *column = look(
-                table,
-                clocks,
-                words[64 * i + marks.trailing_zeros() as usize],
-            );
-            marks &= marks - 1;
-        }
-    }
-    place
-}
-
-/// The same for any chains and row, for the clocks without whole eights of them.
-fn list_few(
-    columns: &mut [u64],
-    table: &[u64; 256],
-    clocks: usize,
-    words: &[u64],
-    row: &[u8],
-) -> usize {
-    if let (1.., Ok(words), Ok(row)) = (clocks % 8, words.try_into(), row.try_into()) {
-        return list_looked(columns, table, clocks % 8, words, row);
-    }
-    let place = list_row(columns, words, row);
-    if clocks % 8 != 0 {
-        advance_few(64, table, clocks as u64 % 8, &mut columns[place..]);
-    }
-    place
-}
-
-/// The words of a row's marked chains over the end of the list so many clocks later, where the chains' words have `held` eights of these behind
-/// them.
-fn list_later(
-    columns: &mut [u64],
-    table: &[u64; 256],
-    clocks: usize,
-    held: usize,
-    words: &[u64],
-    row: &[u8],
-) -> usize {
-    let place = list_few(columns, table, clocks, words, row);
-    if held < clocks / 8 {
-        for column in &mut columns[place..] {
-            *column = (held..clocks / 8).fold(*column, |w, _| look(table, 8, w));
-        }
-    }
-    place
-}
-
-/// In a register of 64 bits, each column from its chain's word after whole eights of clocks: all words are advanced by eight clocks for every eighth
-/// slice, or each column by itself.
-fn fill_wide(marks: Marks, read: Read, each: bool, words: &mut [u64], columns: &mut [u64]) {
-    let table = eight_on(read);
-    let mut held = 0;
-    let mut place = columns.len();
     for (clocks, t) in (0..read.s).rev().enumerate() {
-        if !each && held < clocks / 8 {
-            advance_few(64, &table, 8, words);
-            held += 1;
+        let start = list_row(&mut columns[..place], words, marks.row(t));
+        let few = clocks as u64 % 8;
+        if few != 0 {
+            advance_few(64, &table, few, &mut columns[start..place]);
         }
-        place = list_later(
-            &mut columns[..place],
-            &table,
-            clocks,
-            held,
-            words,
-            marks.row(t),
-        );
+        place = start;
+        if few == 7 {
+            advance_few(64, &table, 8, words);
+        }
     }
 }
 
 /// .. in any register, raised to 64 bits.
-fn fill_by_eights(marks: Marks, read: Read, each: bool, spread: &[u64; 256], columns: &mut [u64]) {
-    let mut words = *spread;
-    let words = &mut words[..read.n];
-    if read.m == 64 {
-        return fill_wide(marks, read, each, words, columns);
-    }
+fn fill_by_eights(marks: Marks, read: Read, spread: &[u64; 256], columns: &mut [u64]) {
     let up = 64 - read.m;
     let raised = Read {
         m: 64,
         taps: read.taps << up,
         ..read
     };
-    words.iter_mut().for_each(|w| *w <<= up);
-    fill_wide(marks, raised, each, words, columns);
-    columns.iter_mut().for_each(|w| *w >>= up);
+    fill_wide(marks, raised, spread.map(|w| w << up), columns);
+    for column in columns {
+        *column >>= up;
+    }
 }
 
 /// From so many columns on a sweep costs least.
@@ -426,22 +334,12 @@ const MANY: usize = 65_536;
 
 /// What so many columns cost by a sweep, where one word advanced by one clock costs 1.
 fn sweep_cost(read: Read) -> usize {
-    read.n * read.s.saturating_sub(1) + 16 * read.s
-}
-
-/// .. by all words advanced by eight clocks for every eighth slice.
-fn passed_cost(read: Read) -> usize {
-    read.n * read.s / 5
-}
-
-/// .. by each column advanced by itself, by eight clocks for every eighth slice.
-fn each_cost(count: usize, read: Read) -> usize {
-    2 * count.min(MANY) * (read.s / 8)
+    read.n * read.s + 16 * read.s
 }
 
 /// .. by eights of clocks.
 fn eights_cost(count: usize, read: Read) -> usize {
-    passed_cost(read).min(each_cost(count, read)) + 20 * read.s + 2 * count + 128
+    read.n * read.s / 5 + 20 * read.s + 2 * count + 128
 }
 
 /// .. one by one.
@@ -467,12 +365,10 @@ pub fn needs_sweep(read: Read, spread: &[u64; 256], count: usize) -> bool {
 
 /// A few columns are made one by one; for many, all the chains' words are advanced together, by eights of clocks or by one for each slice.
 fn fill_columns(marks: Marks, read: Read, spread: &[u64; 256], columns: &mut [u64]) {
-    let count = columns.len();
-    if eights_least(count, read) {
-        let each = each_cost(count, read) < passed_cost(read);
-        fill_by_eights(marks, read, each, spread, columns);
-    } else if needs_sweep(read, spread, count) {
-        fill_by_sweep(marks, read, spread, columns);
+    if eights_least(columns.len(), read) {
+        fill_by_eights(marks, read, spread, columns);
+    } else if needs_sweep(read, spread, columns.len()) {
+        fill_swept(marks, read, spread, 0..read.s, columns);
     } else {
         fill_sparse(marks, read, spread, columns)
     }
