@@ -1,6 +1,8 @@
 // A table by bytes of the XORs of 64 words: with it the XOR of the words that a word of 64 marks has set costs one look for each of its
 // eight bytes. It sees words alone. Every function is total, but for `fill_table`, which asks for
 // the room.
+#![tactic(auto)]
+
 ghost use Rattle.std.specs.Prelude.{◌≡◌, ◌+◌, ◌≤◌, length};
 ghost use Rattle.word.specs.Zeros.{zeros};
 ghost use Rattle.byte_tables.specs.Table.{Filled, ByteTable, looked};

@@ -1,5 +1,7 @@
 // The C boundary (include/canceller.h): one function for each call of documents 01 and 02, under its C name. A call makes the library's
 // call and hands its answer back as crossing's struct; it sees every crate whose call it makes, and nothing of the guarantee.
+#![tactic(auto)]
+
 ghost use Rattle.std.specs.Prelude.{◌≡◌, length};
 ghost use Rattle.word.specs.Reply.{lent};
 ghost use Rattle.combinations.specs.Reduced.{reduced_list};

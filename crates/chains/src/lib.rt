@@ -1,5 +1,7 @@
 // Chains: their spread words and what they drive into the register's inputs, cell by cell or by a table of half bytes. It sees
 // words, numbers and rows; it knows no register. Every function is total.
+#![tactic(auto)]
+
 ghost use Rattle.std.specs.Prelude.{◌≡◌, min, ◌+◌, ◌≤◌, ◌<◌, length, get_or, replicate};
 ghost use Rattle.std.specs.Int.Bits.{bit_xor};
 ghost use Rattle.rows.specs.Row.{cell};

@@ -1,5 +1,7 @@
 // Words that no column which is left can change: the space of their XORs is closed under the clock, and they are even with every chain that
 // is still marked. It sees a register, rows of marks and columns as words; it knows no portions.
+#![tactic(auto)]
+
 ghost use Rattle.std.specs.Prelude.{◌≡◌, true, List, ℕ, ◌+◌, ◌≤◌, min, length, drop};
 ghost use Rattle.word.specs.Word.{parity};
 ghost use Rattle.word.specs.Zeros.{zeros};

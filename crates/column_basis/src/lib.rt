@@ -1,6 +1,8 @@
 // A basis of columns: many columns taken without a parity for each word. Beside a list in which every word has a bit of its own, clear in
 // the other words, each other bit is dead, and has a word of the basis. A column is reduced by the basis, and what is left of it makes its
 // lowest bit dead. Only at the end are the words made from the basis. It sees words and combinations.
+#![tactic(auto)]
+
 ghost use Rattle.std.specs.Prelude.{◌≡◌, List, ℕ, ◌+◌, ◌<◌, length};
 ghost use Rattle.word.specs.Parities.{parities};
 ghost use Rattle.word.specs.Zeros.{zeros};

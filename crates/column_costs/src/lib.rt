@@ -1,5 +1,7 @@
 // What the ways to make columns cost, and which costs least. It sees the register's limits and knows none of the ways. The public functions are
 // total.
+#![tactic(auto)]
+
 ghost use Rattle.std.specs.Prelude.{◌≡◌, ◌≤◌, ◌<◌};
 ghost use Rattle.column_costs.specs.Costs.{cells, sweep_cost, eights_cost, ones_cost, eights_least, ones_less};
 

@@ -1,5 +1,7 @@
 // One column's step on a list of words: of words that are X-free for some columns, those that are so for one column more. It sees
 // words and combinations.
+#![tactic(auto)]
+
 ghost use Rattle.std.specs.Prelude.{◌≡◌, ◌<◌, length};
 ghost use Rattle.std.specs.Int.Bits.{bit_xor};
 ghost use Rattle.word.specs.Word.{parity};

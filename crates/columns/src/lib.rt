@@ -1,5 +1,7 @@
 // Columns: those of marked cells, from rows of marks that stand in a list of bytes, or those of a set file's symbols. It sees the three ways to
 // make them and what they cost, the columns of named symbols in a list, and the set file. Every function is total.
+#![tactic(auto)]
+
 ghost use Rattle.std.specs.Prelude.{◌≡◌, min, length};
 ghost use Rattle.rows.specs.Lists.{cells_of};
 ghost use Rattle.ties.specs.Ties.{ties_in};

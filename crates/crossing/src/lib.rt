@@ -1,6 +1,8 @@
 // How each answer crosses to C: a struct by value whose first field is the refusal number, 0 for an answer, and the function that
 // makes it of what a call hands back. It sees the answers of all calls and makes no call; the exported functions are the crate
 // canceller.
+#![tactic(auto)]
+
 ghost use Rattle.std.specs.Prelude.{◌≡◌};
 ghost use Rattle.elimination.specs.Elimination.{said as saidEliminated};
 ghost use Rattle.register.specs.Clock.{said as saidClocked};

@@ -2,6 +2,8 @@
 // the columns of one slice after the other and the words of a run. It goes through the slices once: all columns of a run clocked together
 // have the rank that they had, so each slice's columns may stand in one frame, whatever run it falls in; and only the slice that doesn't
 // fit into a run is put to the words twice.
+#![tactic(auto)]
+
 ghost use Rattle.std.specs.Prelude.{◌≡◌, ◌≤◌, length};
 ghost use Rattle.word.specs.Reply.{number_of};
 ghost use Rattle.set_file.specs.Reading.{TakenFrom};

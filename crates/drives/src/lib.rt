@@ -1,5 +1,7 @@
 // What the chains drive in each slice of a response, for many slices: 64 chains at a time, by a table of what their cells' bytes
 // drive. It sees rows and chains; it knows no register and no file. Every public function is total.
+#![tactic(auto)]
+
 ghost use Rattle.std.specs.Prelude.{◌≡◌, true, min, ◌+◌, ◌*◌, ◌≤◌, length};
 ghost use Rattle.word.specs.Zeros.{zeros};
 ghost use Rattle.byte_tables.specs.Table.{looked};

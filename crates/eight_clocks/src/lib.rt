@@ -1,5 +1,7 @@
 // Up to 8 clocks at once: words in the register 1 to 8 clocks later, where all cells are 0 and nothing is inverted, by a table of what
 // the bits that leave the register give back. It sees the register and its powers; it knows no file. Every function is total.
+#![tactic(auto)]
+
 ghost use Rattle.std.specs.Prelude.{◌≡◌, [], map, min, ◌≤◌, ◌-◌, ◌%◌, length};
 ghost use Rattle.word.specs.Zeros.{zeros};
 ghost use Rattle.register.specs.Circuit.{Circuit, circuit};

@@ -1,6 +1,8 @@
 // Columns by eights: from the last slice to the first, with all the chains' words advanced by 8 clocks for every eighth slice, and those of
 // marked cells by the clocks between, in a register raised to 64 bits. It sees the table of 8 clocks, the marked words of a row, a taken set
 // and the sweep. The public function is total.
+#![tactic(auto)]
+
 ghost use Rattle.std.specs.Prelude.{◌≡◌, cond, false, map, ◌-◌, ◌*◌, ◌/◌, ◌%◌, ◌^◌, ◌≤◌, ◌<◌, min, eqb, length, take};
 ghost use Rattle.rows.specs.Row.{cell};
 ghost use Rattle.rows.specs.Marks.{marked_words};

@@ -1,4 +1,6 @@
 // The elimination: a width and columns in, the rank and the reduced X-free list out. It knows nothing of registers, sets or files.
+#![tactic(auto)]
+
 ghost use Rattle.std.specs.Prelude.{◌≡◌, ◌≤◌, length, take, drop};
 ghost use Rattle.word.specs.Word.{beyond};
 ghost use Rattle.word.specs.Some.{any_of};

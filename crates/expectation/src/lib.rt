@@ -1,5 +1,7 @@
 // Expectations: the expected bits of a list of words for a set, whether or not the words are the set's own. It sees the signature of the
 // set's values, the columns of the cells tied as opposite and the test for a reduced list, and nothing of how words are made.
+#![tactic(auto)]
+
 ghost use Rattle.std.specs.Prelude.{◌≡◌, not, take};
 ghost use Rattle.word.specs.Reply.{first_of};
 ghost use Rattle.word.specs.Parities.{parities};

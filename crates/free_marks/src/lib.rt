@@ -1,5 +1,7 @@
 // Rows of marks without the marks of some of the cells that ties name, copied out of the list in which the rows stand. It sees numbers, rows
 // and ties; it knows no register and no file. Every function is total.
+#![tactic(auto)]
+
 ghost use Rattle.std.specs.Prelude.{◌≡◌, cond, ◌&&◌, ℕ, ◌<◌, ◌≤◌, eqb, get_or, replicate};
 ghost use Rattle.rows.specs.Row.{row_bytes, cell};
 ghost use Rattle.rows.specs.Lists.{list_row, cells_of};

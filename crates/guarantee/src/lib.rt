@@ -1,4 +1,6 @@
 // Demand 3 at work: a record judged by the plan of its set, and two records judged by one plan.
+#![tactic(auto)]
+
 ghost use Rattle.std.specs.Prelude.{◌≡◌, ℕ, length};
 ghost use Rattle.word.specs.Reply.{answer, number_of, lent};
 ghost use Rattle.signing.specs.Signing.{sign_reply, said_signed};

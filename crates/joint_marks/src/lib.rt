@@ -1,5 +1,7 @@
 // Joint marks: the marks of some rows together, as one row of 256 cells. It sees numbers and rows; it knows no register and no file. Every
 // function is total.
+#![tactic(auto)]
+
 ghost use Rattle.std.specs.Prelude.{◌≡◌, List, ℕ, ◌+◌, ◌*◌, ◌≤◌, ◌<◌, length, get_or, replicate};
 ghost use Rattle.std.specs.Int.Bits.{bit_xor, bit_or};
 ghost use Rattle.rows.specs.Row.{cell};

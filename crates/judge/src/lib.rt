@@ -1,4 +1,6 @@
 // Judging a signature by a plan file. It sees words and the check of a plan file.
+#![tactic(auto)]
+
 ghost use Rattle.std.specs.Prelude.{◌≡◌, false, not, ◌||◌, ℕ, ◌≤◌, ltb, length};
 ghost use Rattle.numbers.specs.Bytes.{words_at};
 ghost use Rattle.word.specs.Word.{beyond};

@@ -1,5 +1,7 @@
 // The words of a taken set, from a working list: those of its free cells, by portions of their columns in 64 places, and then the columns of
 // its named symbols, one place each behind the 64. It sees the words of marked cells, the columns of symbols and a taken set.
+#![tactic(auto)]
+
 ghost use Rattle.std.specs.Prelude.{◌≡◌, [], ◌∷◌, ◌+◌, ◌*◌, ◌≤◌, length, take, drop};
 ghost use Rattle.word.specs.Reply.{lent, number_of};
 ghost use Rattle.combinations.specs.Step.{units};

@@ -1,5 +1,7 @@
 // The columns of named symbols in a list of columns: each is written at the place of its symbol's first cell. It sees marked cells, ties and
 // their flags, the columns of symbols and a taken set. Every public function is total.
+#![tactic(auto)]
+
 ghost use Rattle.std.specs.Prelude.{◌≡◌, ℕ, ◌+◌, ◌<◌, ◌≤◌, min, length};
 ghost use Rattle.std.proofs.lemmas.List.Edits.{sets};
 ghost use Rattle.rows.specs.Row.{cell};

@@ -1,5 +1,7 @@
 // The marked cells of rows: how many there are, and the last row that has any. It sees words, numbers and rows; it knows no register and no
 // file. Every function is total.
+#![tactic(auto)]
+
 ghost use Rattle.std.specs.Prelude.{◌≡◌, true, ◌+◌, ◌-◌, ◌*◌, ◌≤◌, length, take, drop};
 ghost use Rattle.std.specs.Int.Count.{ones};
 ghost use Rattle.rows.specs.Row.{cell};

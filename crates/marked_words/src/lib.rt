@@ -1,5 +1,7 @@
 // The words of the chains whose cell in a row is marked, written over the end of a list. It sees words, numbers and rows; it knows no
 // register and no file. The public functions are total; the private ones that ask for something are those without a test in their loops.
+#![tactic(auto)]
+
 ghost use Rattle.std.specs.Prelude.{◌≡◌, [], ◌∷◌, ◌-◌, ◌^◌, ◌≤◌, ◌<◌, min, ltb, length, take};
 ghost use Rattle.std.specs.Int.Count.{ones};
 ghost use Rattle.rows.specs.Row.{cell};

@@ -1,4 +1,6 @@
 // Numbers in lists of bytes: counts of 2 bytes and words of 8, low byte first. It sees words alone. Every function but `eight_bytes` is total.
+#![tactic(auto)]
+
 ghost use Rattle.std.specs.Prelude.{◌≡◌, [], ◌∷◌, min, ◌+◌, ◌<◌, ◌≤◌, length, get_or, take, drop};
 ghost use Rattle.numbers.specs.Bytes.{number, count_at, word_at};
 

@@ -1,5 +1,7 @@
 // A table of the parities of some words with every byte of a column, by which columns that are even with all of the words are
 // passed over. It sees words, turned words and combinations, and knows nothing of the elimination that uses it.
+#![tactic(auto)]
+
 ghost use Rattle.std.specs.Prelude.{◌≡◌, true, false, ℕ, ◌+◌, ◌≤◌, ◌<◌, length, get_or, take, drop};
 ghost use Rattle.word.specs.Word.{parity};
 ghost use Rattle.combinations.specs.Combination.{x_free};

@@ -1,5 +1,7 @@
 // The plan file of document 01: its parts, the check that every call makes of one, and its reader. It sees words and the test for a
 // reduced list, and knows nothing of how a plan was made.
+#![tactic(auto)]
+
 ghost use Rattle.std.specs.Prelude.{◌≡◌, not, ◌+◌, ◌*◌, ◌<◌, ◌≤◌, length};
 ghost use Rattle.numbers.specs.Bytes.{word_at};
 ghost use Rattle.word.specs.Reply.{first_of, front, lent, number_of};

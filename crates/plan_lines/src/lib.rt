@@ -1,6 +1,8 @@
 // The lines of the plan printer's text, each put into a lent buffer: the set's, a word's, all words', the last and a refusal's. It sees
 // text and numbers in lists of bytes, and nothing of sets or planning. Every function is total, and answers with the place behind what
 // it put, or with the buffer's end where that lies past it.
+#![tactic(auto)]
+
 ghost use Rattle.std.specs.Prelude.{◌++◌};
 ghost use Rattle.text.specs.Text.{decimal, Put};
 ghost use Rattle.plan_lines.specs.Lines.{set_line, word_line, word_lines, end_line, refused_line};

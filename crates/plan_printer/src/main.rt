@@ -1,4 +1,6 @@
 // The plan printer: reads a set from standard input and prints its plan. It sees the plan's text, and what reads and writes.
+#![tactic(auto)]
+
 ghost use Rattle.std.specs.Prelude.{◌≡◌, suc, ◌≤◌, length};
 ghost use Rattle.word.specs.Reply.{front};
 ghost use Rattle.plan_text.specs.PlanText.{longest, printed_text};

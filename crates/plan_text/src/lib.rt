@@ -1,5 +1,7 @@
 // The plan printer's text of a set, made in a lent buffer: planning, then the lines. It sees the set file, planning and the lines of the
 // text; the output always has room for them.
+#![tactic(auto)]
+
 ghost use Rattle.std.specs.Prelude.{◌≡◌, length};
 ghost use Rattle.word.specs.Reply.{front, lent};
 ghost use Rattle.kept_words.specs.Working.{words_of};

@@ -1,5 +1,7 @@
 // Planning: the words of a set, and its words with their expected bits. It sees the words of a taken set and the expected bits of a list
 // of words. Planning is the two calls in a row: the words, then the expected bits for them.
+#![tactic(auto)]
+
 ghost use Rattle.std.specs.Prelude.{◌≡◌, length};
 ghost use Rattle.word.specs.Reply.{first_of, lent, number_of};
 ghost use Rattle.set_file.specs.Reading.{set_tests, TakenFrom};

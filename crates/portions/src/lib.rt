@@ -1,5 +1,7 @@
 // The columns of marked cells in portions: as many of the last ones as a list has room for, then as many of those before them, and so on. It
 // sees the register's powers, the table of 8 clocks and the marked words of a row; it knows no file. Every function is total.
+#![tactic(auto)]
+
 ghost use Rattle.std.specs.Prelude.{◌≡◌, cond, List, ◌++◌, map, ℕ, ◌-◌, ◌%◌, ◌≤◌, ◌<◌, min, eqb, length, take, drop};
 ghost use Rattle.rows.specs.Lists.{cells_of};
 ghost use Rattle.eight_clocks.specs.Eight.{looked_on};
@@ -11,7 +13,7 @@ use register::Register;
 use rows::Rows;
 
 // Where marked cells come from: the register that their chains drive, the rows of marks and how many slices there are.
-#[derive(Drop)]
+#[derive(Clone, Copy)]
 pub struct Source {
     pub register: Register,
     pub marks: Rows,

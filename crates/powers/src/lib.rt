@@ -1,6 +1,8 @@
 // The powers of the register: words in the register while all cells are 0 and nothing is inverted, one clock after the other or many
 // at once. Such a clock is linear, so a word some clocks later is the XOR of the powers for its bits. It sees the register; it knows no file.
 // Every function is total.
+#![tactic(auto)]
+
 ghost use Rattle.std.specs.Prelude.{◌≡◌, [], map, ℕ, min, ◌<◌, get_or, replicate};
 ghost use Rattle.register.specs.Circuit.{circuit, advanced};
 ghost use Rattle.signatures.specs.Later.{later};

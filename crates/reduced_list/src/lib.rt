@@ -1,4 +1,6 @@
 // Whether some words are a reduced list, and whether they are as many as a plan can have. It sees words and combinations.
+#![tactic(auto)]
+
 ghost use Rattle.std.specs.Prelude.{◌≡◌};
 ghost use Rattle.combinations.specs.Pass.{with_top};
 ghost use Rattle.combinations.specs.Reduced.{is_reduced};

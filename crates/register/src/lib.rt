@@ -1,4 +1,6 @@
 // The signature register of document 01 and its clock, with the cells of a row or with what they drive. It sees rows and chains; it knows no file.
+#![tactic(auto)]
+
 ghost use Rattle.std.specs.Prelude.{◌≡◌, not, min, ◌-◌, eqb, length};
 ghost use Rattle.std.specs.Int.Bits.{bit_xor};
 ghost use Rattle.word.specs.Reply.{first_of};
@@ -8,7 +10,7 @@ ghost use Rattle.register.specs.Circuit.{advanced, bad_taps, bad_chains, too_man
 ghost use Rattle.register.specs.Clock.{clock_tests, clock_reply, said, state_after};
 
 // The register: its width m, its tap word, its inversion word and its state.
-#[derive(Drop)]
+#[derive(Clone, Copy)]
 pub struct Register {
     pub m: u64,
     pub taps: u64,

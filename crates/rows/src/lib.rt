@@ -1,5 +1,7 @@
 // Rows of cells: a slice's cells, eight to a byte, and lists of rows. It sees words and numbers; it knows no register and no file.
 // Every public function is total but `pairs_share_a_bit`, whose caller has the rows' bound.
+#![tactic(auto)]
+
 ghost use Rattle.std.specs.Prelude.{◌≡◌, ◌+◌, ◌*◌, ◌≤◌, length, take, drop};
 ghost use Rattle.std.specs.Int.Bits.{bit_and, bit_or};
 ghost use Rattle.word.specs.Some.{any_below};
@@ -9,7 +11,7 @@ ghost use Rattle.rows.specs.Lists.{list_row, row_of, shares_bit, spare_in};
 
 // Where a response's rows stand in a list of bytes: `bytes` bytes each, the first at place `at` and each `stride` bytes after the
 // one before.
-#[derive(Drop)]
+#[derive(Clone, Copy)]
 pub struct Rows {
     pub at: u32,
     pub stride: u32,

@@ -1,5 +1,7 @@
 // The words that a run leaves, slice by slice. From one slice to the next they stand as a basis of the run's columns: how many words are left
 // is all that is asked of them, and that the dead bits say. It sees a basis of columns, and the elimination for a list written over another.
+#![tactic(auto)]
+
 ghost use Rattle.std.specs.Prelude.{◌≡◌, List, ℕ, ◌≤◌, length};
 ghost use Rattle.combinations.specs.Step.{steps, units};
 ghost use Rattle.column_basis.specs.Basis.{Basis, Held};

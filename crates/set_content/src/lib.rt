@@ -1,5 +1,7 @@
 // What the set writer is handed, and the numbers that it meets with it: 2, 3, 25, 4, 6, 7, 8, 9, 10, 29, 30, 31 and 24. It sees rows, ties, the
 // register's limits and where the parts of a set stand; it writes nothing. Every function is total.
+#![tactic(auto)]
+
 ghost use Rattle.std.specs.Prelude.{◌≡◌, not, ◌||◌, ◌*◌, ◌%◌, eqb, ltb, length};
 ghost use Rattle.word.specs.Reply.{first_of};
 ghost use Rattle.rows.specs.Row.{cell, row_bytes};

@@ -1,5 +1,7 @@
 // The set file of document 01: the tests of its parts, 1 to 10, 25 and 29 to 31, and its reader. It sees where the parts stand (`set_layout`); the
 // rows of one slice and the writer are crates above it. Every public function is total.
+#![tactic(auto)]
+
 ghost use Rattle.std.specs.Prelude.{◌≡◌, false, not, ◌||◌, ◌≤◌, eqb, ltb, length};
 ghost use Rattle.word.specs.Word.{bad_width};
 ghost use Rattle.word.specs.Reply.{first_of, number_of};
@@ -27,7 +29,7 @@ pub struct SetRead {
 }
 
 // A taken set as one value: what the reader answered and the spread words beside it.
-#[derive(Drop)]
+#[derive(Clone, Copy)]
 pub struct Taken {
     pub register: Register,
     pub n: u16,

@@ -1,6 +1,8 @@
 // The set file of document 01: where each of its parts stands, and the parts before and behind its rows, as the set gives them. It sees
 // numbers, rows, ties and the register's limits; it knows no refusal. A part past the end of the set counts as 0. Every public
 // function is total.
+#![tactic(auto)]
+
 ghost use Rattle.std.specs.Prelude.{◌≡◌, ◌*◌, ◌≤◌, length, take};
 ghost use Rattle.word.specs.Reply.{front};
 ghost use Rattle.numbers.specs.Bytes.{count_at};

@@ -1,4 +1,6 @@
 // The words of marked cells, from portions of their columns. It sees the portions, the elimination and a taken set.
+#![tactic(auto)]
+
 ghost use Rattle.std.specs.Prelude.{◌≡◌, true, List, ℕ, ◌+◌, ◌-◌, ◌*◌, ◌≤◌, ◌<◌, min, length, take};
 ghost use Rattle.combinations.specs.Step.{units};
 ghost use Rattle.rows.specs.Lists.{cells_of};
@@ -22,7 +24,7 @@ const EIGHT_BITS: u64 = 8;
 
 // How far the work has come: the columns that are left, as after a portion; how many words are left, and about how many columns; whether
 // the last portion took at most one word away.
-#[derive(Drop)]
+#[derive(Clone, Copy)]
 struct Progress {
     t: u16,
     chains: usize,

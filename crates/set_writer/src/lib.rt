@@ -1,5 +1,7 @@
 // The set file of document 01: its writer. What it writes the reader (`set_file`) and the rows of one slice (`slice_rows`) give
 // back: proofs/RoundTrip. The numbers that it meets are those of its content (`set_content`).
+#![tactic(auto)]
+
 ghost use Rattle.std.specs.Prelude.{◌≡◌, ◌++◌, ◌+◌, ◌*◌, ◌<◌, ◌≤◌, length};
 ghost use Rattle.std.proofs.lemmas.List.Edits.{sets};
 ghost use Rattle.word.specs.Reply.{lent};

@@ -1,5 +1,7 @@
 // Signing: the signature of a response whose rows stand in a list of bytes, of a record, and of a set's values. It sees the
 // register, the signature of slices, and the set file. Every function is total.
+#![tactic(auto)]
+
 ghost use Rattle.std.specs.Prelude.{◌≡◌};
 ghost use Rattle.rows.specs.Row.{row_bytes};
 ghost use Rattle.rows.specs.Lists.{cells_of};

@@ -1,6 +1,8 @@
 // The columns of one slice after the other, in a frame that stays: each slice's are the spread words of its marked cells, undone one clock for
 // each slice before it. All the chains' words are undone 8 clocks together, by a table, and for the slices between only those of marked
 // cells. It sees the clocks undone and the marked words of a row; it knows no file. Every function is total.
+#![tactic(auto)]
+
 ghost use Rattle.std.specs.Prelude.{◌≡◌, cond, List, [], map, ℕ, ◌+◌, ◌-◌, ◌/◌, ◌%◌, ◌≤◌, min, eqb, length, drop, get_or};
 ghost use Rattle.std.specs.Int.Bits.{bit_xor};
 ghost use Rattle.rows.specs.Row.{cell};

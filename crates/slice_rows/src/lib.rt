@@ -1,5 +1,7 @@
 // The rows of one slice of a set file, the value row and the row of unknown marks, and the entries of its ties: their places, and the parts
 // of the set themselves. It sees the set's tests and where its parts stand. Every function is total.
+#![tactic(auto)]
+
 ghost use Rattle.std.specs.Prelude.{◌≡◌, not, ◌+◌, min, ltb, length};
 ghost use Rattle.word.specs.Reply.{first_of};
 ghost use Rattle.set_layout.specs.Layout.{slices_of};

@@ -1,5 +1,7 @@
 // The slices of a response run through the register: the signature of rows that stand in a list of bytes, by the way that takes the least time
 // for so many slices. It sees the register, the chains and what they drive; it knows no file. Every public function is total.
+#![tactic(auto)]
+
 ghost use Rattle.std.specs.Prelude.{◌≡◌, List, ℕ, min, ◌≤◌, length};
 ghost use Rattle.rows.specs.Lists.{cells_of};
 ghost use Rattle.rows.specs.declared.Rows.{Rows};

@@ -1,5 +1,7 @@
 // Columns one by one, by the powers of the register: for few of them, each is made from its chain's spread word. It sees the register's
 // powers, the marked words of a row and a taken set.
+#![tactic(auto)]
+
 ghost use Rattle.std.specs.Prelude.{◌≡◌, false, not, ◌||◌, min, take};
 ghost use Rattle.rows.specs.Lists.{cells_of};
 ghost use Rattle.marked_words.specs.Back.{back};

@@ -1,5 +1,7 @@
 // The first columns of many, taken by a basis where the list's words allow it: where each has a highest bit of its own, clear in the other
 // words, as the words of a reduced list have. Each word stands in the slot of that bit then. It sees words, combinations and the basis.
+#![tactic(auto)]
+
 ghost use Rattle.std.specs.Prelude.{◌≡◌, true, ◌≤◌, length, take};
 ghost use Rattle.word.specs.Zeros.{zeros};
 ghost use Rattle.combinations.specs.Step.{steps};

@@ -1,5 +1,7 @@
 // Columns by a sweep: from the last slice to the first, with all the chains' words advanced together. It sees the register's powers, the
 // marked words of a row and a taken set. The function is total.
+#![tactic(auto)]
+
 ghost use Rattle.std.specs.Prelude.{◌≡◌, min};
 ghost use Rattle.rows.specs.Lists.{cells_of};
 ghost use Rattle.marked_words.specs.Back.{back};

@@ -1,5 +1,7 @@
 // The columns of named symbols, and of the cells that take the opposite of theirs, one by one by the powers of the register. It sees ties and
 // their flags, the register's powers and a taken set. Every public function is total.
+#![tactic(auto)]
+
 ghost use Rattle.std.specs.Prelude.{◌≡◌, true, false, not, cond, ℕ, ◌+◌, ◌<◌, ◌≤◌, min, eqb, length, take};
 ghost use Rattle.std.proofs.lemmas.List.Edits.{sets};
 ghost use Rattle.word.specs.Some.{any_below};

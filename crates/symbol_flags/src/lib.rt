@@ -1,5 +1,7 @@
 // The symbol numbers of ties and the flags of the entries that are the first with theirs. It sees numbers and ties; it knows no register and
 // no file. Every function is total.
+#![tactic(auto)]
+
 ghost use Rattle.std.specs.Prelude.{◌≡◌, cond, ℕ, ◌+◌, ◌*◌, ◌<◌, ◌≤◌, min, eqb, length, get_or, replicate};
 ghost use Rattle.word.specs.Some.{any_below};
 ghost use Rattle.numbers.specs.Bytes.{count_at};

@@ -1,5 +1,7 @@
 // Text in a lent buffer: bytes and decimal numbers, one after the other. It sees numbers in lists of bytes. Every function is total:
 // nothing is written past the buffer's end, and no place that is answered lies past it.
+#![tactic(auto)]
+
 ghost use Rattle.std.specs.Prelude.{◌≡◌, ◌≤◌, length, drop};
 ghost use Rattle.text.specs.Text.{decimal, Put};
 

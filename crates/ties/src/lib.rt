@@ -1,5 +1,7 @@
 // Ties: entries in a list of bytes, each the slice, the chain and the symbol number of an unknown cell and its side, and the tests of such a
 // list, 29 to 31. It sees numbers and rows; it knows no file. Every function is total; a byte past the end counts as 0.
+#![tactic(auto)]
+
 ghost use Rattle.std.specs.Prelude.{◌≡◌, ℕ, ◌+◌, ◌*◌, get_or};
 ghost use Rattle.word.specs.Reply.{first_of};
 ghost use Rattle.numbers.specs.Bytes.{count_at};

@@ -1,5 +1,7 @@
 // Words turned: row b has bit b of every word, so a column's parities with all words are the XOR of the rows of its bits. And words in 64
 // slots, of which some are dead: how many of them are held. It sees words and combinations.
+#![tactic(auto)]
+
 ghost use Rattle.std.specs.Prelude.{◌≡◌, List, ℕ, length, take};
 ghost use Rattle.word.specs.Zeros.{zeros};
 ghost use Rattle.turned_words.specs.Turned.{kept, Turns, XoredInto, dead_behind};

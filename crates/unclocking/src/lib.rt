@@ -1,5 +1,7 @@
 // Clocks undone: words in the register some clocks earlier, where all cells were 0 and nothing was inverted. It sees the register; it knows
 // no file. Every function is total.
+#![tactic(auto)]
+
 ghost use Rattle.std.specs.Prelude.{◌≡◌, [], map, ℕ, min, ◌<◌, ◌-◌, ◌^◌, ◌/◌, ◌%◌, length, get_or};
 ghost use Rattle.std.specs.Int.Bits.{bit_xor};
 ghost use Rattle.chains.specs.Driven.{chosen};

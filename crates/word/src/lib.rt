@@ -1,5 +1,7 @@
 // Words of 64 bits: masks, parities, the highest bit, widths; lists of them. Every function is total, but for `double_entries`, which asks
 // for the room.
+#![tactic(auto)]
+
 ghost use Rattle.std.specs.Prelude.{◌≡◌, min, ◌+◌, ◌≤◌, length, take, get_or};
 ghost use Rattle.word.specs.Word.{low_mask, beyond, parity, highest_bit, bad_width};
 ghost use Rattle.word.specs.Parities.{parities};

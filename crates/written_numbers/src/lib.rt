@@ -1,5 +1,7 @@
 // Numbers written into lists of bytes: bytes, counts of 2 bytes and words of 8, low byte first. It sees words and how numbers are read.
 // What would stand past the list's end is not written; a function that asks for the room has no test of it.
+#![tactic(auto)]
+
 ghost use Rattle.std.specs.Prelude.{◌≡◌, ◌+◌, ◌*◌, ◌<◌, ◌≤◌, length, set, take, drop};
 ghost use Rattle.std.proofs.lemmas.List.Edits.{sets};
 ghost use Rattle.numbers.specs.Bytes.{bytes_of, word_bytes};
