@@ -1,0 +1,13 @@
+-- `advance_few` meets its contract.
+use mathlib.Core.Path.{◌∙◌}
+use Prim.Native.Nat.{◌%◌}
+use native.Mathlib.Omega.{arith}
+use Rattle.eight_clocks.proofs.EightLaws.{looked_words}
+use borrow.Author.Rules.{rules}
+use Rattle.eight_clocks.proofs.advance_few.Goals as goal
+
+pub returns : goal.returns
+returns c =
+    let args = c.args in
+    let looked = c.look_few.ensures (search rules) in
+    (looked, (λ k e wide right. looked ∙ looked_words args.m (args.clocks % 8) args.table.now args.words.now (omega arith) k e wide right))

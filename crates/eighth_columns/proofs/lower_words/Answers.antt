@@ -1,0 +1,15 @@
+use mathlib.Core.Path.{refl, ◌∙◌}
+use Prim.Native.Nat.{◌-◌}
+use native.Mathlib.Omega.{arith}
+use Rattle.powers.proofs.AdvanceLaws.{through_none, through_all, through_stores}
+use borrow.Author.Rules.{rules}
+use Rattle.eighth_columns.proofs.lower_words.Goals as goal
+
+pub loop-c-init : goal.loop-c-init
+loop-c-init c = (search rules, refl, through_none _ _)
+
+pub loop-c-preserved : goal.loop-c-preserved
+loop-c-preserved c = (search rules, search rules, through_stores _ _ _ _ _ _ (search rules) c.loop-c.invariant.2 refl refl)
+
+pub returns : goal.returns
+returns c = c.loop-c.invariant.2 ∙ through_all _ _ _ (omega arith)

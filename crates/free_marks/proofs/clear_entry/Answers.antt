@@ -1,0 +1,15 @@
+-- `clear_entry` meets its contract: it clears the cell that the entry names, or nothing.
+use Rattle.ties.specs.Ties.{ties_in}
+use Rattle.ties.specs.Symbols.{names}
+use Rattle.free_marks.proofs.ClearLaws.{entry_clears, entry_leaves}
+use Rattle.free_marks.proofs.clear_entry.Goals as goal
+
+pub returns-then-word_at-ne0 : goal.returns-then-word_at-ne0
+returns-then-word_at-ne0 c =
+    let args = c.args in
+    entry_leaves (names (ties_in args.ties.now k) args.i u d) _ _ _ c.word_at.ensures c.if-word_at-ne0.true
+
+pub returns : goal.returns
+returns c =
+    let args = c.args in
+    entry_clears args.ties.now k args.i _ _ _ _ u d _ _ c.tie_slice.ensures c.tie_chain.ensures c.word_at.ensures c.if-word_at-ne0.false (c.clear_cell.ensures u d)

@@ -1,0 +1,41 @@
+use mathlib.Core.Path.{refl, sym, ap}
+use mathlib.Core.List.{List, ◌++◌}
+use Prim.Native.Nat.{ℕ, ◌+◌, ◌-◌, ◌*◌, ◌^◌, ◌<◌}
+use native.Mathlib.Omega.{arith}
+use lib.ListN.{drop}
+use lib.Seq.{length-take-le}
+use Rattle.marked_words.proofs.ListLaws.{word_inside, listing_room, listing_starts, listing_turns_whole, listing_ends}
+use borrow.Author.Rules.{rules}
+use Rattle.marked_words.proofs.list_256.Goals as goal
+
+pub loop-i-init : goal.loop-i-init
+loop-i-init c = (omega arith, search rules, listing_starts _ _ _ _ (omega (arith, c.requires.words_len)))
+
+pub eight_bytes-marks-requires : goal.eight_bytes-marks-requires
+eight_bytes-marks-requires c = omega (arith, c.requires.row_len)
+
+pub slice_bounds-list_word-end-in-loop-i : goal.slice_bounds-list_word-end-in-loop-i
+slice_bounds-list_word-end-in-loop-i c = sym (length-take-le _ _ (search rules))
+
+pub list_word-place-requires : goal.list_word-place-requires
+list_word-place-requires c =
+    let marks = c.eight_bytes-marks.result in
+    let small : marks < 2 ^ 64 = search rules in
+    word_inside c.args.words.now (64 * (c.loop-i.i - 1)) marks small (omega (arith, c.requires.words_len))
+
+pub loop-i-preserved : goal.loop-i-preserved
+loop-i-preserved c =
+    let at = c.loop-i in
+    let read = c.eight_bytes-marks in
+    let listed = c.list_word-place in
+    let small : read.result < 2 ^ 64 = search rules in
+    let k =
+    listing_turns_whole c.args.words.now c.args.row.now (λ i. (c.shared_slice_known-2-1.given i).fits) _ _ _ _ _ _ at.i read.result at.invariant.2 c.loop-i-test.true (omega (arith, c.requires.words_len)) small read.ensures refl listed.ensures.value
+    (ap (λ (x : List ℕ). x ++ drop at.place at.columns) listed.ensures.columns_after) in
+    (omega arith, (listing_room _ _ _ _ _ _ k).1, k)
+
+pub shape_of-columns : goal.shape_of-columns
+shape_of-columns c = (listing_room _ _ _ _ _ _ c.loop-i.invariant.2).0
+
+pub returns : goal.returns
+returns c = listing_ends _ _ _ _ _ _ c.loop-i.invariant.2 (omega arith)

@@ -1,0 +1,44 @@
+use mathlib.Core.Path.{refl, sym, ap}
+use mathlib.Core.List.{List, ◌++◌}
+use Prim.Native.Nat.{ℕ, ◌+◌, ◌-◌, ◌*◌}
+use native.Mathlib.Omega.{arith}
+use lib.Bits.{bit_and}
+use lib.Dec.{eqb}
+use lib.ListN.{length, drop}
+use lib.Seq.{length-take-le}
+use borrow.Author.Tests.{eqb-true}
+use Rattle.word.proofs.BoolLaws.{and_left, and_right}
+use Rattle.marked_words.proofs.ListLaws.{marks_inside, listing_room, listing_starts, listing_turns, listing_ends}
+use borrow.Author.Rules.{rules}
+use Rattle.marked_words.proofs.list_row.Goals as goal
+
+pub list_256-requires : goal.list_256-requires
+list_256-requires c =
+    let both = c.if-chains-row.true in
+    let words = c.args.words.now in
+    (eqb-true _ _ (and_left _ _ both), eqb-true _ _ (and_right (eqb (length words) 256) _ both))
+
+pub loop-i-init : goal.loop-i-init
+loop-i-init c = (omega arith, search rules, listing_starts _ _ _ _ (omega arith))
+
+pub slice_bounds-list_word-end-in-loop-i : goal.slice_bounds-list_word-end-in-loop-i
+slice_bounds-list_word-end-in-loop-i c = sym (length-take-le _ _ (search rules))
+
+pub list_word-place-requires : goal.list_word-place-requires
+list_word-place-requires c =
+    marks_inside c.args.words.now (64 * (c.loop-i.i - 1)) c.read_word.result _ c.low_mask-mask.ensures
+
+pub loop-i-preserved : goal.loop-i-preserved
+loop-i-preserved c =
+    let at = c.loop-i in
+    let args = c.args in
+    let k =
+    listing_turns args.words.now args.row.now (λ i. (c.shared_slice_known-2-1.given i).fits) _ _ _ _ _ _ _ _ _ at.invariant.2 c.loop-i-test.true (omega arith) c.low_mask-mask.ensures (ap (λ (x : ℕ). bit_and x c.low_mask-mask.result) c.read_word.ensures) refl c.list_word-place.ensures.value
+    (ap (λ (x : List ℕ). x ++ drop at.place at.columns) c.list_word-place.ensures.columns_after) in
+    (omega arith, (listing_room _ _ _ _ _ _ k).1, k)
+
+pub shape_of-columns : goal.shape_of-columns
+shape_of-columns c = (listing_room _ _ _ _ _ _ c.loop-i.invariant.2).0
+
+pub returns : goal.returns
+returns c = listing_ends _ _ _ _ _ _ c.loop-i.invariant.2 (omega arith)

@@ -1,0 +1,18 @@
+use mathlib.Core.Path.{refl}
+use Prim.Native.Nat.{◌-◌}
+use native.Mathlib.Omega.{arith}
+use Rattle.marked_words.proofs.WholeLaws.{copying_long, copying_starts, copying_turns, copying_ends}
+use Rattle.marked_words.proofs.list_whole.Goals as goal
+
+pub loop-c-init : goal.loop-c-init
+loop-c-init c = (omega arith, refl, copying_starts _ _)
+
+pub loop-c-preserved : goal.loop-c-preserved
+loop-c-preserved c =
+    let at = c.loop-c in
+    let k = copying_turns c.args.words.now _ _ _ _ at.invariant.2 c.requires.in_bounds c.requires.in_bounds_2 c.loop-c-test.true refl in
+    (omega arith, copying_long _ _ _ _ k, k)
+
+pub returns : goal.returns
+returns c =
+    (refl, copying_ends c.args.words.now _ _ _ c.loop-c.invariant.2 c.requires.in_bounds c.requires.in_bounds_2 (omega arith))

@@ -1,0 +1,30 @@
+-- `list_word` meets its contract: without a mark nothing is written, and every way to write the words meets it.
+use native.Mathlib.Omega.{arith}
+use Prim.Native.Nat.{◌≤◌}
+use lib.Count.{ones-le}
+use lib.ListN.{length}
+use Rattle.marked_words.proofs.ListLaws.{taking_starts, taking_ends}
+use Rattle.marked_words.proofs.WholeLaws.{whole_fits, whole_listed}
+use Rattle.marked_words.proofs.list_word.Goals as goal
+use Rattle.marked_words.proofs.list_word.Goals.{Then-marks-eq18446744073709551615}
+
+pub returns-then-marks-eq0 : goal.returns-then-marks-eq0
+returns-then-marks-eq0 c =
+    let args = c.args in taking_ends args.words.now args.marks _ _ _ _ (taking_starts _ _ args.columns.now) c.if-marks-eq0.true
+
+pub overflow_cast-marks : goal.overflow_cast-marks
+overflow_cast-marks c = omega (arith, ones-le 64 _ c.ranges.marks.fits)
+
+-- all 64 chains are marked: there are as many words and places
+fits : (c : Then-marks-eq18446744073709551615) → (64 ≤ length c.args.columns.now) × (64 ≤ length c.args.words.now)
+fits c =
+    whole_fits c.args.words.now c.args.columns.now c.args.marks c.if-marks-eq18446744073709551615.true c.fits.marks.fits c.requires c.if-columns-marks.false
+
+pub list_whole-requires : goal.list_whole-requires
+list_whole-requires c = fits (goal.at.list_whole-requires c).Then-marks-eq18446744073709551615
+
+pub returns-then-marks-eq18446744073709551615 : goal.returns-then-marks-eq18446744073709551615
+returns-then-marks-eq18446744073709551615 c =
+    let args = c.args in
+    let listed = (c.list_whole.ensures.value, c.list_whole.ensures.columns_after) in
+    whole_listed args.words.now args.columns.now _ _ args.marks c.if-marks-eq18446744073709551615.true (fits (goal.at.returns-then-marks-eq18446744073709551615 c).Then-marks-eq18446744073709551615).1 listed.0 listed.1

@@ -1,0 +1,10 @@
+-- `put_last` meets its contract, by whether the list has a place.
+use mathlib.Core.Path.{refl}
+use Rattle.marked_words.proofs.PlaceLaws.{put_full, put_one}
+use Rattle.marked_words.proofs.put_last.Goals as goal
+
+pub returns-then-room-eq0 : goal.returns-then-room-eq0
+returns-then-room-eq0 c = put_full c.args.columns.now c.args.word c.if-room-eq0.true
+
+pub returns : goal.returns
+returns c = (refl, put_one c.args.columns.now c.args.word c.if-room-eq0.false)

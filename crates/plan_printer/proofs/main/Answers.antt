@@ -1,0 +1,21 @@
+-- `main` is safe: what it lends lies within the buffers.
+use mathlib.Core.Path.{sym}
+use lib.Seq.{length-take-le}
+use Rattle.word.proofs.ReplyLaws.{front_part}
+use Rattle.plan_printer.proofs.Laws.{read_within}
+use Rattle.plan_printer.proofs.main.Goals as goal
+
+pub slice_bounds-bytes-end : goal.slice_bounds-bytes-end
+slice_bounds-bytes-end c =
+    let input = c.in-Read.is in
+    let within = c.read_input-input.ensures in
+    read_within _ _ _ input within
+
+pub slice_bounds-print_set-end : goal.slice_bounds-print_set-end
+slice_bounds-print_set-end c = sym (length-take-le _ _ (array-share-prefix-bytes c))
+
+pub slice_bounds-out-end : goal.slice_bounds-out-end
+slice_bounds-out-end c = let printed = (c.print_set-end.ensures.count, c.print_set-end.ensures.text) in (front_part _ _ _ _ printed.1 printed.0).0
+
+pub slice_bounds-write_all-end : goal.slice_bounds-write_all-end
+slice_bounds-write_all-end c = sym (length-take-le _ _ (array-share-prefix-out c))

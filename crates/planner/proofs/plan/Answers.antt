@@ -1,0 +1,28 @@
+-- `plan` meets its contract: there are no words, or they get their expected bits.
+use mathlib.Core.Path.{sym}
+use lib.Seq.{length-take-le}
+use Rattle.expectation.proofs.CallLaws.{expected_taken}
+use Rattle.planner.proofs.CallLaws.{ends_refused, worded_set, worded_words, worded_few, ends_planned}
+use Rattle.planner.proofs.plan.Goals as goal
+
+pub returns-in_default : goal.returns-in_default
+returns-in_default c =
+    let args = c.args in
+    ends_refused _ args.working.now args.words.now _ _ _ c.make_words-made.ensures.1 _ _ c.in_default.is c.words_number.ensures
+
+pub slice_bounds-expected_bits-end : goal.slice_bounds-expected_bits-end
+slice_bounds-expected_bits-end c =
+    let args = c.args in
+    (worded_words _ args.working.now args.words.now _ _ _ c.make_words-made.ensures.1 _ _ c.in-Words.is).0
+
+pub slice_bounds-expected_bits-end-2 : goal.slice_bounds-expected_bits-end-2
+slice_bounds-expected_bits-end-2 c = sym (length-take-le _ _ (slice-reshare-prefix-expected-bits c))
+
+pub returns : goal.returns
+returns c =
+    let args = c.args in
+    let made = (c.make_words-made.ensures.taken, c.make_words-made.ensures.answer, c.make_words-made.ensures.working, c.make_words-made.ensures.words) in
+    let some = c.in-Words.is in
+    ends_planned _ args.working.now args.words.now _ _ _ made.1 _ _ some _
+    (expected_taken _ _ _ (worded_few _ args.working.now args.words.now _ _ _ made.1 _ _ some)
+    (c.expected_bits.ensures (made.0 (worded_set _ args.working.now args.words.now _ _ _ made.1 _ _ some))))

@@ -1,0 +1,11 @@
+-- `pass_slice` meets its contract: the words are advanced 8 clocks, or they aren't.
+use mathlib.Core.Path.{◌∙◌}
+use Rattle.eight_clocks.proofs.EightLaws.{looked_up_lem, left_alone}
+use borrow.Author.Rules.{rules}
+use Rattle.portions.proofs.pass_slice.Goals as goal
+
+pub returns-then-clocks-eq7 : goal.returns-then-clocks-eq7
+returns-then-clocks-eq7 c = λ h. c.look_eight.ensures h ∙ looked_up_lem c.args.clocks _ _ (search rules)
+
+pub returns-else-clocks-eq7 : goal.returns-else-clocks-eq7
+returns-else-clocks-eq7 c = λ h. left_alone c.args.clocks _ _ (search rules)

@@ -1,0 +1,10 @@
+-- `share_a_bit` meets its contract: the OR of what the bytes passed share.
+use Rattle.rows.proofs.RowLaws.{Shared}
+use Prim.Native.Nat.{◌≤◌, ◌-◌}
+use Rattle.rows.proofs.share_a_bit.Given as goal
+
+abbrev pub invariant-loop-i : goal.invariant-loop-i
+invariant-loop-i l = (l.i ≤ l.common) × Shared l.values l.marks l.i l.shared
+
+abbrev pub decreases-loop-i : goal.decreases-loop-i
+decreases-loop-i l = l.common - l.i

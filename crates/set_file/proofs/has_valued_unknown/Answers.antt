@@ -1,0 +1,9 @@
+-- `has_valued_unknown` meets its contract: rows of 32 bytes that are all there by words, the others byte by byte.
+use borrow.Author.Rules.{rules}
+use Rattle.set_file.proofs.CodeLaws.{valued_pairs}
+use Rattle.set_file.proofs.has_valued_unknown.Goals as goal
+
+pub returns : goal.returns
+returns c =
+    valued_pairs _ (λ i. (c.shared_slice_known-1.given i).fits) _ _ _ _ _ c.chain_count-n.ensures
+    c.slice_count-s.ensures c.rows_at-at.ensures c.row_bytes.ensures (search rules) c.pairs_share_a_bit.ensures

@@ -1,0 +1,7 @@
+-- `mark_row` meets its contract: the stretch that its companion names, where it stands.
+use Rattle.slice_rows.proofs.PlaceLaws.{row_lent, mark_inside_set}
+use Rattle.slice_rows.proofs.mark_row.Goals as goal
+
+pub returns : goal.returns
+returns c =
+    row_lent _ _ _ _ c.mark_place.result _ c.mark_place.ensures (mark_inside_set _ _) (c.stretch_at.ensures.bytes, c.stretch_at.ensures.place)

@@ -1,0 +1,17 @@
+-- `sign_by_drives` meets its contract. The loop's invariant: the register holds the state after the first `t` slices, for every response whose
+-- drives these are.
+use mathlib.Core.List.{List}
+use Prim.Native.Nat.{ℕ, ◌-◌, ◌≤◌}
+use Rattle.rows.specs.Lists.{cells_of}
+use Rattle.rows.specs.declared.Rows.{Rows}
+use Rattle.drives.specs.Drives.{Drives}
+use Rattle.slice_signing.proofs.RunLaws.{Running}
+use Rattle.slice_signing.proofs.sign_by_drives.Given as goal
+
+abbrev pub invariant-loop-t : goal.invariant-loop-t
+invariant-loop-t l =
+    (l.t ≤ l.s)
+    × ((ws l : List ℕ) (rows : Rows) → Drives ws l rows l.s l.drives → Running l.initial.held.m l.initial.held.taps l.initial.held.inversion ws (cells_of l rows) l.held.m l.held.taps l.held.inversion l.held.state l.t)
+
+abbrev pub decreases-loop-t : goal.decreases-loop-t
+decreases-loop-t l = l.s - l.t

@@ -1,0 +1,22 @@
+-- `fill_named` meets its contract. The loop's invariant: the columns of the symbols that the first `i` entries open stand at the list's front,
+-- and `place` is behind them.
+use mathlib.Core.Path.{◌≡◌}
+use Prim.Native.Nat.{ℕ, ◌≤◌, ◌-◌}
+use lib.ListN.{length}
+use Rattle.ties.specs.Ties.{ties_in}
+use Rattle.register.specs.Circuit.{Circuit}
+use Rattle.signatures.specs.Symbols.{named_columns}
+use Rattle.symbol_columns.specs.Powered.{SymbolsFrom, FlagsIn}
+use Rattle.symbol_columns.proofs.FillLaws.{Filled, named_part}
+use Rattle.symbol_columns.proofs.fill_named.Given as goal
+
+abbrev pub invariant-loop-i : goal.invariant-loop-i
+invariant-loop-i l =
+    (l.i ≤ length l.numbers)
+    × (l.place ≤ length l.places)
+    × (length l.places ≡ length l.initial.places)
+    × ((k : Circuit) (count : ℕ) → SymbolsFrom k l.slices l.powers l.spread l.width l.numbers (ties_in l.ties count) → FlagsIn l.flags (ties_in l.ties count)
+    → length (named_columns k l.slices (ties_in l.ties count)) ≤ length l.initial.places → Filled (named_part k l.slices (ties_in l.ties count)) l.initial.places l.places l.place l.i)
+
+abbrev pub decreases-loop-i : goal.decreases-loop-i
+decreases-loop-i l = length l.numbers - l.i

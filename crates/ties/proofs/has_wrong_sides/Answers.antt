@@ -1,0 +1,18 @@
+use borrow.Author.Rules.{rules}
+use Rattle.word.proofs.RangeLaws.{one_passed, one_found, all_passed}
+use Rattle.ties.specs.Ties.{wrong_sides}
+use Rattle.ties.proofs.EntryLaws.{side_above, side_within}
+use Prim.Native.Nat.{◌-◌}
+use mathlib.Core.Bool.{false}
+use Rattle.ties.proofs.has_wrong_sides.Goals as goal
+
+pub returns-then-tie_side-gt1 : goal.returns-then-tie_side-gt1
+unfolding wrong_sides
+returns-then-tie_side-gt1 c = one_found _ _ _ c.loop-i-test.true (side_above _ _ c.tie_side.ensures c.if-tie_side-gt1.true)
+
+pub loop-i-preserved : goal.loop-i-preserved
+loop-i-preserved c = (search rules, one_passed _ _ c.loop-i.invariant.1 (side_within _ _ c.tie_side.ensures c.if-tie_side-gt1.false))
+
+pub returns : goal.returns
+unfolding wrong_sides
+returns c = all_passed _ _ _ c.loop-i.invariant.1 (search rules)

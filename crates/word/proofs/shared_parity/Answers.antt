@@ -1,0 +1,8 @@
+-- `shared_parity` meets its contract: its code is the definition.
+use mathlib.Core.Path.{refl}
+use Rattle.word.specs.Word.{parity}
+use Rattle.word.proofs.shared_parity.Goals as goal
+
+pub returns : goal.returns
+unfolding parity
+returns c = refl
