@@ -239,5 +239,6 @@ one_top i j w ti tj = le_antisymm (not_above i j w ti tj) (not_above j i w tj ti
         ]
 
 pub top_under : (m i : ℕ) {k : ℕ} {ws : List ℕ} → Tops m k ws → IsTop i ws → i < m
+top_under m i (tops_nil {k = k}) x4 = elim x4 [ ]
 top_under m i (tops_cons {w = w} j kj jm t r rest) (top_here h) = subst (λ (n : ℕ). n < m) (one_top j i w t h) jm
 top_under m i (tops_cons j kj jm t r rest) (top_later h) = top_under m i rest h

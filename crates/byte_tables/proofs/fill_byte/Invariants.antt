@@ -6,8 +6,8 @@ use Rattle.byte_tables.specs.Table.{Filled}
 use Rattle.byte_tables.proofs.fill_byte.Given as goal
 
 abbrev pub invariant-loop-t : goal.invariant-loop-t
-invariant-loop-t l =
-    (l.t ≤ 8) × (l.e + 256 ≤ length l.table) × ((l : List ℕ) → Filled l.words l l.initial.table l.e l.i (2 ^ 0) → Filled l.words l l.table l.e l.i (2 ^ l.t))
+invariant-loop-t live =
+    (live.t ≤ 8) × (live.e + 256 ≤ length live.table) × ((l : List ℕ) → Filled live.words l live.initial.table live.e live.i (2 ^ 0) → Filled live.words l live.table live.e live.i (2 ^ live.t))
 
 abbrev pub decreases-loop-t : goal.decreases-loop-t
 decreases-loop-t l = 8 - l.t

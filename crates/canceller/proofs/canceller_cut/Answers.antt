@@ -5,4 +5,4 @@ use Rattle.canceller.proofs.canceller_cut.Goals as goal
 pub returns : goal.returns
 returns c =
     let call = (c.cut.ensures.answer, c.cut.ensures.cuts) in
-    (c.cutting_of.ensures ∙ ap cutting_of call.0, call.1)
+    record { answer = c.cutting_of.ensures ∙ ap cutting_of call.0; list = call.1 }

@@ -5,4 +5,4 @@ use Rattle.canceller.proofs.canceller_eliminate.Goals as goal
 pub returns : goal.returns
 returns c =
     let call = (c.eliminate.ensures.answer, c.eliminate.ensures.list) in
-    (c.eliminated_of.ensures ∙ ap eliminated_of call.0, call.1)
+    record { answer = c.eliminated_of.ensures ∙ ap eliminated_of call.0; list = call.1 }

@@ -5,4 +5,4 @@ use Rattle.canceller.proofs.canceller_list_columns.Goals as goal
 pub returns : goal.returns
 returns c =
     let call = (c.list_columns.ensures.result_value, c.list_columns.ensures.columns_after) in
-    (c.listed_of.ensures ∙ ap listed_of call.0, call.1)
+    record { answer = c.listed_of.ensures ∙ ap listed_of call.0; list = call.1 }

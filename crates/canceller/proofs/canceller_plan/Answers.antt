@@ -5,4 +5,4 @@ use Rattle.canceller.proofs.canceller_plan.Goals as goal
 pub returns : goal.returns
 returns c =
     let call = (c.plan.ensures.answer, c.plan.ensures.working, c.plan.ensures.words) in
-    (c.planned_of.ensures ∙ ap planned_of call.0, call.1)
+    record { answer = ((c.planned_of.ensures ∙ ap planned_of call.0, call.1)).0; working = ((c.planned_of.ensures ∙ ap planned_of call.0, call.1)).1.0; words = ((c.planned_of.ensures ∙ ap planned_of call.0, call.1)).1.1 }

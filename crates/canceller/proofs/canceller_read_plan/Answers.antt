@@ -5,4 +5,4 @@ use Rattle.canceller.proofs.canceller_read_plan.Goals as goal
 pub returns : goal.returns
 returns c =
     let call = (c.read_plan.ensures.answer, c.read_plan.ensures.list) in
-    (c.read_of.ensures ∙ ap read_of call.0, call.1)
+    record { answer = c.read_of.ensures ∙ ap read_of call.0; list = call.1 }

@@ -5,4 +5,4 @@ use Rattle.canceller.proofs.canceller_write_plan.Goals as goal
 pub returns : goal.returns
 returns c =
     let call = (c.write_plan.ensures.answer, c.write_plan.ensures.output) in
-    (c.plan_written_of.ensures ∙ ap written_of call.0, call.1)
+    record { answer = c.plan_written_of.ensures ∙ ap written_of call.0; file = call.1 }

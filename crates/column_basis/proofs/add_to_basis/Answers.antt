@@ -12,8 +12,7 @@ pub reduced-rest-requires : goal.reduced-rest-requires
 reduced-rest-requires c = c.requires
 
 pub returns-then-rest-eq0 : goal.returns-then-rest-eq0
-returns-then-rest-eq0 c =
-    (c.requires, (λ l h. column_none l _ _ _ _ h c.reduced-rest.ensures c.if-rest-eq0.true))
+returns-then-rest-eq0 c = record { order = c.requires; list = (λ l h. column_none l _ _ _ _ h c.reduced-rest.ensures c.if-rest-eq0.true) }
 
 pub overflow_cast-k : goal.overflow_cast-k
 overflow_cast-k c = omega (arith, trailing_le 64 c.reduced-rest.result)
@@ -31,5 +30,4 @@ pub overflow_shl-result : goal.overflow_shl-result
 overflow_shl-result c = (lowest (goal.at.overflow_shl-result c).Else-rest-eq0).place
 
 pub returns : goal.returns
-returns c =
-    (basis_one _ _ _ _ c.requires (lowest (goal.at.returns c).Else-rest-eq0), (λ l h. column_one l _ _ _ _ _ h c.reduced-rest.ensures (lowest (goal.at.returns c).Else-rest-eq0) c.requires.long))
+returns c = record { order = basis_one _ _ _ _ c.requires (lowest (goal.at.returns c).Else-rest-eq0); list = (λ l h. column_one l _ _ _ _ _ h c.reduced-rest.ensures (lowest (goal.at.returns c).Else-rest-eq0) c.requires.long) }

@@ -9,7 +9,7 @@ use Rattle.column_basis.specs.Basis.{Slots}
 use Rattle.column_basis.proofs.reduced.Given as goal
 
 abbrev pub invariant-loop-left : goal.invariant-loop-left
-invariant-loop-left l = (l.rest < 2 ^ 64) × (l.left ≡ bit_and l.rest l.dead) × ((l ws : List ℕ) → Slots l ws l.basis l.dead → parities ws l.rest ≡ parities ws l.column)
+invariant-loop-left live = (live.rest < 2 ^ 64) × (live.left ≡ bit_and live.rest live.dead) × ((l ws : List ℕ) → Slots l ws live.basis live.dead → parities ws live.rest ≡ parities ws live.column)
 
 abbrev pub decreases-loop-left : goal.decreases-loop-left
 decreases-loop-left l = 64 - count_trailing_zeros 64 l.left

@@ -7,7 +7,7 @@ use Rattle.column_basis.specs.Basis.{Held, Settled}
 use Rattle.column_basis.proofs.slot_words.Given as goal
 
 abbrev pub invariant-loop-d : goal.invariant-loop-d
-invariant-loop-d l = (l.d ≤ 64) × (length l.basis ≡ 64) × (length l.words ≡ 64) × ((l : List ℕ) → Held l l.initial.basis l.dead → Settled l l.basis l.words l.dead l.d)
+invariant-loop-d live = (live.d ≤ 64) × (length live.basis ≡ 64) × (length live.words ≡ 64) × ((l : List ℕ) → Held l live.initial.basis live.dead → Settled l live.basis live.words live.dead live.d)
 
 abbrev pub decreases-loop-d : goal.decreases-loop-d
 decreases-loop-d l = l.d

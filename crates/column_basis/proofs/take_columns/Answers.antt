@@ -10,7 +10,7 @@ pub shape_of-basis-then-gone : goal.shape_of-basis-then-gone
 shape_of-basis-then-gone c = c.loop-i.invariant.0.long ∙ sym c.requires.long
 
 pub returns-then-gone : goal.returns-then-gone
-returns-then-gone c = (c.loop-i.invariant.0, (λ l h. taking_empty _ l _ _ _ (c.loop-i.invariant.1 l h) c.if-gone.true))
+returns-then-gone c = record { order = c.loop-i.invariant.0; list = (λ l h. taking_empty _ l _ _ _ (c.loop-i.invariant.1 l h) c.if-gone.true) }
 
 pub add_to_basis-gone-requires : goal.add_to_basis-gone-requires
 add_to_basis-gone-requires c = c.loop-i.invariant.0
@@ -24,4 +24,4 @@ pub shape_of-basis : goal.shape_of-basis
 shape_of-basis c = c.loop-i.invariant.0.long ∙ sym c.requires.long
 
 pub returns : goal.returns
-returns c = (c.loop-i.invariant.0, (λ l h. taking_end _ l _ _ _ (c.loop-i.invariant.1 l h) c.loop-i-test.false))
+returns c = record { order = c.loop-i.invariant.0; list = (λ l h. taking_end _ l _ _ _ (c.loop-i.invariant.1 l h) c.loop-i-test.false) }

@@ -7,7 +7,7 @@ use Rattle.column_basis.proofs.LoopLaws.{Taking}
 use Rattle.column_basis.proofs.take_columns.Given as goal
 
 abbrev pub invariant-loop-i : goal.invariant-loop-i
-invariant-loop-i l = Basis l.basis l.gone × ((l : List ℕ) → Held l l.initial.basis l.dead → Taking l.columns l l.basis l.gone l.i)
+invariant-loop-i live = Basis live.basis live.gone × ((l : List ℕ) → Held l live.initial.basis live.dead → Taking live.columns l live.basis live.gone live.i)
 
 abbrev pub decreases-loop-i : goal.decreases-loop-i
 decreases-loop-i l = length l.columns - l.i

@@ -15,13 +15,13 @@ pub returns-in_default : goal.returns-in_default
 returns-in_default c =
     let refused = refused_set _ _ _ _ _ (c.read_set-read.ensures.answer, c.read_set-read.ensures.spread, c.read_set-read.ensures.start) c.in_default.is c.number_of.ensures in
     let entry = c.args in
-    ends_set _ entry.cuts.now _ _ refused.0 refused.1
+    record { answer = (ends_set _ entry.cuts.now _ _ refused.0 refused.1).0; cuts = (ends_set _ entry.cuts.now _ _ refused.0 refused.1).1 }
 
 pub returns-then-is_bad_share : goal.returns-then-is_bad_share
 returns-then-is_bad_share c =
     let taken = taken_set _ _ _ _ _ _ (c.read_set-read.ensures.answer, c.read_set-read.ensures.spread, c.read_set-read.ensures.start) c.in-Read.is in
     let entry = c.args in
-    ends_26 _ entry.cuts.now _ taken.none (own_share _ _ _ _ _ c.is_bad_share.ensures taken.width c.if-is_bad_share.true)
+    record { answer = (ends_26 _ entry.cuts.now _ taken.none (own_share _ _ _ _ _ c.is_bad_share.ensures taken.width c.if-is_bad_share.true)).0; cuts = (ends_26 _ entry.cuts.now _ taken.none (own_share _ _ _ _ _ c.is_bad_share.ensures taken.width c.if-is_bad_share.true)).1 }
 
 pub cut_slices-slices-requires : goal.cut_slices-slices-requires
 cut_slices-slices-requires c = c.no_starts-starts.ensures
@@ -43,12 +43,10 @@ wide c =
     (taken_set _ _ _ _ _ _ (read.ensures.answer, read.ensures.spread, read.ensures.start) c.in-Read.is).width
 
 pub returns-in_default-slices : goal.returns-in_default-slices
-returns-in_default-slices c =
-    ends_27 _ c.args.cuts.now _ _ _ (passed (goal.at.returns-in_default-slices c).After-cut_slices-slices) _ _ c.in_default-slices.is c.slices_number.ensures
+returns-in_default-slices c = record { answer = (ends_27 _ c.args.cuts.now _ _ _ (passed (goal.at.returns-in_default-slices c).After-cut_slices-slices) _ _ c.in_default-slices.is c.slices_number.ensures).0; cuts = (ends_27 _ c.args.cuts.now _ _ _ (passed (goal.at.returns-in_default-slices c).After-cut_slices-slices) _ _ c.in_default-slices.is c.slices_number.ensures).1 }
 
 pub returns-then-cuts-runs : goal.returns-then-cuts-runs
-returns-then-cuts-runs c =
-    ends_28 _ c.args.cuts.now _ _ _ (passed (goal.at.returns-then-cuts-runs c).After-cut_slices-slices) _ c.in-Cut.is c.if-cuts-runs.true
+returns-then-cuts-runs c = record { answer = (ends_28 _ c.args.cuts.now _ _ _ (passed (goal.at.returns-then-cuts-runs c).After-cut_slices-slices) _ c.in-Cut.is c.if-cuts-runs.true).0; cuts = (ends_28 _ c.args.cuts.now _ _ _ (passed (goal.at.returns-then-cuts-runs c).After-cut_slices-slices) _ c.in-Cut.is c.if-cuts-runs.true).1 }
 
 -- ---- the cut list is long enough
 
@@ -104,6 +102,6 @@ pub shape_of-cuts : goal.shape_of-cuts
 shape_of-cuts c = c.write_front.auto.words
 
 pub returns : goal.returns
-returns c =
-    ends_runs _ c.args.cuts.now _ _ _ (passed (goal.at.returns c).After-cut_slices-slices) _ c.in-Cut.is _ _ _ c.if-cuts-runs.false (wide (goal.at.returns c).After-cut_slices-slices) refl
-    c.write_front.ensures
+returns c = record { answer = (ends_runs _ c.args.cuts.now _ _ _ (passed (goal.at.returns c).After-cut_slices-slices) _ c.in-Cut.is _ _ _ c.if-cuts-runs.false (wide (goal.at.returns c).After-cut_slices-slices) refl
+    c.write_front.ensures).0; cuts = (ends_runs _ c.args.cuts.now _ _ _ (passed (goal.at.returns c).After-cut_slices-slices) _ c.in-Cut.is _ _ _ c.if-cuts-runs.false (wide (goal.at.returns c).After-cut_slices-slices) refl
+    c.write_front.ensures).1 }

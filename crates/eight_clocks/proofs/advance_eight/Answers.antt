@@ -9,4 +9,4 @@ pub returns : goal.returns
 returns c =
     let args = c.args in
     let looked = c.look_eight.ensures (search rules) in
-    (looked, (λ k e wide right. looked ∙ looked_words args.m 8 args.table.now args.words.now (omega arith) k e wide right))
+    record { looked = looked; eight = (λ k e wide right. looked ∙ looked_words args.m 8 args.table.now args.words.now (omega arith) k e wide right) }

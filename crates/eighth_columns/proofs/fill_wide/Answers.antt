@@ -46,7 +46,5 @@ pub returns : goal.returns
 returns c =
     let same =
     limited_columns _ _ _ _ _ _ _ _ _ _ c.chain_limit-chains.ensures c.slice_limit-slices.ensures
-    c.all_words-words.ensures in (
-      eighth_place _ _ _ _ _ _ _ _ c.loop-t.invariant.5 (omega arith) ∙ ap (λ (x : List ℕ). length c.args.columns.now - length x) same,
-      eighth_ends _ _ _ _ _ _ _ _ c.loop-t.invariant.5 (omega arith) ∙ ap (λ (x : List ℕ). back x c.args.columns.now) same,
-    )
+    c.all_words-words.ensures in
+    record { place = eighth_place _ _ _ _ _ _ _ _ c.loop-t.invariant.5 (omega arith) ∙ ap (λ (x : List ℕ). length c.args.columns.now - length x) same; list = eighth_ends _ _ _ _ _ _ _ _ c.loop-t.invariant.5 (omega arith) ∙ ap (λ (x : List ℕ). back x c.args.columns.now) same }

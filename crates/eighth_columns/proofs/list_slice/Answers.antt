@@ -13,7 +13,5 @@ inside c = omega (arith, c.list_row-place.ensures.value, c.list_row-place.auto.c
 pub returns : goal.returns
 returns c =
     let args = c.args in
-    let list = c.list_row-place in (
-      list.ensures.value,
-      end_changed _ _ args.columns.now list.new.columns _ list.result (length list.new.columns) list.ensures.value list.ensures.columns_after refl c.advance_few.ensures.looked,
-    )
+    let list = c.list_row-place in
+    record { place = list.ensures.value; list = end_changed _ _ args.columns.now list.new.columns _ list.result (length list.new.columns) list.ensures.value list.ensures.columns_after refl c.advance_few.ensures.looked }

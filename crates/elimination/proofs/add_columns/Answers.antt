@@ -19,4 +19,7 @@ slice_bounds-clear_words-count c = inside (goal.at.slice_bounds-clear_words-coun
 pub returns : goal.returns
 returns c =
     let reduced = c.reduce-left in
-    (reduced.ensures.0, portion_ends _ _ _ _ reduced.ensures.0 reduced.auto.held _ _ reduced.ensures.1 refl c.clear_words.ensures)
+    record { count = reduced.ensures.0; list = portion_ends _ _ _ _ reduced.ensures.0 reduced.auto.held _ _ reduced.ensures.1 refl c.clear_words.ensures }
+
+pub slice_bounds-clear_words-start : goal.slice_bounds-clear_words-start
+slice_bounds-clear_words-start c = inside c

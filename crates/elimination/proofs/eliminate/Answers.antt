@@ -16,12 +16,12 @@ kept c =
     columns-taken c.unit_words-held.ensures c.reduce-q.ensures.0
 
 pub returns-then-is_bad_width : goal.returns-then-is_bad_width
-returns-then-is_bad_width c = ends_2 _ _ _ _ _ c.is_bad_width.ensures c.if-is_bad_width.true c.refused.ensures
+returns-then-is_bad_width c = record { answer = (ends_2 _ _ _ _ _ c.is_bad_width.ensures c.if-is_bad_width.true c.refused.ensures).0; list = (ends_2 _ _ _ _ _ c.is_bad_width.ensures c.if-is_bad_width.true c.refused.ensures).1 }
 
 pub returns-then-has_column_beyond : goal.returns-then-has_column_beyond
 returns-then-has_column_beyond c =
     let width_test = c.is_bad_width.ensures in
-    ends_15 _ _ _ _ _ _ width_test c.if-is_bad_width.false c.has_column_beyond.ensures c.if-has_column_beyond.true c.refused-then-has_column_beyond.ensures
+    record { answer = (ends_15 _ _ _ _ _ _ width_test c.if-is_bad_width.false c.has_column_beyond.ensures c.if-has_column_beyond.true c.refused-then-has_column_beyond.ensures).0; list = (ends_15 _ _ _ _ _ _ width_test c.if-is_bad_width.false c.has_column_beyond.ensures c.if-has_column_beyond.true c.refused-then-has_column_beyond.ensures).1 }
 
 pub slice_bounds-held-end : goal.slice_bounds-held-end
 slice_bounds-held-end c =
@@ -38,12 +38,12 @@ pub overflow_sub-rank : goal.overflow_sub-rank
 overflow_sub-rank c = kept_most _ _ _ (kept (goal.at.overflow_sub-rank c).After-held-2-1)
 
 pub returns-then-q-eq0 : goal.returns-then-q-eq0
-returns-then-q-eq0 c = ends_17 _ _ _ _ _ (kept (goal.at.returns-then-q-eq0 c).After-held-2-1) c.if-q-eq0.true c.refused-then-q-eq0.ensures
+returns-then-q-eq0 c = record { answer = (ends_17 _ _ _ _ _ (kept (goal.at.returns-then-q-eq0 c).After-held-2-1) c.if-q-eq0.true c.refused-then-q-eq0.ensures).0; list = (ends_17 _ _ _ _ _ (kept (goal.at.returns-then-q-eq0 c).After-held-2-1) c.if-q-eq0.true c.refused-then-q-eq0.ensures).1 }
 
 pub returns-then-words-q : goal.returns-then-words-q
 returns-then-words-q c =
     let so_far = kept (goal.at.returns-then-words-q c).After-held-2-1 in
-    ends_18 _ _ _ _ _ so_far c.if-q-eq0.false c.if-words-q.true c.refused-then-words-q.ensures
+    record { answer = (ends_18 _ _ _ _ _ so_far c.if-q-eq0.false c.if-words-q.true c.refused-then-words-q.ensures).0; list = (ends_18 _ _ _ _ _ so_far c.if-q-eq0.false c.if-words-q.true c.refused-then-words-q.ensures).1 }
 
 pub slice_bounds-held-end-2 : goal.slice_bounds-held-end-2
 slice_bounds-held-end-2 c =
@@ -69,6 +69,11 @@ returns c =
     let reduced = c.reduce-q.ensures.1 in
     let so_far = kept (goal.at.returns c).After-held-2-1 in
     let written = c.write_front.ensures in
-    ends_done _ _ c.args.words.now _ _ _ so_far some_word (search rules)
-    (kept_words _ _ _ _ _ so_far units same_long reduced)
-    written
+    record {
+      answer = (ends_done _ _ c.args.words.now _ _ _ so_far some_word (search rules)
+          (kept_words _ _ _ _ _ so_far units same_long reduced)
+          written).0;
+      list = (ends_done _ _ c.args.words.now _ _ _ so_far some_word (search rules)
+          (kept_words _ _ _ _ _ so_far units same_long reduced)
+          written).1;
+    }

@@ -25,4 +25,4 @@ pub shape_of-all : goal.shape_of-all
 shape_of-all c = c.loop-i.invariant.1.long
 
 pub returns : goal.returns
-returns c = adding_end _ _ _ _ _ _ c.loop-i.invariant.1 (search rules) (search rules)
+returns c = record { by_index = (adding_end _ _ _ _ _ _ c.loop-i.invariant.1 (search rules) (search rules)).0; by_index_2 = (adding_end _ _ _ _ _ _ c.loop-i.invariant.1 (search rules) (search rules)).1 }

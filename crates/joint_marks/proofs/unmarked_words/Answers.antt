@@ -24,8 +24,7 @@ take_out_row-requires c = (c.loop-j.invariant.1, place_inside c.args.rows.at c.a
 
 pub loop-j-preserved : goal.loop-j-preserved
 loop-j-preserved c =
-    let at = c.loop-j in
-    (
+    let at = c.loop-j in (
       search rules,
       c.take_out_row.auto.cells ∙ at.invariant.1,
       (λ r ea es eb.

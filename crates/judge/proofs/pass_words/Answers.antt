@@ -16,7 +16,7 @@ pub returns-then-not-is_next : goal.returns-then-not-is_next
 returns-then-not-is_next c =
     let bytes = c.shared_slice_known-1.given in
     let so_far = c.loop-i.invariant in
-    pass_stops _ _ _ _ _ _ so_far (λ i. (bytes i).fits) _ _ (search rules) c.plan_word-w.ensures c.is_next.ensures c.if-not-is_next.true
+    record { list = (pass_stops _ _ _ _ _ _ so_far (λ i. (bytes i).fits) _ _ (search rules) c.plan_word-w.ensures c.is_next.ensures c.if-not-is_next.true).0; cancelled = (pass_stops _ _ _ _ _ _ so_far (λ i. (bytes i).fits) _ _ (search rules) c.plan_word-w.ensures c.is_next.ensures c.if-not-is_next.true).1 }
 
 pub overflow_shl-bits : goal.overflow_shl-bits
 overflow_shl-bits c = omega (arith, c.loop-i.invariant.few)
@@ -34,4 +34,4 @@ loop-i-preserved c =
 pub returns : goal.returns
 returns c =
     let bytes = c.shared_slice_known-1.given in
-    pass_ends _ _ _ _ _ _ c.loop-i.invariant (λ i. (bytes i).fits) (search rules)
+    record { list = (pass_ends _ _ _ _ _ _ c.loop-i.invariant (λ i. (bytes i).fits) (search rules)).0; cancelled = (pass_ends _ _ _ _ _ _ c.loop-i.invariant (λ i. (bytes i).fits) (search rules)).1 }

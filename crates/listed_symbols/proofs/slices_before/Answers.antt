@@ -32,3 +32,6 @@ counted c =
 
 pub overflow_add-result : goal.overflow_add-result
 overflow_add-result c = record { fits = omega (arith, (counted (goal.at.overflow_add-result c).After-count_marks-2).1) }
+
+pub returns : goal.returns
+returns c = counted c

@@ -32,12 +32,11 @@ returns-then-count-ne0 c =
     c.count_32-count.ensures _ (stands (goal.at.returns-then-count-ne0 c).At-loop-left) c.if-count-ne0.true
 
 pub loop-left-preserved : goal.loop-left-preserved
-loop-left-preserved c =
-    (
-      search rules,
-      turn_32 _ _ _ _ _ _ _ _ c.loop-left.invariant.1 c.loop-left-test.true (reach_32 _ _ _ _ _ (stands (goal.at.loop-left-preserved c).At-loop-left) _ _ c.loop-left.invariant.1 c.loop-left-test.true) refl
-          c.count_32-count.ensures c.if-count-ne0.false,
-    )
+loop-left-preserved c = (
+  search rules,
+  turn_32 _ _ _ _ _ _ _ _ c.loop-left.invariant.1 c.loop-left-test.true (reach_32 _ _ _ _ _ (stands (goal.at.loop-left-preserved c).At-loop-left) _ _ c.loop-left.invariant.1 c.loop-left-test.true) refl
+      c.count_32-count.ensures c.if-count-ne0.false,
+)
 
 pub returns : goal.returns
 returns c = none_32 _ _ _ _ _ (stands (goal.at.returns c).At-loop-left) _ _ c.loop-left.invariant.1 (omega arith)

@@ -8,4 +8,4 @@ pub overflow_cast-result : goal.overflow_cast-result
 overflow_cast-result c = omega (arith, ones-le 64 _ c.ranges.marks.fits)
 
 pub returns : goal.returns
-returns c = (search rules, ones-le 64 _ c.ranges.marks.fits)
+returns c = record { value = search rules; upper_bound = ones-le 64 _ c.ranges.marks.fits }

@@ -38,4 +38,4 @@ pub shape_of-columns : goal.shape_of-columns
 shape_of-columns c = (listing_room _ _ _ _ _ _ c.loop-i.invariant.2).0
 
 pub returns : goal.returns
-returns c = listing_ends _ _ _ _ _ _ c.loop-i.invariant.2 (omega arith)
+returns c = record { value = (listing_ends _ _ _ _ _ _ c.loop-i.invariant.2 (omega arith)).0; columns_after = (listing_ends _ _ _ _ _ _ c.loop-i.invariant.2 (omega arith)).1 }

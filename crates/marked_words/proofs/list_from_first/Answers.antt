@@ -55,5 +55,4 @@ loop-left-preserved c =
     (omega (arith, less, at.invariant.0), omega (arith, less, at.invariant.1), putting_long _ _ _ _ _ _ k, k)
 
 pub returns : goal.returns
-returns c =
-    (putting_place c.args.words.now _ c.args.columns.now _ c.ranges.marks.fits refl, putting_ends _ _ _ _ _ _ c.loop-left.invariant.3 (omega arith))
+returns c = record { value = putting_place c.args.words.now _ c.args.columns.now _ c.ranges.marks.fits refl; columns_after = putting_ends _ _ _ _ _ _ c.loop-left.invariant.3 (omega arith) }

@@ -16,7 +16,7 @@ pub list_256-requires : goal.list_256-requires
 list_256-requires c =
     let both = c.if-chains-row.true in
     let words = c.args.words.now in
-    (eqb-true _ _ (and_left _ _ both), eqb-true _ _ (and_right (eqb (length words) 256) _ both))
+    record { words_len = eqb-true _ _ (and_left _ _ both); row_len = eqb-true _ _ (and_right (eqb (length words) 256) _ both) }
 
 pub loop-i-init : goal.loop-i-init
 loop-i-init c = (omega arith, search rules, listing_starts _ _ _ _ (omega arith))
@@ -41,4 +41,4 @@ pub shape_of-columns : goal.shape_of-columns
 shape_of-columns c = (listing_room _ _ _ _ _ _ c.loop-i.invariant.2).0
 
 pub returns : goal.returns
-returns c = listing_ends _ _ _ _ _ _ c.loop-i.invariant.2 (omega arith)
+returns c = record { value = (listing_ends _ _ _ _ _ _ c.loop-i.invariant.2 (omega arith)).0; columns_after = (listing_ends _ _ _ _ _ _ c.loop-i.invariant.2 (omega arith)).1 }

@@ -14,5 +14,4 @@ loop-c-preserved c =
     (omega arith, copying_long _ _ _ _ k, k)
 
 pub returns : goal.returns
-returns c =
-    (refl, copying_ends c.args.words.now _ _ _ c.loop-c.invariant.2 c.requires.in_bounds c.requires.in_bounds_2 (omega arith))
+returns c = record { value = refl; columns_after = copying_ends c.args.words.now _ _ _ c.loop-c.invariant.2 c.requires.in_bounds c.requires.in_bounds_2 (omega arith) }

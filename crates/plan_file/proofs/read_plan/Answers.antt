@@ -4,12 +4,12 @@ use borrow.Author.Rules.{rules}
 use Rattle.plan_file.proofs.read_plan.Goals as goal
 
 pub returns-in_default : goal.returns-in_default
-returns-in_default c = ends_unsound _ _ _ c.check_plan-checked.ensures _ _ c.in_default.is c.number_of.ensures
+returns-in_default c = record { answer = (ends_unsound _ _ _ c.check_plan-checked.ensures _ _ c.in_default.is c.number_of.ensures).0; list = (ends_unsound _ _ _ c.check_plan-checked.ensures _ _ c.in_default.is c.number_of.ensures).1 }
 
 pub returns-then-words-q : goal.returns-then-words-q
 returns-then-words-q c =
     let checked = c.check_plan-checked.ensures in
-    ends_short _ _ _ checked _ _ _ c.in-Sound.is (search rules)
+    record { answer = (ends_short _ _ _ checked _ _ _ c.in-Sound.is (search rules)).0; list = (ends_short _ _ _ checked _ _ _ c.in-Sound.is (search rules)).1 }
 
 pub copy_words-requires : goal.copy_words-requires
 copy_words-requires c =
@@ -20,4 +20,4 @@ pub returns : goal.returns
 returns c =
     let checked = c.check_plan-checked.ensures in
     let sound = c.in-Sound.is in
-    ends_read _ _ _ checked _ _ _ sound _ (search rules) c.copy_words.ensures
+    record { answer = (ends_read _ _ _ checked _ _ _ sound _ (search rules) c.copy_words.ensures).0; list = (ends_read _ _ _ checked _ _ _ sound _ (search rules) c.copy_words.ensures).1 }

@@ -8,7 +8,7 @@ use Rattle.planner.proofs.plan.Goals as goal
 pub returns-in_default : goal.returns-in_default
 returns-in_default c =
     let args = c.args in
-    ends_refused _ args.working.now args.words.now _ _ _ c.make_words-made.ensures.1 _ _ c.in_default.is c.words_number.ensures
+    record { answer = (ends_refused _ args.working.now args.words.now _ _ _ c.make_words-made.ensures.1 _ _ c.in_default.is c.words_number.ensures).0; working = (ends_refused _ args.working.now args.words.now _ _ _ c.make_words-made.ensures.1 _ _ c.in_default.is c.words_number.ensures).1.0; words = (ends_refused _ args.working.now args.words.now _ _ _ c.make_words-made.ensures.1 _ _ c.in_default.is c.words_number.ensures).1.1 }
 
 pub slice_bounds-expected_bits-end : goal.slice_bounds-expected_bits-end
 slice_bounds-expected_bits-end c =
@@ -23,6 +23,14 @@ returns c =
     let args = c.args in
     let made = (c.make_words-made.ensures.taken, c.make_words-made.ensures.answer, c.make_words-made.ensures.working, c.make_words-made.ensures.words) in
     let some = c.in-Words.is in
-    ends_planned _ args.working.now args.words.now _ _ _ made.1 _ _ some _
-    (expected_taken _ _ _ (worded_few _ args.working.now args.words.now _ _ _ made.1 _ _ some)
-    (c.expected_bits.ensures (made.0 (worded_set _ args.working.now args.words.now _ _ _ made.1 _ _ some))))
+    record {
+      answer = (ends_planned _ args.working.now args.words.now _ _ _ made.1 _ _ some _
+          (expected_taken _ _ _ (worded_few _ args.working.now args.words.now _ _ _ made.1 _ _ some)
+          (c.expected_bits.ensures (made.0 (worded_set _ args.working.now args.words.now _ _ _ made.1 _ _ some))))).0;
+      working = (ends_planned _ args.working.now args.words.now _ _ _ made.1 _ _ some _
+          (expected_taken _ _ _ (worded_few _ args.working.now args.words.now _ _ _ made.1 _ _ some)
+          (c.expected_bits.ensures (made.0 (worded_set _ args.working.now args.words.now _ _ _ made.1 _ _ some))))).1.0;
+      words = (ends_planned _ args.working.now args.words.now _ _ _ made.1 _ _ some _
+          (expected_taken _ _ _ (worded_few _ args.working.now args.words.now _ _ _ made.1 _ _ some)
+          (c.expected_bits.ensures (made.0 (worded_set _ args.working.now args.words.now _ _ _ made.1 _ _ some))))).1.1;
+    }

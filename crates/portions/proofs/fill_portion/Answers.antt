@@ -120,3 +120,6 @@ returns c =
           filling_gives _ _ _ _ _ _ _ args.from _ _ _ _ _ refl (chains_same _ _ _ _ _ _ _ ready few c.moved-limit.ensures)
           (at.invariant.6 spread args.columns.now (started (goal.at.returns c).After-fill_row-first spread ready)));
     }
+
+pub slice_bounds-fill_row-end : goal.slice_bounds-fill_row-end
+slice_bounds-fill_row-end c = omega (arith, c.moved-limit.ensures)

@@ -5,3 +5,6 @@ use Rattle.rows.proofs.has_spare_row.Goals as goal
 
 pub returns-then-n-eq0 : goal.returns-then-n-eq0
 returns-then-n-eq0 c = sym (whole_rows _ _ _ c.if-n-eq0.true)
+
+pub returns : goal.returns
+returns c = c.finds_spare_row.ensures

@@ -9,8 +9,7 @@ loop-t-init c = (search rules, search rules, pairs_start _ _)
 
 pub loop-t-preserved : goal.loop-t-preserved
 loop-t-preserved c =
-    let at = c.loop-t in
-    (
+    let at = c.loop-t in (
       search rules,
       search rules,
       pairs_turn _ (λ i. (c.shared_slice_known-1.given i).fits) _ _ _ at.even at.odd _ _ at.invariant.1 (search rules) at.invariant.2

@@ -5,10 +5,8 @@ use Rattle.run_words.proofs.put_slice.Goals as goal
 
 pub returns-then-k-left : goal.returns-then-k-left
 returns-then-k-left c =
-    let took = c.take_columns-joined in (
-      search rules,
-      (took.ensures.order, (λ width h held. put_joined _ _ _ _ _ _ _ _ h took.ensures.list held c.held_count-left.ensures c.if-k-left.true)),
-    )
+    let took = c.take_columns-joined in
+    record { one = search rules; order = took.ensures.order; turn = (λ width h held. put_joined _ _ _ _ _ _ _ _ h took.ensures.list held c.held_count-left.ensures c.if-k-left.true) }
 
 pub open_run-alone-requires : goal.open_run-alone-requires
 open_run-alone-requires c = c.take_columns-joined.ensures.order.long
@@ -16,12 +14,11 @@ open_run-alone-requires c = c.take_columns-joined.ensures.order.long
 pub returns : goal.returns
 returns c =
     let alone = c.open_run-alone in
-    let took = c.take_columns-joined in (
-      search rules,
-      (
-        alone.ensures.order,
-        (λ width h held.
-            put_opened _ _ _ _ _ _ _ _ _ _ _ h took.ensures.list held c.held_count-left.ensures c.if-k-left.false (alone.ensures.list width)
-            c.held_count.ensures),
-      ),
-    )
+    let took = c.take_columns-joined in
+    record {
+      one = search rules;
+      order = alone.ensures.order;
+      turn = (λ width h held.
+          put_opened _ _ _ _ _ _ _ _ _ _ _ h took.ensures.list held c.held_count-left.ensures c.if-k-left.false (alone.ensures.list width)
+          c.held_count.ensures);
+    }

@@ -63,9 +63,11 @@ returns-then-share_a_bit c = let shared = valued (goal.at.returns-then-share_a_b
 
 pub overflow_cast-count : goal.overflow_cast-count
 overflow_cast-count c =
-    record { fits = count_small ((
-    let entry = c.args in
-    set_content entry.m entry.taps entry.inversion entry.spread.now entry.values.now entry.marks.now entry.s entry.ties.now)) _ c.are_bad_lists.ensures c.if-are_bad_lists.false }
+    record {
+      fits = count_small ((
+          let entry = c.args in
+          set_content entry.m entry.taps entry.inversion entry.spread.now entry.values.now entry.marks.now entry.s entry.ties.now)) _ c.are_bad_lists.ensures c.if-are_bad_lists.false;
+    }
 
 passed : (c : Else-share_a_bit) (x : ℕ) → Last ((
     let entry = c.args in

@@ -8,6 +8,7 @@ use Rattle.set_layout.specs.Layout.{chains_of, slices_of, marks, tie_count_of, t
 use Rattle.set_layout.proofs.LayoutLaws.{tie_count_of_lem}
 use mathlib.Core.Path.{◌≡◌, sym, ◌∙◌}
 use Prim.Native.Nat.{ℕ}
+use borrow.Author.Tests.{ltb-false}
 use Rattle.set_file.proofs.set_refusal.Goals as goal
 use Rattle.set_file.proofs.set_refusal.Goals.{After-has_wrong_length, After-tie_count_of-count, Else-has_spare_bits, Else-has_valued_unknown}
 
@@ -91,3 +92,6 @@ passed c x last =
 pub returns : goal.returns
 returns c =
     passed (goal.at.returns c).Else-has_valued_unknown _ (tied_counted _ _ _ (counted (goal.at.returns c).After-tie_count_of-count) c.ties_refusal.ensures)
+
+pub has_bad_spread-requires : goal.has_bad_spread-requires
+has_bad_spread-requires c = ltb-false _ _ (sym c.ends_in_spread.ensures ∙ c.if-ends_in_spread.false)

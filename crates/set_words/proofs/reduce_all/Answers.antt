@@ -11,8 +11,7 @@ loop-t-init c =
     (omega arith, refl, refl, refl, (λ spread m so_far. reduced_alike _ _ _ _ _ _ _ _ _ _ _ c.slice_limit-t.ensures (take-length _) so_far))
 
 pub returns-then-left-eq0 : goal.returns-then-left-eq0
-returns-then-left-eq0 c =
-    (omega arith, (λ spread m start. done_early _ _ _ _ _ _ _ _ c.loop-t.held _ c.if-left-eq0.true (c.loop-t.invariant.4 spread m start)))
+returns-then-left-eq0 c = record { left = omega arith; words = (λ spread m start. done_early _ _ _ _ _ _ _ _ c.loop-t.held _ c.if-left-eq0.true (c.loop-t.invariant.4 spread m start)) }
 
 pub slice_bounds-is_done-end-in-loop-t : goal.slice_bounds-is_done-end-in-loop-t
 slice_bounds-is_done-end-in-loop-t c = sym (length-take-le _ _ c.loop-t.invariant.0)
@@ -20,12 +19,13 @@ slice_bounds-is_done-end-in-loop-t c = sym (length-take-le _ _ c.loop-t.invarian
 pub returns-then-is_done : goal.returns-then-is_done
 returns-then-is_done c =
     let at = c.loop-t in
-    let few : length at.words ≤ 256 = omega (arith, c.requires.1, at.invariant.3) in (
-      omega (arith, at.invariant.0, at.invariant.1),
-      (λ spread m start.
+    let few : length at.words ≤ 256 = omega (arith, c.requires.1, at.invariant.3) in
+    record {
+      left = omega (arith, at.invariant.0, at.invariant.1);
+      words = (λ spread m start.
           done_settled _ _ _ _ _ _ _ _ at.held _ (λ i j n hj hn hm. c.is_done.ensures c.if-is_done.true few i j n _ spread hj hn hm) at.invariant.0
-          (at.invariant.4 spread m start)),
-    )
+          (at.invariant.4 spread m start));
+    }
 
 pub slice_bounds-add_next-end-in-loop-t : goal.slice_bounds-add_next-end-in-loop-t
 slice_bounds-add_next-end-in-loop-t c = sym (length-take-le _ _ c.loop-t.invariant.0)
@@ -54,4 +54,37 @@ loop-t-preserved c =
 pub returns : goal.returns
 returns c =
     let at = c.loop-t in
-    (omega (arith, at.invariant.0, at.invariant.1), (λ spread m start. done_all _ _ _ _ _ _ _ _ _ _ (omega arith) at.invariant.0 (at.invariant.4 spread m start)))
+    record { left = omega (arith, at.invariant.0, at.invariant.1); words = (λ spread m start. done_all _ _ _ _ _ _ _ _ _ _ (omega arith) at.invariant.0 (at.invariant.4 spread m start)) }
+
+pub shape_of-words-then-left-eq0 : goal.shape_of-words-then-left-eq0
+shape_of-words-then-left-eq0 c = c.loop-t.invariant.3
+
+pub shape_of-working-then-left-eq0 : goal.shape_of-working-then-left-eq0
+shape_of-working-then-left-eq0 c = c.loop-t.invariant.2
+
+pub shape_of-held-then-left-eq0 : goal.shape_of-held-then-left-eq0
+shape_of-held-then-left-eq0 c = c.loop-t.invariant.1
+
+pub slice_bounds-is_done-end : goal.slice_bounds-is_done-end
+slice_bounds-is_done-end c = c.loop-t.invariant.0
+
+pub shape_of-words-then-is_done : goal.shape_of-words-then-is_done
+shape_of-words-then-is_done c = c.loop-t.invariant.3
+
+pub shape_of-working-then-is_done : goal.shape_of-working-then-is_done
+shape_of-working-then-is_done c = c.loop-t.invariant.2
+
+pub shape_of-held-then-is_done : goal.shape_of-held-then-is_done
+shape_of-held-then-is_done c = c.loop-t.invariant.1
+
+pub slice_bounds-add_next-end : goal.slice_bounds-add_next-end
+slice_bounds-add_next-end c = c.loop-t.invariant.0
+
+pub shape_of-words : goal.shape_of-words
+shape_of-words c = c.loop-t.invariant.3
+
+pub shape_of-working : goal.shape_of-working
+shape_of-working c = c.loop-t.invariant.2
+
+pub shape_of-held : goal.shape_of-held
+shape_of-held c = c.loop-t.invariant.1

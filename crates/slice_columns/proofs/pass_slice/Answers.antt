@@ -8,7 +8,7 @@ pub returns-then-t-eq7 : goal.returns-then-t-eq7
 returns-then-t-eq7 c =
     let looked = (c.unclock_eight.ensures.looked, c.unclock_eight.ensures.eight) in
     let entry = c.args in
-    (looked.0 ∙ looked_up_lem entry.t _ _ (search rules), (λ k spread right e. passed_eight k _ spread _ _ (search rules) e (looked.1 k right)))
+    record { looked = looked.0 ∙ looked_up_lem entry.t _ _ (search rules); frame = (λ k spread right e. passed_eight k _ spread _ _ (search rules) e (looked.1 k right)) }
 
 pub returns-else-t-eq7 : goal.returns-else-t-eq7
-returns-else-t-eq7 c = (left_alone c.args.t _ _ (search rules), (λ k spread right e. passed_between k _ spread _ (search rules) e))
+returns-else-t-eq7 c = record { looked = left_alone c.args.t _ _ (search rules); frame = (λ k spread right e. passed_between k _ spread _ (search rules) e) }

@@ -9,9 +9,9 @@ use Rattle.slice_signing.proofs.RunLaws.{Running}
 use Rattle.slice_signing.proofs.sign_by_drives.Given as goal
 
 abbrev pub invariant-loop-t : goal.invariant-loop-t
-invariant-loop-t l =
-    (l.t ≤ l.s)
-    × ((ws l : List ℕ) (rows : Rows) → Drives ws l rows l.s l.drives → Running l.initial.held.m l.initial.held.taps l.initial.held.inversion ws (cells_of l rows) l.held.m l.held.taps l.held.inversion l.held.state l.t)
+invariant-loop-t live =
+    (live.t ≤ live.s)
+    × ((ws l : List ℕ) (rows : Rows) → Drives ws l rows live.s live.drives → Running live.initial.held.m live.initial.held.taps live.initial.held.inversion ws (cells_of l rows) live.held.m live.held.taps live.held.inversion live.held.state live.t)
 
 abbrev pub decreases-loop-t : goal.decreases-loop-t
 decreases-loop-t l = l.s - l.t

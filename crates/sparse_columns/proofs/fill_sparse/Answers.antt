@@ -111,3 +111,6 @@ returns c =
     sparse_ends _ _ _ _ _ _ _ (c.loop-t.invariant.3 args.taken.register.taps args.taken.register.inversion right) (omega arith)
     ∙ ap (λ (m : ℕ). back (columns_below (circuit m args.taken.register.taps args.taken.register.inversion (take c.chain_limit-chains.result c.all_words-spread.result)) c.slice_limit-slices.result (cells_of args.list.now args.marks) c.slice_limit-slices.result) args.columns.now) width.ensures
     ∙ columns_limited _ _ _ _ _ _ _ _ _ _ _ c.chain_limit-chains.ensures c.slice_limit-slices.ensures c.all_words-spread.ensures
+
+pub overflow_add-slices : goal.overflow_add-slices
+overflow_add-slices c = omega (arith, c.width_limit-width.ensures, c.slice_limit-slices.ensures)

@@ -11,5 +11,4 @@ loop-i-preserved c = let at = c.loop-i in
     (search rules, turned_turn _ _ _ _ _ _ at.invariant.1 c.loop-i-test.true c.word_at-w.ensures c.xor_into.ensures)
 
 pub returns : goal.returns
-returns c =
-    turned_end _ _ _ _ c.requires.0 c.requires.1 c.loop-i.invariant.1 c.loop-i.invariant.0 c.loop-i-test.false
+returns c = record { order = (turned_end _ _ _ _ c.requires.0 c.requires.1 c.loop-i.invariant.1 c.loop-i.invariant.0 c.loop-i-test.false).0; list = (turned_end _ _ _ _ c.requires.0 c.requires.1 c.loop-i.invariant.1 c.loop-i.invariant.0 c.loop-i-test.false).1 }

@@ -24,7 +24,4 @@ loop-i-preserved c =
     )
 
 pub returns : goal.returns
-returns c = (
-  (λ few. flags_opened _ _ _ _ _ c.symbol_numbers-numbers.ensures c.loop-i.invariant.3 (omega arith) few),
-  (λ few i past. c.loop-i.invariant.3.rest i (omega arith)),
-)
+returns c = record { flags = (λ few. flags_opened _ _ _ _ _ c.symbol_numbers-numbers.ensures c.loop-i.invariant.3 (omega arith) few); rest = (λ few i past. c.loop-i.invariant.3.rest i (omega arith)) }

@@ -1,5 +1,5 @@
 use borrow.Author.Rules.{rules}
-use Rattle.word.proofs.RangeLaws.{one_passed, one_found, all_passed}
+use Rattle.word.proofs.RangeLaws.{none_passed, one_passed, one_found, all_passed}
 use Rattle.ties.specs.Ties.{wrong_cells}
 use Prim.Native.Nat.{◌-◌}
 use mathlib.Core.Bool.{false}
@@ -16,3 +16,6 @@ loop-i-preserved c = (search rules, one_passed _ _ c.loop-i.invariant.1 (sym (c.
 pub returns : goal.returns
 unfolding wrong_cells
 returns c = all_passed _ _ _ c.loop-i.invariant.1 (search rules)
+
+pub loop-i-init : goal.loop-i-init
+loop-i-init c = (search rules, none_passed _)

@@ -13,12 +13,15 @@ returns-then-count-eq0 c = all_passed _ _ 0 (none_passed _) (omega (arith, c.if-
 
 pub returns-then-not-precedes_next : goal.returns-then-not-precedes_next
 unfolding wrong_order
-returns-then-not-precedes_next c = one_found _ _ _ c.loop-i-test.true (ap not (sym (c.precedes_next.ensures _ refl)) ∙ c.if-not-precedes_next.true)
+returns-then-not-precedes_next c = one_found _ _ _ c.loop-i-test.true (ap not (sym (c.precedes_next.ensures _ refl) ∙ c.if-not-precedes_next.true))
 
 pub loop-i-preserved : goal.loop-i-preserved
 loop-i-preserved c =
-    (search rules, one_passed _ _ c.loop-i.invariant.1 (ap not (sym (c.precedes_next.ensures _ refl)) ∙ c.if-not-precedes_next.false))
+    (search rules, one_passed _ _ c.loop-i.invariant.1 (ap not (sym (c.precedes_next.ensures _ refl) ∙ c.if-not-precedes_next.false)))
 
 pub returns : goal.returns
 unfolding wrong_order
 returns c = all_passed _ _ _ c.loop-i.invariant.1 (search rules)
+
+pub loop-i-init : goal.loop-i-init
+loop-i-init c = (search rules, none_passed _)

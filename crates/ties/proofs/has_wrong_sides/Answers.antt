@@ -1,5 +1,5 @@
 use borrow.Author.Rules.{rules}
-use Rattle.word.proofs.RangeLaws.{one_passed, one_found, all_passed}
+use Rattle.word.proofs.RangeLaws.{none_passed, one_passed, one_found, all_passed}
 use Rattle.ties.specs.Ties.{wrong_sides}
 use Rattle.ties.proofs.EntryLaws.{side_above, side_within}
 use Prim.Native.Nat.{◌-◌}
@@ -16,3 +16,6 @@ loop-i-preserved c = (search rules, one_passed _ _ c.loop-i.invariant.1 (side_wi
 pub returns : goal.returns
 unfolding wrong_sides
 returns c = all_passed _ _ _ c.loop-i.invariant.1 (search rules)
+
+pub loop-i-init : goal.loop-i-init
+loop-i-init c = (search rules, none_passed _)

@@ -13,4 +13,4 @@ pub loop-c-preserved : goal.loop-c-preserved
 loop-c-preserved c = (search rules, search rules, through_stores _ _ _ _ _ _ (search rules) c.loop-c.invariant.2 refl refl)
 
 pub returns : goal.returns
-returns c = (c.loop-c.invariant.2 ∙ through_all _ _ _ (omega arith), (λ k right. c.loop-c.invariant.2 ∙ through_all _ _ _ (omega arith) ∙ eight_all k c.args.table.now right c.args.words.now))
+returns c = record { looked = c.loop-c.invariant.2 ∙ through_all _ _ _ (omega arith); eight = (λ k right. c.loop-c.invariant.2 ∙ through_all _ _ _ (omega arith) ∙ eight_all k c.args.table.now right c.args.words.now) }

@@ -11,17 +11,18 @@ returns-then-number-ne0 c =
     let e = clock_refused c.args.self c.args.spread.now
     c.args.row.now c.first_refusal-number.result c.first_refusal-number.ensures
     c.if-number-ne0.true in
-    (sym e, (refl, refl, refl, sym (ap (λ (q : Reply ℕ). state_after q c.args.self.state) e)))
+    record { result_value = sym e; m_value = (refl, refl, refl, sym (ap (λ (q : Reply ℕ). state_after q c.args.self.state) e)) }
 
 pub returns : goal.returns
 returns c =
     let args = c.args in
-    let e = clock_done args.self args.spread.now args.row.now _ c.clock_row.result.state (cc) refl c.clock_row.ensures.3 in (
-      sym e,
-      (
+    let e = clock_done args.self args.spread.now args.row.now _ c.clock_row.result.state (cc) refl c.clock_row.ensures.3 in
+    record {
+      result_value = sym e;
+      m_value = (
         c.clock_row.ensures.0,
         c.clock_row.ensures.1,
         c.clock_row.ensures.2,
         sym (ap (λ (q : Reply ℕ). state_after q args.self.state) e),
-      ),
-    )
+      );
+    }
