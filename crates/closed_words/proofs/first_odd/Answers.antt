@@ -4,7 +4,6 @@ use mathlib.Core.List.{List}
 use Prim.Native.Nat.{ℕ, ◌+◌}
 use lib.ListN.{drop}
 use lib.Seq.{take_all}
-use borrow.Author.Tests.{not-false}
 use Rattle.parity_table.specs.Table.{even_run}
 use Rattle.parity_table.proofs.SkipLaws.{pays_few}
 use Rattle.closed_words.proofs.first_odd.Goals as goal
@@ -14,4 +13,4 @@ returns c =
     let args = c.args in
     c.skip_even.ensures
     ∙ ap (λ (l : List ℕ). args.from + even_run l (drop args.from args.columns.now))
-    (take_all 64 args.words.now (pays_few _ _ _ c.pays.ensures (not-false _ c.if-not-pays.false)))
+    (take_all 64 args.words.now (pays_few _ _ _ c.pays.ensures c.if-not-pays.false))

@@ -21,19 +21,18 @@ offset_bounds-basis-d c = omega (arith, trailing_le 64 c.loop-left.left)
 lowest : (c : In-loop-left) → Lowest (bit_and c.loop-left.rest c.args.dead) (count_trailing_zeros 64 c.loop-left.left)
 lowest c = walk_step _ _ _ c.loop-left.invariant.1 c.loop-left-test.true c.loop-left.invariant.0 c.ranges.dead.fits
 
-small : (c : In-loop-left) → bit_xor c.loop-left.rest (get_or c.args.basis.now (count_trailing_zeros 64 c.loop-left.left) 0) < 2 ^ 64
-small c = xor_lt 64 _ _ c.loop-left.invariant.0 (c.shared_slice_known-1.given (count_trailing_zeros 64 c.loop-left.left)).fits
-
 pub bounds-basis-d : goal.bounds-basis-d
 bounds-basis-d c = omega (arith, (lowest (goal.at.bounds-basis-d c).In-loop-left).place, c.requires.long)
 
 pub loop-left-smaller : goal.loop-left-smaller
 loop-left-smaller c =
-    walk_falls _ _ c.requires c.loop-left.rest _ (lowest (goal.at.loop-left-smaller c).In-loop-left) c.ranges.dead.fits (small (goal.at.loop-left-smaller c).In-loop-left)
+    let small : bit_xor c.loop-left.rest (get_or c.args.basis.now (count_trailing_zeros 64 c.loop-left.left) 0) < 2 ^ 64 = xor_lt 64 _ _ c.loop-left.invariant.0 (c.shared_slice_known-1.given (count_trailing_zeros 64 c.loop-left.left)).fits in
+    walk_falls _ _ c.requires c.loop-left.rest _ (lowest (goal.at.loop-left-smaller c).In-loop-left) c.ranges.dead.fits small
 
 pub loop-left-preserved : goal.loop-left-preserved
 loop-left-preserved c =
-    (small (goal.at.loop-left-preserved c).In-loop-left, refl, (λ l ws s. walk_turn _ _ c.requires l ws _ _ _ s (lowest (goal.at.loop-left-preserved c).In-loop-left) (c.loop-left.invariant.2 l ws s)))
+    let small : bit_xor c.loop-left.rest (get_or c.args.basis.now (count_trailing_zeros 64 c.loop-left.left) 0) < 2 ^ 64 = xor_lt 64 _ _ c.loop-left.invariant.0 (c.shared_slice_known-1.given (count_trailing_zeros 64 c.loop-left.left)).fits in
+    (small, refl, (λ l ws s. walk_turn _ _ c.requires l ws _ _ _ s (lowest (goal.at.loop-left-preserved c).In-loop-left) (c.loop-left.invariant.2 l ws s)))
 
 pub returns : goal.returns
 returns c = λ l ws s.

@@ -5,7 +5,7 @@ use Rattle.columns.proofs.FirstLaws.{filled_columns}
 use Rattle.columns.proofs.fill_named.Goals as goal
 
 pub returns : goal.returns
-returns c =
+returns c heads flagged long =
     let args = c.args in
     c.set_symbols.ensures heads flagged
     (filled_columns (taken_circuit args.taken) _ (cells_of args.list.now args.rows) args.columns.now _ long c.fill_columns.ensures)

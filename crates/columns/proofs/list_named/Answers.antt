@@ -6,7 +6,7 @@ use Rattle.columns.proofs.FirstLaws.{heads_short, heads_listed}
 use Rattle.columns.proofs.list_named.Goals as goal
 
 pub returns-then-columns-found : goal.returns-then-columns-found
-returns-then-columns-found c =
+returns-then-columns-found c taken ec =
     let args = c.args in
     let ties = c.tie_bytes-ties in
     let flags = c.opening_flags-flags in
@@ -20,7 +20,7 @@ pub slice_bounds-fill_named-end-4 : goal.slice_bounds-fill_named-end-4
 slice_bounds-fill_named-end-4 c = sym (length-take-le _ _ (search rules))
 
 pub returns : goal.returns
-returns c =
+returns c taken ec =
     let args = c.args in
     let ties = c.tie_bytes-ties in
     let flags = c.opening_flags-flags in

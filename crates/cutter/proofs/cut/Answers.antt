@@ -13,13 +13,13 @@ use Rattle.cutter.proofs.cut.Goals.{After-cut_slices-slices, Else-cuts-runs}
 
 pub returns-in_default : goal.returns-in_default
 returns-in_default c =
-    let refused = refused_set _ _ _ _ _ (c.read_set-read.ensures.answer, c.read_set-read.ensures.spread, c.read_set-read.ensures.start) c.in_default.is c.number_of.ensures in
+    let refused = refused_set _ _ _ _ _ (c.read_set-read.ensures.answer, (c.read_set-read.ensures.spread, c.read_set-read.ensures.start)) c.in_default.is c.number_of.ensures in
     let entry = c.args in
     record { answer = (ends_set _ entry.cuts.now _ _ refused.0 refused.1).0; cuts = (ends_set _ entry.cuts.now _ _ refused.0 refused.1).1 }
 
 pub returns-then-is_bad_share : goal.returns-then-is_bad_share
 returns-then-is_bad_share c =
-    let taken = taken_set _ _ _ _ _ _ (c.read_set-read.ensures.answer, c.read_set-read.ensures.spread, c.read_set-read.ensures.start) c.in-Read.is in
+    let taken = taken_set _ _ _ _ _ _ (c.read_set-read.ensures.answer, (c.read_set-read.ensures.spread, c.read_set-read.ensures.start)) c.in-Read.is in
     let entry = c.args in
     record { answer = (ends_26 _ entry.cuts.now _ taken.none (own_share _ _ _ _ _ c.is_bad_share.ensures taken.width c.if-is_bad_share.true)).0; cuts = (ends_26 _ entry.cuts.now _ taken.none (own_share _ _ _ _ _ c.is_bad_share.ensures taken.width c.if-is_bad_share.true)).1 }
 
@@ -32,7 +32,7 @@ passed : (c : After-cut_slices-slices) → Passed c.args.set.now c.args.k c.cut_
 passed c =
     let read = c.read_set-read in
     let asked = c.is_bad_share in
-    let taken = taken_set _ _ _ _ _ _ (read.ensures.answer, read.ensures.spread, read.ensures.start) c.in-Read.is in
+    let taken = taken_set _ _ _ _ _ _ (read.ensures.answer, (read.ensures.spread, read.ensures.start)) c.in-Read.is in
     let share = own_share _ _ _ _ _ asked.ensures taken.width c.if-is_bad_share.false in
     record { none = taken.none; share = share; sliced = c.cut_slices-slices.ensures taken (share_range _ _ share).0 }
 
@@ -40,7 +40,7 @@ passed c =
 wide : (c : After-cut_slices-slices) → c.in-Read.register.m ≡ width_of c.args.set.now
 wide c =
     let read = c.read_set-read in
-    (taken_set _ _ _ _ _ _ (read.ensures.answer, read.ensures.spread, read.ensures.start) c.in-Read.is).width
+    (taken_set _ _ _ _ _ _ (read.ensures.answer, (read.ensures.spread, read.ensures.start)) c.in-Read.is).width
 
 pub returns-in_default-slices : goal.returns-in_default-slices
 returns-in_default-slices c = record { answer = (ends_27 _ c.args.cuts.now _ _ _ (passed (goal.at.returns-in_default-slices c).After-cut_slices-slices) _ _ c.in_default-slices.is c.slices_number.ensures).0; cuts = (ends_27 _ c.args.cuts.now _ _ _ (passed (goal.at.returns-in_default-slices c).After-cut_slices-slices) _ _ c.in_default-slices.is c.slices_number.ensures).1 }
@@ -55,7 +55,7 @@ few : (c : Else-cuts-runs) → c.in-Cut.runs ≤ 512
 few c =
     let passed : Passed c.args.set.now c.args.k c.cut_slices-slices.new.starts c.cut_slices-slices.result = (let read = c.read_set-read in
     let asked = c.is_bad_share in
-    let taken = taken_set _ _ _ _ _ _ (read.ensures.answer, read.ensures.spread, read.ensures.start) c.in-Read.is in
+    let taken = taken_set _ _ _ _ _ _ (read.ensures.answer, (read.ensures.spread, read.ensures.start)) c.in-Read.is in
     let share = own_share _ _ _ _ _ asked.ensures taken.width c.if-is_bad_share.false in
     record { none = taken.none; share = share; sliced = c.cut_slices-slices.ensures taken (share_range _ _ share).0 }) in
     runs_few _ c.args.cuts.now _ _ _ (passed) _ c.in-Cut.is
@@ -65,7 +65,7 @@ inside : (c : Else-cuts-runs) → c.in-Cut.runs ≤ length c.cut_slices-slices.n
 inside c =
     let passed : Passed c.args.set.now c.args.k c.cut_slices-slices.new.starts c.cut_slices-slices.result = (let read = c.read_set-read in
     let asked = c.is_bad_share in
-    let taken = taken_set _ _ _ _ _ _ (read.ensures.answer, read.ensures.spread, read.ensures.start) c.in-Read.is in
+    let taken = taken_set _ _ _ _ _ _ (read.ensures.answer, (read.ensures.spread, read.ensures.start)) c.in-Read.is in
     let share = own_share _ _ _ _ _ asked.ensures taken.width c.if-is_bad_share.false in
     record { none = taken.none; share = share; sliced = c.cut_slices-slices.ensures taken (share_range _ _ share).0 }) in
     let few : c.in-Cut.runs ≤ 512 = (runs_few _ c.args.cuts.now _ _ _ (passed) _ c.in-Cut.is) in
@@ -82,11 +82,11 @@ fits : (c : Else-cuts-runs)
 fits c =
     let passed : Passed c.args.set.now c.args.k c.cut_slices-slices.new.starts c.cut_slices-slices.result = (let read = c.read_set-read in
     let asked = c.is_bad_share in
-    let taken = taken_set _ _ _ _ _ _ (read.ensures.answer, read.ensures.spread, read.ensures.start) c.in-Read.is in
+    let taken = taken_set _ _ _ _ _ _ (read.ensures.answer, (read.ensures.spread, read.ensures.start)) c.in-Read.is in
     let share = own_share _ _ _ _ _ asked.ensures taken.width c.if-is_bad_share.false in
     record { none = taken.none; share = share; sliced = c.cut_slices-slices.ensures taken (share_range _ _ share).0 }) in
     let wide : c.in-Read.register.m ≡ width_of c.args.set.now = (let read = c.read_set-read in
-    (taken_set _ _ _ _ _ _ (read.ensures.answer, read.ensures.spread, read.ensures.start) c.in-Read.is).width) in
+    (taken_set _ _ _ _ _ _ (read.ensures.answer, (read.ensures.spread, read.ensures.start)) c.in-Read.is).width) in
     let few : c.in-Cut.runs ≤ 512 = (runs_few _ c.args.cuts.now _ _ _ (passed) _ c.in-Cut.is) in
     let known = passed in
     bits_fit _ _ _ (omega (arith, wide, (accepted_width _ (accepted _ known.none)).1))

@@ -8,7 +8,7 @@ use Rattle.drives.proofs.add_of_any.Given as goal
 
 abbrev pub invariant-loop-t : goal.invariant-loop-t
 invariant-loop-t l =
-    (l.t ≤ l.s) × (length l.drives ≡ length l.initial.drives) × Added l.initial.drives l.drives l.t (λ l.t. looked l.table (marks_at l.list l.rows l.from l.t) 8)
+    (l.t ≤ l.s) × (length l.drives ≡ length l.initial.drives) × Added l.initial.drives l.drives l.t (λ t. looked l.table (marks_at l.list l.rows l.from t) 8)
 
 abbrev pub decreases-loop-t : goal.decreases-loop-t
 decreases-loop-t l = l.s - l.t

@@ -13,7 +13,7 @@ invariant-loop-t l =
     (l.t ≤ l.s)
     × (length l.drives ≡ length l.initial.drives)
     × (l.place ≡ l.at + l.stride * l.t)
-    × Added l.initial.drives l.drives l.t (λ l.t. looked l.table (word_at l.list (l.at + l.stride * l.t)) 8)
+    × Added l.initial.drives l.drives l.t (λ t. looked l.table (word_at l.list (l.at + l.stride * t)) 8)
 
 abbrev pub decreases-loop-t : goal.decreases-loop-t
 decreases-loop-t l = l.s - l.t

@@ -1,4 +1,5 @@
 -- `eight_on` meets its contract. The loop's invariant: the entries for the bytes below 2 ^ i are right, and `bit` is what bit i gives.
+use mathlib.Core.List.{[]}
 use mathlib.Core.Path.{◌≡◌}
 use Prim.Native.Nat.{◌-◌, ◌≤◌, min}
 use lib.ListN.{length}

@@ -1,5 +1,6 @@
 -- `fill_wide` meets its contract. The loop's invariant: the columns of the slices from `t` on stand at the list's end, and the words are the
 -- spread words after the whole eights of as many clocks.
+use mathlib.Core.List.{[]}
 use mathlib.Core.Path.{◌≡◌}
 use Prim.Native.Nat.{◌-◌, ◌≤◌, min}
 use lib.ListN.{length, take}

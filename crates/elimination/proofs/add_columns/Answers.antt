@@ -22,4 +22,4 @@ returns c =
     record { count = reduced.ensures.0; list = portion_ends _ _ _ _ reduced.ensures.0 reduced.auto.held _ _ reduced.ensures.1 refl c.clear_words.ensures }
 
 pub slice_bounds-clear_words-start : goal.slice_bounds-clear_words-start
-slice_bounds-clear_words-start c = inside c
+slice_bounds-clear_words-start c = inside (goal.at.slice_bounds-clear_words-start c).After-words-1

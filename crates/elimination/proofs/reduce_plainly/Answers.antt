@@ -25,10 +25,10 @@ pub slice_bounds-add_column-end-in-loop-i : goal.slice_bounds-add_column-end-in-
 slice_bounds-add_column-end-in-loop-i c = sym (length-take-le _ _ (search rules))
 
 pub slice_bounds-next_place-end : goal.slice_bounds-next_place-end
-slice_bounds-next_place-end c = (turned (goal.at.slice_bounds-next_place-end c).After-add_column-left).left-long
+slice_bounds-next_place-end c = (turned (goal.at.slice_bounds-next_place-end c).After-add_column-left).left_long
 
 pub slice_bounds-next_place-end-in-loop-i : goal.slice_bounds-next_place-end-in-loop-i
-slice_bounds-next_place-end-in-loop-i c = sym (length-take-le _ _ (turned (goal.at.slice_bounds-next_place-end-in-loop-i c).After-add_column-left).left-long)
+slice_bounds-next_place-end-in-loop-i c = sym (length-take-le _ _ (turned (goal.at.slice_bounds-next_place-end-in-loop-i c).After-add_column-left).left_long)
 
 pub loop-i-preserved : goal.loop-i-preserved
 loop-i-preserved c =

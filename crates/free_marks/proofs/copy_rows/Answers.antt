@@ -27,6 +27,6 @@ loop-t-preserved c =
     )
 
 pub returns : goal.returns
-returns c =
+returns c hn hs eb =
     let args = c.args in
     rows_end args.n args.list.now args.marks eb args.s _ c.loop-t.copy (omega arith) (c.loop-t.invariant.2 hn hs eb)

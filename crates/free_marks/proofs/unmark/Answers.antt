@@ -13,4 +13,4 @@ loop-i-preserved c =
     (search rules, search rules, (λ t d. entries_turn _ _ _ _ _ (at.invariant.2 t d) (c.clear_entry.ensures _ t d)))
 
 pub returns : goal.returns
-returns c = entries_end _ _ _ _ _ _ (c.loop-i.invariant.2 t d) (omega arith) (c.copy_rows-copy.ensures hn hs eb t d h)
+returns c hn hs eb t d h = entries_end _ _ _ _ _ _ (c.loop-i.invariant.2 t d) (omega arith) (c.copy_rows-copy.ensures hn hs eb t d h)

@@ -4,10 +4,10 @@ use Rattle.judge.proofs.CallLaws.{found_none, found_all}
 use Rattle.judge.proofs.find_bits.Goals as goal
 
 pub returns-then-q-gt64 : goal.returns-then-q-gt64
-returns-then-q-gt64 c = record { list = (found_none _ _ (λ few there. omega (arith, c.count-q.ensures.0))).0; cancelled = (found_none _ _ (λ few there. omega (arith, c.count-q.ensures.0))).1 }
+returns-then-q-gt64 c = record { list = (found_none c.args.plan.now c.args.signature (λ few there. omega (arith, c.count-q.ensures.0))).0; cancelled = (found_none c.args.plan.now c.args.signature (λ few there. omega (arith, c.count-q.ensures.0))).1 }
 
 pub returns-then-plan-q : goal.returns-then-plan-q
-returns-then-plan-q c = record { list = (found_none _ _ (λ few there. omega (arith, c.count-q.ensures.0))).0; cancelled = (found_none _ _ (λ few there. omega (arith, c.count-q.ensures.0))).1 }
+returns-then-plan-q c = record { list = (found_none c.args.plan.now c.args.signature (λ few there. omega (arith, c.count-q.ensures.0))).0; cancelled = (found_none c.args.plan.now c.args.signature (λ few there. omega (arith, c.count-q.ensures.0))).1 }
 
 pub returns : goal.returns
 returns c =

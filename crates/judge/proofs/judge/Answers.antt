@@ -21,8 +21,7 @@ pub returns-then-differing-eq0 : goal.returns-then-differing-eq0
 returns-then-differing-eq0 c =
     let checked = c.check_listed-checked.ensures in
     let sound = c.in-Sound.is in
-    let found = (c.find_bits-found.ensures.list, c.find_bits-found.ensures.cancelled) in
-    judged_passes _ _ _ checked _ _ _ sound _ c.is_beyond.ensures c.if-is_beyond.false _ _ found c.if-differing-eq0.true
+    judged_passes _ _ _ checked _ _ _ sound _ c.is_beyond.ensures c.if-is_beyond.false _ _ (c.find_bits-found.ensures.list, c.find_bits-found.ensures.cancelled) c.if-differing-eq0.true
 
 pub overflow_cast-index : goal.overflow_cast-index
 overflow_cast-index c =
@@ -34,5 +33,4 @@ pub returns : goal.returns
 returns c =
     let checked = c.check_listed-checked.ensures in
     let sound = c.in-Sound.is in
-    let found = (c.find_bits-found.ensures.list, c.find_bits-found.ensures.cancelled) in
-    judged_fails _ _ _ checked _ _ _ sound _ c.is_beyond.ensures c.if-is_beyond.false _ _ found c.if-differing-eq0.false
+    judged_fails _ _ _ checked _ _ _ sound _ c.is_beyond.ensures c.if-is_beyond.false _ _ (c.find_bits-found.ensures.list, c.find_bits-found.ensures.cancelled) c.if-differing-eq0.false

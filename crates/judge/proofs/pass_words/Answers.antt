@@ -1,3 +1,5 @@
+use mathlib.Core.Path.{ap}
+use mathlib.Core.Bool.{not}
 use native.Mathlib.Omega.{arith}
 use Prim.Native.Nat.{◌-◌}
 use Rattle.word.proofs.Laws.{parity_lt}
@@ -16,7 +18,7 @@ pub returns-then-not-is_next : goal.returns-then-not-is_next
 returns-then-not-is_next c =
     let bytes = c.shared_slice_known-1.given in
     let so_far = c.loop-i.invariant in
-    record { list = (pass_stops _ _ _ _ _ _ so_far (λ i. (bytes i).fits) _ _ (search rules) c.plan_word-w.ensures c.is_next.ensures c.if-not-is_next.true).0; cancelled = (pass_stops _ _ _ _ _ _ so_far (λ i. (bytes i).fits) _ _ (search rules) c.plan_word-w.ensures c.is_next.ensures c.if-not-is_next.true).1 }
+    record { list = (pass_stops _ _ _ _ _ _ so_far (λ i. (bytes i).fits) _ _ (search rules) c.plan_word-w.ensures c.is_next.ensures (ap not c.if-not-is_next.true)).0; cancelled = (pass_stops _ _ _ _ _ _ so_far (λ i. (bytes i).fits) _ _ (search rules) c.plan_word-w.ensures c.is_next.ensures (ap not c.if-not-is_next.true)).1 }
 
 pub overflow_shl-bits : goal.overflow_shl-bits
 overflow_shl-bits c = omega (arith, c.loop-i.invariant.few)
@@ -29,7 +31,7 @@ overflow_add-bits c =
 pub loop-i-preserved : goal.loop-i-preserved
 loop-i-preserved c =
     let so_far = c.loop-i.invariant in
-    cancelled_turn _ _ _ _ _ _ so_far _ _ _ _ (search rules) c.plan_word-w.ensures c.is_next.ensures c.if-not-is_next.false c.with_highest-tops.ensures c.shared_parity.ensures
+    cancelled_turn _ _ _ _ _ _ so_far _ _ _ _ (search rules) c.plan_word-w.ensures c.is_next.ensures (ap not c.if-not-is_next.false) c.with_highest-tops.ensures c.shared_parity.ensures
 
 pub returns : goal.returns
 returns c =

@@ -39,5 +39,5 @@ pub shape_of-columns : goal.shape_of-columns
 shape_of-columns c = c.loop-i.invariant.1
 
 pub returns : goal.returns
-returns c =
+returns c k count from flagged heads own =
     set_ends k _ (ties_in _ count) _ _ _ (omega (arith, from.numbered.long)) (c.loop-i.invariant.3 k count from flagged heads own)

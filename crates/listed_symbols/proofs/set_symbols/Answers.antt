@@ -21,7 +21,7 @@ pub set_named-requires : goal.set_named-requires
 set_named-requires c = omega (arith, length-take c.tie_limit-limit.result c.symbol_numbers-numbers.result)
 
 pub returns : goal.returns
-returns c =
+returns c heads flagged =
     let args = c.args in
     let width = c.width_limit-width in
     let chains = c.chain_limit-chains in

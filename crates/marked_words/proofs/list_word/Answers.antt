@@ -19,7 +19,7 @@ overflow_cast-marks c = omega (arith, ones-le 64 _ c.ranges.marks.fits)
 -- all 64 chains are marked: there are as many words and places
 fits : (c : Then-marks-eq18446744073709551615) → (64 ≤ length c.args.columns.now) × (64 ≤ length c.args.words.now)
 fits c =
-    whole_fits c.args.words.now c.args.columns.now c.args.marks c.if-marks-eq18446744073709551615.true c.fits.marks.fits c.requires c.if-columns-marks.false
+    whole_fits c.args.words.now c.args.columns.now c.args.marks c.if-marks-eq18446744073709551615.true c.ranges.marks.fits c.requires c.if-columns-marks.false
 
 pub list_whole-requires : goal.list_whole-requires
 list_whole-requires c = record { in_bounds = (fits (goal.at.list_whole-requires c).Then-marks-eq18446744073709551615).0; in_bounds_2 = (fits (goal.at.list_whole-requires c).Then-marks-eq18446744073709551615).1 }
@@ -27,5 +27,4 @@ list_whole-requires c = record { in_bounds = (fits (goal.at.list_whole-requires 
 pub returns-then-marks-eq18446744073709551615 : goal.returns-then-marks-eq18446744073709551615
 returns-then-marks-eq18446744073709551615 c =
     let args = c.args in
-    let listed = (c.list_whole.ensures.value, c.list_whole.ensures.columns_after) in
-    record { value = (whole_listed args.words.now args.columns.now _ _ args.marks c.if-marks-eq18446744073709551615.true (fits (goal.at.returns-then-marks-eq18446744073709551615 c).Then-marks-eq18446744073709551615).1 listed.0 listed.1).0; columns_after = (whole_listed args.words.now args.columns.now _ _ args.marks c.if-marks-eq18446744073709551615.true (fits (goal.at.returns-then-marks-eq18446744073709551615 c).Then-marks-eq18446744073709551615).1 listed.0 listed.1).1 }
+    record { value = (whole_listed args.words.now args.columns.now _ _ args.marks c.if-marks-eq18446744073709551615.true (fits (goal.at.returns-then-marks-eq18446744073709551615 c).Then-marks-eq18446744073709551615).1 c.list_whole.ensures.value c.list_whole.ensures.columns_after).0; columns_after = (whole_listed args.words.now args.columns.now _ _ args.marks c.if-marks-eq18446744073709551615.true (fits (goal.at.returns-then-marks-eq18446744073709551615 c).Then-marks-eq18446744073709551615).1 c.list_whole.ensures.value c.list_whole.ensures.columns_after).1 }

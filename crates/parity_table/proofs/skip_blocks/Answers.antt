@@ -1,5 +1,4 @@
 use Prim.Native.Nat.{◌-◌}
-use borrow.Author.Tests.{not-false}
 use native.Mathlib.Omega.{arith}
 use Rattle.parity_table.proofs.SkipLaws.{skipped_start, skipped_said, skipped_block}
 use Rattle.parity_table.proofs.skip_blocks.Goals as goal
@@ -18,7 +17,7 @@ pub returns-then-not-are_even : goal.returns-then-not-are_even
 returns-then-not-are_even c = skipped_said _ _ _ _ c.loop-i.invariant
 
 pub loop-i-preserved : goal.loop-i-preserved
-loop-i-preserved c = skipped_block _ c.args.columns.now _ c.loop-i.i c.loop-i.invariant (omega (arith, c.if-columns-i-lt-BLOCK.false)) (c.are_even.ensures (not-false _ c.if-not-are_even.false))
+loop-i-preserved c = skipped_block _ c.args.columns.now _ c.loop-i.i c.loop-i.invariant (omega (arith, c.if-columns-i-lt-BLOCK.false)) (c.are_even.ensures c.if-not-are_even.false)
 
 pub returns : goal.returns
 returns c = skipped_said _ _ _ _ c.loop-i.invariant

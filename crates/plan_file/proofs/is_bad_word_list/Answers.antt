@@ -1,4 +1,5 @@
-use mathlib.Core.Path.{◌∙◌}
+use mathlib.Core.Bool.{not}
+use mathlib.Core.Path.{ap, ◌∙◌}
 use Prim.Native.Nat.{◌-◌}
 use native.Mathlib.Omega.{arith}
 use Rattle.plan_file.proofs.WordPlaces.{plan_passed_start, next_there, plan_passed_turn, plan_passed_stop, plan_passed_end, own_words}
@@ -19,12 +20,12 @@ returns-then-not-is_next c =
     let bytes = c.shared_slice_known-1.given in
     let so_far = c.loop-i.invariant in
     λ h. own_words _ _ _ _ c.width-m.ensures.0 c.count-q.ensures.0
-    (plan_passed_stop _ _ _ _ so_far _ _ (search rules) c.plan_word-w.ensures c.is_next.ensures (λ i. (bytes i).fits) c.if-not-is_next.true _)
+    (plan_passed_stop _ _ _ _ so_far _ _ (search rules) c.plan_word-w.ensures c.is_next.ensures (λ i. (bytes i).fits) (ap not c.if-not-is_next.true) _)
 
 pub loop-i-preserved : goal.loop-i-preserved
 loop-i-preserved c =
     let so_far = c.loop-i.invariant in
-    plan_passed_turn _ _ _ _ so_far _ _ (search rules) c.plan_word-w.ensures c.is_next.ensures _ c.if-not-is_next.false c.with_highest-seen.ensures
+    plan_passed_turn _ _ _ _ so_far _ _ (search rules) c.plan_word-w.ensures c.is_next.ensures _ (ap not c.if-not-is_next.false) c.with_highest-seen.ensures
 
 pub returns : goal.returns
 returns c =

@@ -15,7 +15,7 @@ pub slice_bounds-print_set-end : goal.slice_bounds-print_set-end
 slice_bounds-print_set-end c = sym (length-take-le _ _ (array-share-prefix-bytes c))
 
 pub slice_bounds-out-end : goal.slice_bounds-out-end
-slice_bounds-out-end c = let printed = (c.print_set-end.ensures.count, c.print_set-end.ensures.text) in (front_part _ _ _ _ printed.1 printed.0).0
+slice_bounds-out-end c = (front_part _ _ _ _ c.print_set-end.ensures.text c.print_set-end.ensures.count).0
 
 pub slice_bounds-write_all-end : goal.slice_bounds-write_all-end
 slice_bounds-write_all-end c = sym (length-take-le _ _ (array-share-prefix-out c))

@@ -21,16 +21,11 @@ slice_bounds-expected_bits-end-2 c = sym (length-take-le _ _ (slice-reshare-pref
 pub returns : goal.returns
 returns c =
     let args = c.args in
-    let made = (c.make_words-made.ensures.taken, c.make_words-made.ensures.answer, c.make_words-made.ensures.working, c.make_words-made.ensures.words) in
     let some = c.in-Words.is in
-    record {
-      answer = (ends_planned _ args.working.now args.words.now _ _ _ made.1 _ _ some _
-          (expected_taken _ _ _ (worded_few _ args.working.now args.words.now _ _ _ made.1 _ _ some)
-          (c.expected_bits.ensures (made.0 (worded_set _ args.working.now args.words.now _ _ _ made.1 _ _ some))))).0;
-      working = (ends_planned _ args.working.now args.words.now _ _ _ made.1 _ _ some _
-          (expected_taken _ _ _ (worded_few _ args.working.now args.words.now _ _ _ made.1 _ _ some)
-          (c.expected_bits.ensures (made.0 (worded_set _ args.working.now args.words.now _ _ _ made.1 _ _ some))))).1.0;
-      words = (ends_planned _ args.working.now args.words.now _ _ _ made.1 _ _ some _
-          (expected_taken _ _ _ (worded_few _ args.working.now args.words.now _ _ _ made.1 _ _ some)
-          (c.expected_bits.ensures (made.0 (worded_set _ args.working.now args.words.now _ _ _ made.1 _ _ some))))).1.1;
-    }
+    record { answer = (ends_planned _ args.working.now args.words.now _ _ _ (c.make_words-made.ensures.taken, (c.make_words-made.ensures.answer, (c.make_words-made.ensures.working, c.make_words-made.ensures.words))) _ _ some _
+    (expected_taken _ _ _ (worded_few _ args.working.now args.words.now _ _ _ (c.make_words-made.ensures.taken, (c.make_words-made.ensures.answer, (c.make_words-made.ensures.working, c.make_words-made.ensures.words))) _ _ some)
+    (c.expected_bits.ensures (c.make_words-made.ensures.taken (worded_set _ args.working.now args.words.now _ _ _ (c.make_words-made.ensures.taken, (c.make_words-made.ensures.answer, (c.make_words-made.ensures.working, c.make_words-made.ensures.words))) _ _ some))))).0; working = (ends_planned _ args.working.now args.words.now _ _ _ (c.make_words-made.ensures.taken, (c.make_words-made.ensures.answer, (c.make_words-made.ensures.working, c.make_words-made.ensures.words))) _ _ some _
+    (expected_taken _ _ _ (worded_few _ args.working.now args.words.now _ _ _ (c.make_words-made.ensures.taken, (c.make_words-made.ensures.answer, (c.make_words-made.ensures.working, c.make_words-made.ensures.words))) _ _ some)
+    (c.expected_bits.ensures (c.make_words-made.ensures.taken (worded_set _ args.working.now args.words.now _ _ _ (c.make_words-made.ensures.taken, (c.make_words-made.ensures.answer, (c.make_words-made.ensures.working, c.make_words-made.ensures.words))) _ _ some))))).1.0; words = (ends_planned _ args.working.now args.words.now _ _ _ (c.make_words-made.ensures.taken, (c.make_words-made.ensures.answer, (c.make_words-made.ensures.working, c.make_words-made.ensures.words))) _ _ some _
+    (expected_taken _ _ _ (worded_few _ args.working.now args.words.now _ _ _ (c.make_words-made.ensures.taken, (c.make_words-made.ensures.answer, (c.make_words-made.ensures.working, c.make_words-made.ensures.words))) _ _ some)
+    (c.expected_bits.ensures (c.make_words-made.ensures.taken (worded_set _ args.working.now args.words.now _ _ _ (c.make_words-made.ensures.taken, (c.make_words-made.ensures.answer, (c.make_words-made.ensures.working, c.make_words-made.ensures.words))) _ _ some))))).1.1 }

@@ -1,4 +1,5 @@
 -- `powers` meets its contract. The loop's invariant: the first `i` words are the powers, and `power` is the next.
+use mathlib.Core.List.{[]}
 use mathlib.Core.Path.{◌≡◌}
 use Prim.Native.Nat.{◌-◌, ◌≤◌, min}
 use lib.ListN.{length}

@@ -12,12 +12,12 @@ pub returns-then-not-is_next : goal.returns-then-not-is_next
 returns-then-not-is_next c =
     let words_fit = c.shared_slice_known-1.given in
     let so_far = c.loop-i.invariant.1 in
-    passed_stop _ _ _ _ _ so_far (search rules) refl c.is_next.ensures c.if-not-is_next.true _ ∙ sym (tops_exactly _ _ (λ i. (words_fit i).fits))
+    passed_stop _ _ _ _ _ so_far (search rules) refl c.is_next.ensures (ap not c.if-not-is_next.true) _ ∙ sym (tops_exactly _ _ (λ i. (words_fit i).fits))
 
 pub loop-i-preserved : goal.loop-i-preserved
 loop-i-preserved c =
     let so_far = c.loop-i.invariant.1 in
-    (search rules, passed_turn _ _ _ _ _ _ so_far (search rules) refl c.is_next.ensures c.if-not-is_next.false c.with_highest-seen.ensures)
+    (search rules, passed_turn _ _ _ _ _ _ so_far (search rules) refl c.is_next.ensures (ap not c.if-not-is_next.false) c.with_highest-seen.ensures)
 
 pub returns : goal.returns
 returns c =

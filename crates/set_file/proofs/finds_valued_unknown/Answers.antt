@@ -32,11 +32,12 @@ returns-then-share_a_bit c =
     c.slice_count-s.ensures c.loop-t-test.true c.share_a_bit.ensures c.if-share_a_bit.true
 
 pub loop-t-preserved : goal.loop-t-preserved
-loop-t-preserved c = (
-  search rules,
-  unshared_turn _ _ _ _ c.loop-t.invariant.1 (bytes_of (goal.at.loop-t-preserved c).After-rows_at-at) _ c.if-set-end.false
-      c.share_a_bit.ensures c.if-share_a_bit.false,
-)
+loop-t-preserved c =
+    (
+      search rules,
+      unshared_turn _ _ _ _ c.loop-t.invariant.1 (bytes_of (goal.at.loop-t-preserved c).After-rows_at-at) _ c.if-set-end.false
+          c.share_a_bit.ensures c.if-share_a_bit.false,
+    )
 
 pub returns : goal.returns
 returns c =

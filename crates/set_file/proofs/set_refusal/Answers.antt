@@ -10,7 +10,7 @@ use mathlib.Core.Path.{◌≡◌, sym, ◌∙◌}
 use Prim.Native.Nat.{ℕ}
 use borrow.Author.Tests.{ltb-false}
 use Rattle.set_file.proofs.set_refusal.Goals as goal
-use Rattle.set_file.proofs.set_refusal.Goals.{After-has_wrong_length, After-tie_count_of-count, Else-has_spare_bits, Else-has_valued_unknown}
+use Rattle.set_file.proofs.set_refusal.Goals.{After-has_valued_unknown, After-has_wrong_length, After-tie_count_of-count, Else-has_valued_unknown}
 
 pub returns-then-is_short : goal.returns-then-is_short
 unfolding set_tests
@@ -63,7 +63,7 @@ unfolding set_tests
 returns-then-has_spare_bits c = let long = measured (goal.at.returns-then-has_spare_bits c).After-has_wrong_length in search refusals depth 24 fits 40000
 
 -- number 10, once 8 and 9 don't apply
-valued : (c : Else-has_spare_bits) → c.has_valued_unknown.result ≡ valued_in_rows c.args.set.now
+valued : (c : After-has_valued_unknown) → c.has_valued_unknown.result ≡ valued_in_rows c.args.set.now
 valued c =
     let counted : c.tie_count_of-count.result ≡ tie_count_of c.args.set.now = (tie_count_of_lem _ _ _ c.chain_count-n.ensures c.slice_count-s.ensures _ c.tie_count_of-count.ensures) in
     let measured : c.has_wrong_length.result ≡ wrong_length c.args.set.now = (wrong_length_counted _ _ _ _ _ c.chain_count-n.ensures c.slice_count-s.ensures (counted)
@@ -74,7 +74,7 @@ pub returns-then-has_valued_unknown : goal.returns-then-has_valued_unknown
 unfolding set_tests
 returns-then-has_valued_unknown c =
     let long = measured (goal.at.returns-then-has_valued_unknown c).After-has_wrong_length in
-    let unknown = valued (goal.at.returns-then-has_valued_unknown c).Else-has_spare_bits in
+    let unknown = valued (goal.at.returns-then-has_valued_unknown c).After-has_valued_unknown in
     search refusals depth 24 fits 40000
 
 passed : (c : Else-has_valued_unknown) (x : ℕ) → x ≡ first_of (tie_tests (slices_of ((c.args.set.now))) (chains_of ((c.args.set.now))) (marks ((c.args.set.now))) (ties_of ((c.args.set.now))))

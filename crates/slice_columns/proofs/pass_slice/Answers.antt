@@ -6,9 +6,8 @@ use Rattle.slice_columns.proofs.pass_slice.Goals as goal
 
 pub returns-then-t-eq7 : goal.returns-then-t-eq7
 returns-then-t-eq7 c =
-    let looked = (c.unclock_eight.ensures.looked, c.unclock_eight.ensures.eight) in
     let entry = c.args in
-    record { looked = looked.0 ∙ looked_up_lem entry.t _ _ (search rules); frame = (λ k spread right e. passed_eight k _ spread _ _ (search rules) e (looked.1 k right)) }
+    record { looked = c.unclock_eight.ensures.looked ∙ looked_up_lem entry.t _ _ (search rules); frame = (λ k spread right e. passed_eight k _ spread _ _ (search rules) e (c.unclock_eight.ensures.eight k right)) }
 
 pub returns-else-t-eq7 : goal.returns-else-t-eq7
 returns-else-t-eq7 c = record { looked = left_alone c.args.t _ _ (search rules); frame = (λ k spread right e. passed_between k _ spread _ (search rules) e) }

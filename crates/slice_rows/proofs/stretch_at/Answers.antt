@@ -4,7 +4,7 @@ use Rattle.slice_rows.proofs.PlaceLaws.{stretch_declined, stretch_there, place_t
 use Rattle.slice_rows.proofs.stretch_at.Goals as goal
 
 pub returns-in_default : goal.returns-in_default
-returns-in_default c = record { bytes = (stretch_declined _ _ _ _ c.in_default.is).0; place = (stretch_declined _ _ _ _ c.in_default.is).1 }
+returns-in_default c = record { bytes = (stretch_declined c.args.set.now c.args.set.ref_ptr c.args.place _ c.in_default.is).0; place = (stretch_declined c.args.set.now c.args.set.ref_ptr c.args.place _ c.in_default.is).1 }
 
 pub returns : goal.returns
 returns c = record { bytes = stretch_there _ _ _ _ _ _ _ c.in-At.is c.moved-at.ensures c.moved-end.ensures refl; place = (refl, place_there c.args.set.now _ _ _ _ _ c.in-At.is c.moved-at.ensures) }

@@ -1,7 +1,6 @@
 -- `begin` meets its contract: no column is taken, or the first are on the words in their slots.
 use mathlib.Core.Path.{sym}
 use lib.Seq.{length-take-le}
-use borrow.Author.Tests.{not-false}
 use Rattle.spread_words.proofs.CallLaws.{first_none, first_some}
 use borrow.Author.Rules.{rules}
 use Rattle.spread_words.proofs.begin.Goals as goal
@@ -20,7 +19,7 @@ slice_bounds-reduce_spread-end-2 c = sym (length-take-le _ _ (search rules))
 
 pub reduce_spread-left-requires : goal.reduce_spread-left-requires
 reduce_spread-left-requires c =
-    ((c.spread-dead.ensures c.if-dead.false).slots, c.has_own_bits.ensures (not-false c.has_own_bits.result c.if-not-has_own_bits.false))
+    ((c.spread-dead.ensures c.if-dead.false).slots, c.has_own_bits.ensures c.if-not-has_own_bits.false)
 
 pub returns : goal.returns
 returns c =

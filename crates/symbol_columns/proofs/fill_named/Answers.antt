@@ -30,4 +30,4 @@ pub shape_of-places : goal.shape_of-places
 shape_of-places c = c.loop-i.invariant.2
 
 pub returns : goal.returns
-returns c = named_ends k _ (ties_in _ count) _ room _ _ _ (c.loop-i.invariant.3 k count from flagged room) (omega (arith, from.numbered.long))
+returns c k count from flagged room = named_ends k _ (ties_in _ count) _ room _ _ _ (c.loop-i.invariant.3 k count from flagged room) (omega (arith, from.numbered.long))

@@ -19,7 +19,7 @@ pub fill_named-requires : goal.fill_named-requires
 fill_named-requires c = omega (arith, length-take c.tie_limit-limit.result c.symbol_numbers-numbers.result)
 
 pub returns : goal.returns
-returns c =
+returns c inside good flagged room =
     let args = c.args in
     let width = c.width_limit-width in
     let chains = c.chain_limit-chains in

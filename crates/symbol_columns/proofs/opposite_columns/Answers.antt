@@ -19,4 +19,4 @@ loop-i-preserved c =
     )
 
 pub returns : goal.returns
-returns c = opposites_end k _ (ties_in c.args.ties.now c.args.count) _ _ (c.loop-i.invariant.1 k p inside) (omega arith)
+returns c k p inside = opposites_end k _ (ties_in c.args.ties.now c.args.count) _ _ (c.loop-i.invariant.1 k p inside) (omega arith)

@@ -16,5 +16,5 @@ loop-h-preserved c = (
 )
 
 pub returns : goal.returns
-returns c =
+returns c k count from l ej o =
     let inv = c.loop-h.invariant.1 k count from l ej o in symbol_ends _ _ _ _ _ _ inv.1 (omega (arith, inv.0, from.numbered.long))

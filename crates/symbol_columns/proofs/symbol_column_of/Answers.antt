@@ -4,9 +4,9 @@ use Rattle.symbol_columns.proofs.SymbolLaws.{symbol_alone}
 use Rattle.symbol_columns.proofs.symbol_column_of.Goals as goal
 
 pub returns-then-has_number : goal.returns-then-has_number
-returns-then-has_number c = c.shared_column.ensures k count from h (from.numbered.numbers _ h) o
+returns-then-has_number c k count from h o = c.shared_column.ensures k count from h (from.numbered.numbers _ h) o
 
 pub returns : goal.returns
-returns c =
+returns c k count from h o =
     symbol_alone _ _ _ _ _ _ _ _ _ from.numbered h o refl refl c.has_number.ensures c.if-has_number.false
     (c.entry_column.ensures k count from.powered from.within h)

@@ -15,4 +15,4 @@ loop-i-preserved c =
     (search rules, length-set at.numbers at.i c.tie_symbol-number.result ∙ at.invariant.1, made_turns _ _ _ _ at.invariant.2 (search rules) c.tie_symbol-number.ensures)
 
 pub returns : goal.returns
-returns c = c.loop-i.invariant.2.done i (omega arith)
+returns c i h = c.loop-i.invariant.2.done i (omega arith)

@@ -1,4 +1,5 @@
 -- `earlier_word` meets its contract. The loop's invariant: `word` is `w` before `i` clocks.
+use mathlib.Core.List.{[]}
 use mathlib.Core.Path.{◌≡◌}
 use Prim.Native.Nat.{ℕ, ◌-◌, ◌≤◌}
 use Rattle.register.specs.Circuit.{circuit}

@@ -1,4 +1,5 @@
 -- `unclock_words` meets its contract. The loop's invariant: the first `c` words are unclocked, and the others as they were.
+use mathlib.Core.List.{[]}
 use mathlib.Core.Path.{◌≡◌}
 use Prim.Native.Nat.{ℕ, ◌-◌, ◌≤◌}
 use lib.ListN.{length}
