@@ -93,10 +93,10 @@ fits c =
     (omega (arith, wide, (share_range _ _ known.share).1)) (few)
 
 pub overflow_mul-result : goal.overflow_mul-result
-overflow_mul-result c = record { fits (goal.at.overflow_mul-result c).Else-cuts-runs (fits (goal.at.overflow_mul-result c).Else-cuts-runs).0 }
+overflow_mul-result c = record { fits = (fits (goal.at.overflow_mul-result c).Else-cuts-runs).0 }
 
 pub overflow_mul-result-2 : goal.overflow_mul-result-2
-overflow_mul-result-2 c = record { fits (goal.at.overflow_mul-result-2 c).Else-cuts-runs (fits (goal.at.overflow_mul-result-2 c).Else-cuts-runs).1 }
+overflow_mul-result-2 c = record { fits = (fits (goal.at.overflow_mul-result-2 c).Else-cuts-runs).1 }
 
 pub shape_of-cuts : goal.shape_of-cuts
 shape_of-cuts c = c.write_front.auto.words

@@ -32,9 +32,6 @@ passed c =
 pub overflow_sub-working : goal.overflow_sub-working
 overflow_sub-working c = inside (goal.at.overflow_sub-working c).After-fill_portion-portion
 
-pub offset_bounds-working-odd : goal.offset_bounds-working-odd
-offset_bounds-working-odd c = record { fits = omega (arith, c.if-odd-working.true, c.fill_portion-portion.auto.columns, c.loop-t.invariant.0, c.well-formed.1.1.1.1.0.1) }
-
 pub shape_of-words-then-odd-working : goal.shape_of-words-then-odd-working
 shape_of-words-then-odd-working c = c.fill_portion-portion.auto.words ∙ c.loop-t.invariant.1
 

@@ -38,17 +38,9 @@ loop-t-init c =
 pub overflow_add-end : goal.overflow_add-end
 overflow_add-end c = omega (arith, c.row_bytes-bytes.ensures, c.loop-t.invariant.3.place, small (goal.at.overflow_add-end c).In-loop-t)
 
--- LEFT slice-bounds-write-bytes-end
--- part-write-bytes-end : tie.Need-slice-bounds-write-bytes-end invariant-loop decreases-loop
--- part-write-bytes-end c = let there = inside c.before in omega (arith, there.0, there.1)
-
 pub overflow_add-to : goal.overflow_add-to
 overflow_add-to c =
     omega (arith, c.row_bytes-bytes.ensures, c.loop-t.invariant.3.place, small (goal.at.overflow_add-to c).In-loop-t)
-
--- LEFT slice-bounds-write-bytes-end-2
--- part-write-bytes-end-2 : tie.Need-slice-bounds-write-bytes-end-2 invariant-loop decreases-loop
--- part-write-bytes-end-2 c = let there = inside c.before.before.before.before.before.before in omega (arith, there.0, there.1)
 
 pub overflow_mul-to : goal.overflow_mul-to
 overflow_mul-to c =
@@ -73,7 +65,7 @@ shape_of-out c = c.loop-t.invariant.3.long
 
 pub returns : goal.returns
 returns c =
-    let entry (goal.at.returns c).In-loop-t c.args in
+    let entry = c.args in
     λ hv hk.
     turned_end _ _ _ _ _ _ _ _ _ _ _ c.loop-t.invariant.3 (search rules)
     ∙ ap (λ (at : ℕ). sets entry.out.now at (joined (slice_bytes entry.n entry.values.now entry.marks.now) entry.s)) c.rows_at-to.ensures

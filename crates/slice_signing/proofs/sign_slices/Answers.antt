@@ -13,14 +13,14 @@ few : (c : Else-s-rows) → c.args.s ≤ 512
 few c = ltb-false _ _ (or_false_right (ltb c.args.s 192) _ (or_false_left _ _ c.if-s-rows.false))
 
 pub returns-then-s-spread : goal.returns-then-s-spread
-returns-then-s-spread c = let fresh = c.fresh-register in signed_fresh _ _ _ _ _ _ _ _ _ _ c.sign_by_cells.ensures (fresh.ensures.0, (fresh.ensures.1, fresh.ensures.2))
+returns-then-s-spread c = let fresh = c.fresh-register in signed_fresh _ _ _ _ _ _ _ _ _ _ c.sign_by_cells.ensures (fresh.ensures.0, fresh.ensures.1, fresh.ensures.2)
 
 pub sign_by_half_bytes-requires : goal.sign_by_half_bytes-requires
 sign_by_half_bytes-requires c =
     (c.fresh-register.ensures.3, ltb-false _ _ (or_false_right (ltb c.args.s 8) _ c.if-s-spread.false))
 
 pub returns-then-s-rows : goal.returns-then-s-rows
-returns-then-s-rows c = let fresh = c.fresh-register in signed_fresh _ _ _ _ _ _ _ _ _ _ c.sign_by_half_bytes.ensures (fresh.ensures.0, (fresh.ensures.1, fresh.ensures.2))
+returns-then-s-rows c = let fresh = c.fresh-register in signed_fresh _ _ _ _ _ _ _ _ _ _ c.sign_by_half_bytes.ensures (fresh.ensures.0, fresh.ensures.1, fresh.ensures.2)
 
 pub sign_by_drives-requires : goal.sign_by_drives-requires
 sign_by_drives-requires c = (c.fresh-register.ensures.3, omega (arith, few (goal.at.sign_by_drives-requires c).Else-s-rows))
@@ -29,4 +29,4 @@ pub returns : goal.returns
 returns c =
     let args = c.args in
     let fresh = c.fresh-register in
-    signed_fresh _ _ _ _ _ _ _ _ _ _ (c.sign_by_drives.ensures args.spread.now args.list.now args.rows (λ t h. c.slice_drives-driven.ensures t (omega (arith, few (goal.at.returns c).Else-s-rows)))) (fresh.ensures.0, (fresh.ensures.1, fresh.ensures.2))
+    signed_fresh _ _ _ _ _ _ _ _ _ _ (c.sign_by_drives.ensures args.spread.now args.list.now args.rows (λ t h. c.slice_drives-driven.ensures t (omega (arith, few (goal.at.returns c).Else-s-rows)))) (fresh.ensures.0, fresh.ensures.1, fresh.ensures.2)

@@ -11,7 +11,7 @@ use Rattle.symbol_columns.proofs.FillLaws.{taken_powered, taken_within}
 use Rattle.symbol_columns.proofs.side_columns.Goals as goal
 
 pub returns-then-not-has_opposite : goal.returns-then-not-has_opposite
-returns-then-not-has_opposite c inside good = opposites_none _ _ (ties_in _ _) _ c.has_opposite.ensures (not_on _ c.if-not-has_opposite.true)
+returns-then-not-has_opposite c inside good = opposites_none _ _ (ties_in _ _) _ c.has_opposite.ensures c.if-not-has_opposite.true
 
 pub slice_bounds-opposite_columns-end-2 : goal.slice_bounds-opposite_columns-end-2
 slice_bounds-opposite_columns-end-2 c = sym (length-take-le _ _ (search rules))
