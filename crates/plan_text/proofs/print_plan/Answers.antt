@@ -35,7 +35,9 @@ slice_bounds-put_word_lines-end-2 c =
     (printed_words args.set.now args.working.now args.words.now _ c.plan-planned.ensures.answer _ _ _ c.in-Plan.is _ c.plan-planned.ensures.words).0
 
 pub slice_bounds-put_word_lines-end-3 : goal.slice_bounds-put_word_lines-end-3
-slice_bounds-put_word_lines-end-3 c = sym (length-take-le _ _ (slice-reshare-prefix-put-word-lines c))
+slice_bounds-put_word_lines-end-3 c = 
+    let args = c.args in
+    sym (length-take-le _ _ (printed_words args.set.now args.working.now args.words.now _ c.plan-planned.ensures.answer _ _ _ c.in-Plan.is _ c.plan-planned.ensures.words).0)
 
 pub returns : goal.returns
 returns c =
