@@ -6,6 +6,9 @@ ghost use Rattle.word.specs.Reply.{front};
 ghost use Rattle.plan_text.specs.PlanText.{longest, printed_text};
 ghost use Rattle.plan_printer.specs.Reading.{count_of};
 
+use std::io;
+use std::io::{Print, Read, Stdin};
+
 // What reading answers: how many bytes there were, or that a read failed.
 #[derive(Drop)]
 enum Input {
@@ -53,16 +56,14 @@ fn print_set(set: &[u8], out: &mut [u8; 4096]) -> usize
 
 // Reads standard input over the front of `bytes`, until it is full or the input ends. A read that fails is told apart from the
 // end of the input; one that a signal interrupts counts as failed.
-fn read_input(bytes: &mut [u8]) -> Input
+fn read_input(stdin: &mut Stdin, bytes: &mut [u8]) -> Input
     ensures { count_of result ≤ length bytes.new }
 {
     let mut count: usize = 0;
     while count < bytes.len() {
-        let got = libc::read(libc::STDIN_FILENO, &mut bytes[count..]);
-        if got < 0 {
+        let Ok(more) = stdin.read(&mut bytes[count..]) else {
             return Input::Failed;
-        }
-        let more = io::count(got, &bytes[count..]);
+        };
         if more == 0 {
             return Input::Read { count };
         }
@@ -71,30 +72,24 @@ fn read_input(bytes: &mut [u8]) -> Input
     Input::Read { count }
 }
 
-fn tell_unread() {
-    io::write_all(
-        libc::STDERR_FILENO,
-        b"plan_printer: reading standard input failed\n",
-    );
+fn no_text() -> [u8; 4096] {
+    [0u8; 4096]
 }
 
-fn tell_unwritten() {
-    io::write_all(
-        libc::STDERR_FILENO,
-        b"plan_printer: writing standard output failed\n",
-    );
-}
-
-fn main() {
+fn main(rt: HostRuntime) -> io::Result<()> {
     let mut bytes = no_bytes();
-    let input = read_input(&mut bytes);
+    let input = read_input(&mut rt.stdin(), &mut bytes);
     let Input::Read { count } = input else {
-        tell_unread();
-        return;
+        return rt
+            .stderr()
+            .write_all(b"plan_printer: reading standard input failed\n");
     };
-    let mut out = io::buffer();
+    let mut out = no_text();
     let end = print_set(&bytes[..count], &mut out);
-    if !io::write_all(libc::STDOUT_FILENO, &out[..end]) {
-        tell_unwritten();
+    if rt.stdout().write_all(&out[..end]).is_err() {
+        return rt
+            .stderr()
+            .write_all(b"plan_printer: writing standard output failed\n");
     }
+    Ok(())
 }

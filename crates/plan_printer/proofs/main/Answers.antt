@@ -6,16 +6,13 @@ use Rattle.plan_printer.proofs.Laws.{read_within}
 use Rattle.plan_printer.proofs.main.Goals as goal
 
 pub slice_bounds-bytes-end : goal.slice_bounds-bytes-end
-slice_bounds-bytes-end c =
-    let input = c.in-Read.is in
-    let within = c.read_input-input.ensures in
-    read_within _ _ _ input within
+slice_bounds-bytes-end c = read_within _ _ _ c.in-Read.is c.read_input-input.ensures
 
 pub slice_bounds-print_set-end : goal.slice_bounds-print_set-end
-slice_bounds-print_set-end c = sym (length-take-le _ _ (array-share-prefix-bytes c))
+slice_bounds-print_set-end c = sym (length-take-le _ _ (read_within _ _ _ c.in-Read.is c.read_input-input.ensures))
 
 pub slice_bounds-out-end : goal.slice_bounds-out-end
 slice_bounds-out-end c = (front_part _ _ _ _ c.print_set-end.ensures.text c.print_set-end.ensures.count).0
 
-pub slice_bounds-write_all-end : goal.slice_bounds-write_all-end
-slice_bounds-write_all-end c = sym (length-take-le _ _ (array-share-prefix-out c))
+pub slice_bounds-write_all-end-2 : goal.slice_bounds-write_all-end-2
+slice_bounds-write_all-end-2 c = sym (length-take-le _ _ (front_part _ _ _ _ c.print_set-end.ensures.text c.print_set-end.ensures.count).0)

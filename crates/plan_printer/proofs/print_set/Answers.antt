@@ -3,6 +3,9 @@ use Rattle.plan_printer.proofs.Laws.{lent_places}
 use Rattle.plan_printer.proofs.print_set.Goals as goal
 
 pub returns : goal.returns
-returns c = record { count = (lent_places c.args.set.now c.no_places-working.result c.no_words-words.result _ _ _
-    c.no_places-working.ensures c.no_words-words.ensures c.print_plan.ensures.count c.print_plan.ensures.text).0; text = (lent_places c.args.set.now c.no_places-working.result c.no_words-words.result _ _ _
-    c.no_places-working.ensures c.no_words-words.ensures c.print_plan.ensures.count c.print_plan.ensures.text).1 }
+returns c = record {
+  count = (lent_places c.args.set.now c.no_places-working.result c.no_words-words.result _ _ _
+      c.no_places-working.ensures c.no_words-words.ensures c.print_plan.ensures.count c.print_plan.ensures.text).0;
+  text = (lent_places c.args.set.now c.no_places-working.result c.no_words-words.result _ _ _
+      c.no_places-working.ensures c.no_words-words.ensures c.print_plan.ensures.count c.print_plan.ensures.text).1;
+}
