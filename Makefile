@@ -23,13 +23,14 @@ SET ?= samples/sample.set
 run: tools
 	@test -r "$(SET)" || { echo "$(SET) can't be read"; exit 1; }
 	@scripts/prove.sh plan_printer
+	@scripts/library.sh plan_printer
 	@./target/bin/plan_printer < "$(SET)"
 
 test: tools rust-tools
 	scripts/test.sh
 
 lib: tools
-	rt staticlib canceller
+	scripts/library.sh canceller
 
 command: lib cargo
 	scripts/command.sh
@@ -66,7 +67,7 @@ bench-csv: command
 	cargo run --offline --release --manifest-path command/Cargo.toml --example bench_csv -- target/canceller target/bench
 
 fmt: tools rust-tools
-	rt fmt
+	for c in crates/*/; do (cd "$$c" && rt fmt) || exit 1; done
 	cargo fmt --all --manifest-path reference/Cargo.toml
 	cargo fmt --manifest-path command/Cargo.toml
 

@@ -1,4 +1,4 @@
-//! Links the proved library, which `rt staticlib canceller` writes, and tells the command its version: the header's, and the kit's.
+//! Links the proved library, which `make lib` writes, and tells the command its version: the header's, and the kit's.
 use std::path::Path;
 use std::process::Command;
 
@@ -8,7 +8,7 @@ fn main() {
     let archive = folder.join("libcanceller.a");
     assert!(
         archive.exists(),
-        "{} is missing: run `rt staticlib canceller` first",
+        "{} is missing: run `make lib` first",
         archive.display()
     );
     println!("cargo:rerun-if-changed={}", archive.display());

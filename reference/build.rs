@@ -1,4 +1,4 @@
-//! Links the proved library, which `rt staticlib canceller` writes.
+//! Links the proved library, which `make lib` writes.
 use std::path::Path;
 
 fn main() {
@@ -6,7 +6,7 @@ fn main() {
     let archive = folder.join("libcanceller.a");
     assert!(
         archive.exists(),
-        "{} is missing: run `rt staticlib canceller` first",
+        "{} is missing: run `make lib` first",
         archive.display()
     );
     println!("cargo:rerun-if-changed={}", archive.display());

@@ -7,7 +7,7 @@ cd "$(dirname "$0")/.."
 
 declare -A sees
 while IFS=: read -r name rest; do
-    sees[$name]=$rest
+    sees[${name%% *}]=$rest
 done < <(sed 's/#.*//; /^ *$/d' crates.txt)
 
 wanted=" "
@@ -27,7 +27,7 @@ left=${#names[@]}
 for name in "${names[@]}"; do
     left=$((left - 1))
     printf 'proving %s, then %d more\n' "$name" "$left" >&2
-    if ! rt check "$name" >"$log" 2>&1; then
+    if ! (cd "crates/$name" && rt check >"$log" 2>&1); then
         cat "$log"
         echo "$name is not proved" >&2
         exit 1

@@ -16,7 +16,7 @@ fn printer() -> PathBuf {
     let path = repository().join("target/bin/plan_printer");
     assert!(
         path.exists(),
-        "{} is missing: run `rt check plan_printer` first",
+        "{} is missing: run `make run` first",
         path.display()
     );
     path

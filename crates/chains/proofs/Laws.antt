@@ -6,20 +6,20 @@ use mathlib.Core.Logic.{⊎_elim, dite}
 use mathlib.Core.List.{List, []}
 use Prim.Native.Nat.{ℕ, zero, suc, ◌+◌, ◌-◌, ◌*◌, ◌/◌, ◌%◌, ◌^◌, ◌≤◌, ◌<◌}
 use native.Mathlib.Numerals.{add-one}
-use native.Mathlib.Nat.{zero-mul, add-zero, add-suc, one-mul, mod-lt, mod-eq_of_lt, div-one, eq-or-lt_of_le, le_of_suc-le-suc, le_step, lt-suc_self, not-suc-le-zero}
+use native.Mathlib.Nat.{zero-mul, add-zero, add-suc, one-mul, eq-or-lt_of_le, le_of_suc-le-suc, le_step, lt-suc_self, not-suc-le-zero}
 use native.Mathlib.Decide.{dec_lt}
 use native.Mathlib.Omega.{arith}
 use borrow.Author.Tests.{eqb-false, eq-eqb, ne_eqb}
-use lib.Bits.{bit_xor, bit_or, xor_zero_r, xor_lt, xor_mod, xor_self}
+use lib.Bits.{bit_xor, bit_or, xor_zero_r, xor_lt, xor_self}
 use lib.Dec.{eqb}
 use lib.ListN.{length, get_or, drop, drop_of_length-le, get_or-eq_default}
 use lib.Seq.{drop-cons, get_or-drop}
-use lib.Pow.{pow_pos, mod-pow-add}
+use lib.Pow.{pow_pos}
 use Rattle.word.specs.Word.{digit, beyond}
 use Rattle.word.specs.Some.{any_of}
 use Rattle.word.specs.Span.{xor_below}
 use Rattle.word.specs.Marked.{xor_marked}
-use Rattle.word.proofs.Laws.{mod2_lt, bit_cases, xor_zero_eq, xor_cancel_right, digit_xor, xor_assoc}
+use Rattle.word.proofs.Laws.{mod2_lt, xor_assoc}
 use Rattle.word.proofs.SomeLaws.{any_of_false}
 use Rattle.word.proofs.BoolLaws.{or_false_left, or_false_right}
 use Rattle.rows.specs.Row.{Cells, cell}
@@ -28,7 +28,7 @@ use Rattle.word.proofs.LowestLaws.{digit_past}
 use Rattle.numbers.specs.Bytes.{word_at}
 use Rattle.rows.proofs.DigitLaws.{word_cell}
 use Rattle.chains.specs.Driven.{chosen, driven, bad_spread}
-use Rattle.word.proofs.WordLaws.{xor_crosswise, xor_double, below_top, within, not_beyond, beyond_or}
+use Rattle.word.proofs.WordLaws.{xor_crosswise, within, not_beyond, beyond_or}
 
 -- ---- a word chosen by a digit
 

@@ -5,12 +5,12 @@ use mathlib.Core.Bool.{Bool, true, false, cond, not, ◌&&◌}
 use mathlib.Core.Logic.{dite}
 use mathlib.Core.List.{List, []}
 use Prim.Native.Nat.{ℕ, zero, suc, ◌+◌, ◌-◌, ◌*◌, ◌/◌, ◌%◌, ◌^◌, ◌≤◌, ◌<◌, min}
-use native.Mathlib.Nat.{add-zero, add-suc, add_assoc}
+use native.Mathlib.Nat.{add-zero, add_assoc}
 use native.Mathlib.Numerals.{add-one}
 use native.Mathlib.Decide.{dec_le, dec_lt}
 use native.Mathlib.Omega.{arith}
 use borrow.Author.Tests.{eqb-true, not-false, lt-ltb}
-use lib.Bits.{bit_xor, xor_zero_r}
+use lib.Bits.{bit_xor}
 use lib.Dec.{eqb, ltb}
 use lib.ListN.{length, length-take, take, drop, get_or, replicate, get_or-replicate, length-replicate, drop_of_length-le, get_or-eq_default}
 use lib.Seq.{get_or-drop, get_or-take}
@@ -20,7 +20,7 @@ use Rattle.word.specs.Some.{any_below}
 use Rattle.word.specs.Doubled.{Doubled}
 use Rattle.word.proofs.Laws.{mod2_lt, xor_assoc}
 use Rattle.word.proofs.SomeLaws.{any_below_false}
-use Rattle.rows.specs.Row.{Cells, cell}
+use Rattle.rows.specs.Row.{cell}
 use Rattle.chains.specs.Driven.{chosen, driven}
 use Rattle.chains.proofs.Laws.{driven_ext, driven_none, driven_xor, driven_unit, chosen_zero, driven_add, driven_stops, driven_words_ext}
 use Rattle.chains.specs.Table.{half_byte, HalfBytes, table_end, looked_byte, looked_up}

@@ -1,7 +1,7 @@
 -- The words of single bits: their XORs are all combinations, and only 0 is even with all of them. Assumes nothing.
 use mathlib.Core.Path.{◌≡◌, refl, sym, ap, ap₂, ◌∙◌, subst}
 use mathlib.Core.Bool.{true, ◌&&◌}
-use mathlib.Core.Logic.{◌⊎◌, ⊎_elim}
+use mathlib.Core.Logic.{⊎_elim}
 use mathlib.Core.List.{List, [], ◌∷◌, ◌++◌}
 use Prim.Native.Nat.{ℕ, zero, suc, ◌+◌, ◌-◌, ◌*◌, ◌/◌, ◌%◌, ◌^◌, ◌<◌, ◌≤◌}
 use native.Mathlib.Nat.{div_self, mul-div_cancel_left, le_dest, lt_of_not-le, div-eq_of_lt-le, not-suc-le-zero, le_of_suc-le-suc, eq-or-lt_of_le, one-mul, le-add_left, zero-add, suc-add, sub-add_cancel}

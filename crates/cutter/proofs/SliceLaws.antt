@@ -11,9 +11,9 @@ use Rattle.word.proofs.TestLaws.{replied_answer}
 use Rattle.numbers.proofs.PartLaws.{take_limit}
 use Rattle.rows.specs.Row.{cell, row_bytes}
 use Rattle.rows.specs.declared.Rows.{Rows}
-use Rattle.register.specs.Circuit.{Circuit, circuit, chains}
+use Rattle.register.specs.Circuit.{Circuit, circuit}
 use Rattle.register.specs.declared.Register.{Register}
-use Rattle.set_layout.specs.Layout.{circuit_of, mark_at, marks}
+use Rattle.set_layout.specs.Layout.{circuit_of, mark_at}
 use Rattle.set_layout.proofs.SliceLaws.{mark_rows_row}
 use Rattle.set_file.specs.Reading.{TakenFrom}
 use Rattle.set_file.specs.declared.Taken.{Taken}

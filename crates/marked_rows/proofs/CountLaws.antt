@@ -4,7 +4,7 @@ use mathlib.Core.Bool.{false, ◌||◌}
 use mathlib.Core.List.{List}
 use Prim.Native.Nat.{ℕ, zero, suc, ◌+◌, ◌*◌, ◌/◌, ◌%◌, ◌^◌, ◌≤◌, ◌<◌}
 use native.Mathlib.Nat.{add-zero, div-one, pow-suc}
-use native.Mathlib.Numerals.{one-add, add-one}
+use native.Mathlib.Numerals.{one-add}
 use native.Mathlib.Omega.{arith}
 use lib.Count.{ones, ones_in, ones_step, ones-le}
 use lib.Dec.{ltb}
@@ -20,7 +20,7 @@ use Rattle.rows.specs.Row.{cell}
 use Rattle.rows.specs.Marks.{total}
 use Rattle.rows.proofs.CellLaws.{cell_lt}
 use Rattle.rows.proofs.DigitLaws.{word_cell}
-use Rattle.rows.proofs.MarkLaws.{total_none, total_suc, total_ext, total_le, total_add, total_front}
+use Rattle.rows.proofs.MarkLaws.{total_none, total_ext, total_le, total_add, total_front}
 
 -- ---- the digits of a number
 

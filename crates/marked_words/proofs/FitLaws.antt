@@ -1,7 +1,7 @@
 -- A row listed as far as there is room: the turn and the ends of the loop over the row's words. Assumes nothing.
-use mathlib.Core.Path.{◌≡◌, refl, sym, ap, ap₂, ◌∙◌}
+use mathlib.Core.Path.{◌≡◌, sym, ap, ap₂, ◌∙◌}
 use mathlib.Core.Logic.{dite}
-use mathlib.Core.List.{List, [], ◌++◌, append-nil}
+use mathlib.Core.List.{List, ◌++◌, append-nil}
 use Prim.Native.Nat.{ℕ, ◌+◌, ◌-◌, ◌*◌, ◌≤◌, ◌<◌, min}
 use native.Mathlib.Decide.{dec_le}
 use native.Mathlib.Omega.{arith}
@@ -15,7 +15,6 @@ use Rattle.rows.specs.Row.{cell}
 use Rattle.rows.specs.Marks.{marked_words, bits}
 use Rattle.marked_words.specs.Back.{back}
 use Rattle.marked_words.specs.Fitting.{FittedIn}
-use Rattle.marked_words.specs.declared.Fitted.{Fitted}
 use Rattle.marked_words.proofs.BackLaws.{back_fits}
 use Rattle.marked_words.proofs.ListLaws.{words_from, words_from_end, words_split, one_word_more, word_length, Listing, listing_known, listing_room, listing_starts, listing_turns}
 

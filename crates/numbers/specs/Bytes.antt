@@ -7,7 +7,7 @@
 --   words_at s i k     the k words of 8 bytes from place i
 --   bytes_of k x       the k low bytes of x, low byte first
 --   word_bytes ws      the words ws, 8 bytes each
-use Rattle.std.specs.Prelude.{List, [], ◌∷◌, ◌++◌, ℕ, zero, suc, ◌+◌, ◌*◌, ◌/◌, ◌%◌, length, take, drop}
+use Rattle.std.specs.Prelude.{List, [], ◌∷◌, ◌++◌, ℕ, zero, suc, ◌+◌, ◌*◌, ◌/◌, ◌%◌, take, drop}
 
 unfoldable pub number : List ℕ → ℕ
 number [] = 0

@@ -9,7 +9,7 @@ use lib.Dec.{ltb}
 use lib.ListN.{length, take, set}
 use Rattle.numbers.specs.Bytes.{word_at}
 use Rattle.numbers.proofs.FileLaws.{word_at_place}
-use Rattle.word.specs.Reply.{Reply, answer, refusal, replied, first_of, number_of, ◌when◌, front, lent}
+use Rattle.word.specs.Reply.{Reply, answer, refusal, replied, first_of, number_of, ◌when◌, front}
 use Rattle.word.proofs.FrontLaws.{front_next, front_whole}
 use Rattle.word.proofs.ReplyLaws.{replied_refusal, Leaves, refusal_leaves, answer_leaves}
 use Rattle.plan_file.specs.Layout.{again_at, plan_length, file_width, file_count, file_words, file_expected}

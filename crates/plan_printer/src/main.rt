@@ -7,7 +7,7 @@ ghost use Rattle.plan_text.specs.PlanText.{longest, printed_text};
 ghost use Rattle.plan_printer.specs.Reading.{count_of};
 
 use std::io;
-use std::io::{Print, Read, Stdin};
+use std::io::{Print, Read, Stderr, Stdin};
 
 // What reading answers: how many bytes there were, or that a read failed.
 #[derive(Drop)]
@@ -72,24 +72,30 @@ fn read_input(stdin: &mut Stdin, bytes: &mut [u8]) -> Input
     Input::Read { count }
 }
 
-fn no_text() -> [u8; 4096] {
+fn no_text() -> [u8; 4096]
+    ensures { length result ≡ 4096 }
+{
     [0u8; 4096]
+}
+
+fn tell_unread(stderr: Stderr) -> io::Result<()> {
+    stderr.write_all(b"plan_printer: reading standard input failed\n")
+}
+
+fn tell_unwritten(stderr: Stderr) -> io::Result<()> {
+    stderr.write_all(b"plan_printer: writing standard output failed\n")
 }
 
 fn main(rt: HostRuntime) -> io::Result<()> {
     let mut bytes = no_bytes();
     let input = read_input(&mut rt.stdin(), &mut bytes);
     let Input::Read { count } = input else {
-        return rt
-            .stderr()
-            .write_all(b"plan_printer: reading standard input failed\n");
+        return tell_unread(rt.stderr());
     };
     let mut out = no_text();
     let end = print_set(&bytes[..count], &mut out);
     if rt.stdout().write_all(&out[..end]).is_err() {
-        return rt
-            .stderr()
-            .write_all(b"plan_printer: writing standard output failed\n");
+        return tell_unwritten(rt.stderr());
     }
     Ok(())
 }

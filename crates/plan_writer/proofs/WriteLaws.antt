@@ -11,10 +11,10 @@ use lib.ListN.{length, set, length-append}
 use lib.Seq.{sets, length-sets}
 use Rattle.word.specs.Word.{bad_width, beyond}
 use Rattle.numbers.specs.Bytes.{bytes_of, word_bytes}
-use Rattle.word.specs.Reply.{Reply, answer, refusal, replied, first_of, front, lent}
+use Rattle.word.specs.Reply.{answer, replied, first_of, front}
 use Rattle.numbers.proofs.ByteLaws.{bytes_of_length, length_word_bytes}
 use Rattle.numbers.proofs.FileLaws.{sets_parts, front_sets}
-use Rattle.word.proofs.ReplyLaws.{replied_refusal, none_applies, Leaves, refused_leaves, answer_leaves}
+use Rattle.word.proofs.ReplyLaws.{none_applies, Leaves, refused_leaves, answer_leaves}
 use Rattle.combinations.specs.Reduced.{is_reduced}
 use Rattle.reduced_list.specs.WordCount.{bad_word_count}
 use Rattle.plan_file.specs.Layout.{plan_length}

@@ -4,20 +4,20 @@ use mathlib.Core.Path.{◌≡◌, refl, sym, ap, ap₂, ◌∙◌}
 use mathlib.Core.Logic.{dite}
 use mathlib.Core.List.{List, []}
 use Prim.Native.Nat.{ℕ, zero, suc, ◌+◌, ◌-◌, ◌*◌, ◌/◌, ◌%◌, ◌^◌, ◌≤◌, ◌<◌, min}
-use native.Mathlib.Nat.{add-zero, add-suc, pow-suc, mod-one, mod-lt, mod-eq_of_lt, one-mul, zero-mul, div-one}
+use native.Mathlib.Nat.{add-zero, add-suc, pow-suc, mod-one, mod-lt, mod-eq_of_lt, one-mul, zero-mul}
 use native.Mathlib.Numerals.{add-one, one-add}
 use native.Mathlib.Decide.{ℕ_discrete}
 use native.Mathlib.Omega.{arith}
 use lib.Bits.{bit_xor, xor_comm, xor_shifted, xor_zero_r}
 use lib.ListN.{length, take, drop, get_or, set, length-set, length-drop}
-use lib.Pow.{pow_pos, pow-lt, mod-pow-add, shr-shr}
+use lib.Pow.{pow_pos, pow-lt, mod-pow-add}
 use lib.Seq.{get_or-set_same, get_or-set_other, get_or-take, get_or-drop, length-take-le}
 use Rattle.word.specs.Word.{digit}
 use Rattle.word.proofs.Laws.{mod2_lt}
 use Rattle.register.specs.Circuit.{Circuit, circuit, advanced}
 use Rattle.chains.specs.Driven.{chosen, driven}
 use Rattle.register.proofs.Laws.{advanced_xor, advanced_zero}
-use Rattle.chains.proofs.Laws.{times_chosen, driven_none, driven_suc}
+use Rattle.chains.proofs.Laws.{driven_none, driven_suc}
 use Rattle.signatures.specs.Later.{later}
 use Rattle.rows.specs.Marks.{bits}
 use Rattle.powers.specs.Powers.{from_powers}

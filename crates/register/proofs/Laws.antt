@@ -1,26 +1,21 @@
 -- The laws of the clock that the crates above cite: two clocks of one register differ as a clock without inversion of what they differ
 -- in, a tap word with bit 0 loses no state, a state stays within the width. Assumes nothing.
-use mathlib.Core.Path.{◌≡◌, refl, sym, ap, ap₂, ◌∙◌}
-use mathlib.Core.Bool.{Bool, false, cond, ◌||◌}
-use mathlib.Core.Logic.{⊎_elim, dite}
-use mathlib.Core.List.{List, []}
+use mathlib.Core.Path.{◌≡◌, sym, ap, ap₂, ◌∙◌}
+use mathlib.Core.Bool.{false}
+use mathlib.Core.Logic.{⊎_elim}
 use Prim.Native.Nat.{ℕ, zero, suc, ◌+◌, ◌-◌, ◌*◌, ◌/◌, ◌%◌, ◌^◌, ◌≤◌, ◌<◌}
 use native.Mathlib.Numerals.{add-one}
-use native.Mathlib.Nat.{mod-lt, mod-eq_of_lt, div-one, eq-or-lt_of_le, le_of_suc-le-suc, le_step, lt-suc_self, not-suc-le-zero}
-use native.Mathlib.Decide.{dec_lt}
+use native.Mathlib.Nat.{mod-lt, mod-eq_of_lt, div-one, not-suc-le-zero}
 use native.Mathlib.Omega.{arith}
-use borrow.Author.Tests.{eqb-false, eq-eqb, ne_eqb}
+use borrow.Author.Tests.{eqb-false}
 use lib.Bits.{bit_xor, xor_zero_r, xor_lt, xor_mod, xor_self}
 use lib.Dec.{eqb}
-use lib.ListN.{length, get_or, drop, drop_of_length-le, get_or-eq_default}
-use lib.Seq.{drop-cons}
+use lib.ListN.{get_or}
 use lib.Pow.{pow_pos, mod-pow-add}
 use Rattle.word.specs.Word.{digit, beyond}
-use Rattle.word.specs.Some.{any_of}
 use Rattle.word.proofs.Laws.{mod2_lt, bit_cases, xor_zero_eq, xor_cancel_right, digit_xor}
-use Rattle.word.proofs.SomeLaws.{any_of_false}
 use Rattle.word.proofs.BoolLaws.{or_false_left, or_false_right}
-use Rattle.rows.specs.Row.{Cells, cell}
+use Rattle.rows.specs.Row.{Cells}
 use Rattle.chains.specs.Driven.{chosen, driven}
 use Rattle.chains.proofs.Laws.{chosen_xor, chosen_lt, driven_ext, driven_zero, driven_lt, driven_xor}
 use Rattle.register.specs.Circuit.{Circuit, uninverted, chains, advanced, clocked, bad_taps, bad_inversion}

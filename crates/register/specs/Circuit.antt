@@ -13,10 +13,9 @@
 --   bad_inversion m v  document 02, 25: the inversion word has a bit at or above m
 --   bad_chains n       document 01, 4: the chain count isn't 1 to 256
 --   too_many_slices s   document 01, 7: the slice count is above 512
-use Rattle.std.specs.Prelude.{Bool, ◌||◌, List, ℕ, zero, suc, ◌-◌, ◌*◌, ◌%◌, ◌^◌, eqb, ltb, length, get_or}
+use Rattle.std.specs.Prelude.{Bool, ◌||◌, List, ℕ, ◌-◌, ◌*◌, ◌%◌, ◌^◌, eqb, ltb, length}
 use Rattle.std.specs.Int.Bits.{bit_xor}
 use Rattle.word.specs.Word.{digit, beyond}
-use Rattle.word.specs.Some.{any_of}
 use Rattle.rows.specs.Row.{Cells}
 use Rattle.chains.specs.Driven.{chosen, driven}
 

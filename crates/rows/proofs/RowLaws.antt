@@ -11,7 +11,7 @@ use native.Mathlib.Omega.{arith}
 use borrow.Author.Tests.{eq-eqb, eqb-true, eqb-false, not-false}
 use lib.Bits.{bit_and, bit_or, and_step, and_shr, and_le_r}
 use lib.Dec.{eqb}
-use lib.ListN.{length, get_or, drop, length-take, length-drop, get_or-eq_default}
+use lib.ListN.{length, get_or, drop, length-take, length-drop}
 use lib.Pow.{shr_le}
 use Rattle.word.specs.Word.{digit}
 use Rattle.word.specs.Some.{any_below}

@@ -12,7 +12,6 @@ use lib.Seq.{take_at}
 use Rattle.word.specs.Reply.{Reply, answer, refusal, first_of, number_of, front, lent}
 use Rattle.word.proofs.ReplyLaws.{refused_leaves, answered_writes}
 use Rattle.word.proofs.TestLaws.{replied_not_zero}
-use Rattle.register.specs.Circuit.{circuit}
 use Rattle.register.specs.declared.Register.{Register}
 use Rattle.set_layout.specs.Layout.{width_of, taps_of, inversion_of, chains_of, spread_of, slices_of, no_words}
 use Rattle.set_layout.proofs.LayoutLaws.{spread_length}

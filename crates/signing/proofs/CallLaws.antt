@@ -1,5 +1,5 @@
 -- Each way out of signing a record, and what it answers. Assumes nothing.
-use mathlib.Core.Path.{◌≡◌, refl, sym, ap, ap₂, ◌∙◌}
+use mathlib.Core.Path.{◌≡◌, sym, ap, ap₂, ◌∙◌}
 use mathlib.Core.Bool.{Bool, true, false, not}
 use mathlib.Core.List.{List, [], ◌∷◌}
 use Prim.Native.Nat.{ℕ, ◌*◌}
@@ -7,16 +7,16 @@ use native.Mathlib.Omega.{arith}
 use borrow.Author.Tests.{eq-eqb, ne_eqb}
 use lib.Dec.{eqb}
 use lib.ListN.{length}
-use Rattle.word.specs.Reply.{◌when◌, Reply, answer, refusal, replied, first_of}
+use Rattle.word.specs.Reply.{◌when◌, answer, refusal, first_of}
 use Rattle.word.proofs.ReplyLaws.{replied_answered, refused_reply}
 use Rattle.word.proofs.TestLaws.{first_of_later, first_sooner}
 use Rattle.rows.specs.Row.{row_bytes}
 use Rattle.rows.specs.Lists.{list_row, spare_in}
 use Rattle.register.specs.Circuit.{Circuit}
 use Rattle.set_layout.specs.Layout.{circuit_of, chains_of, slices_of}
-use Rattle.set_file.specs.Reading.{set_tests, set_reply, taken_circuit, TakenFrom}
+use Rattle.set_file.specs.Reading.{set_tests, taken_circuit, TakenFrom}
 use Rattle.set_file.specs.declared.Taken.{Taken}
-use Rattle.set_file.proofs.Laws.{set_numbered, set_refusal_first}
+use Rattle.set_file.proofs.Laws.{set_numbered}
 use Rattle.signatures.specs.Signature.{signature}
 use Rattle.signatures.specs.Sets.{record_cells}
 use Rattle.signing.specs.Signing.{sign_tests, sign_reply}

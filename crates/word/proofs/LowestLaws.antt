@@ -6,7 +6,7 @@ use native.Mathlib.Numerals.{add-one, one-add}
 use native.Mathlib.Omega.{arith}
 use lib.Bits.{bit_and, and_block, and_self, and_mask}
 use lib.Count.{count_trailing_zeros, under}
-use lib.Pow.{pow_pos, pow_mono, pow-lt, shr_le, shr-shr, shl-shr, split, low, field, mod-pow-add, mod-mod-pow}
+use lib.Pow.{pow_pos, pow_mono, pow-lt, shr-shr, shl-shr, split, low, field, mod-pow-add, mod-mod-pow}
 use Rattle.word.specs.Word.{digit}
 
 -- ---- a number's digits

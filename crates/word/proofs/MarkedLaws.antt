@@ -1,10 +1,10 @@
 -- The XOR of the words that the bits of a word mark: the start, the turn and the end of the loop over its bits that are 1. Assumes
 -- nothing.
 use mathlib.Core.Path.{◌≡◌, refl, sym, ap, subst, ◌∙◌}
-use mathlib.Core.Bool.{Bool, true, false, cond}
+use mathlib.Core.Bool.{cond}
 use mathlib.Core.Logic.{dite}
 use mathlib.Core.List.{List}
-use Prim.Native.Nat.{ℕ, zero, suc, ◌+◌, ◌-◌, ◌*◌, ◌/◌, ◌%◌, ◌^◌, ◌≤◌, ◌<◌, min}
+use Prim.Native.Nat.{ℕ, ◌-◌, ◌*◌, ◌%◌, ◌^◌, ◌≤◌, ◌<◌, min}
 use native.Mathlib.Nat.{zero-mul, one-mul, mod-lt, lt_of_lt_of_le}
 use native.Mathlib.Decide.{dec_lt, ℕ_discrete}
 use native.Mathlib.Omega.{arith}
@@ -18,7 +18,7 @@ use Rattle.word.specs.Span.{xor_below}
 use Rattle.word.specs.Marked.{xor_marked}
 use Rattle.word.proofs.Laws.{xor_assoc}
 use Rattle.word.proofs.XorLaws.{xor_below_ext, xor_below_zero, xor_below_one, xor_below_xor}
-use Rattle.word.proofs.LowestLaws.{digit_mod, digit_past, Lowest, trailing_lowest, below_lowest, above_lowest, lowest_gone}
+use Rattle.word.proofs.LowestLaws.{digit_mod, digit_past, Lowest, below_lowest, above_lowest, lowest_gone}
 
 module _ (ws : List ℕ) where
   -- no mark, no word

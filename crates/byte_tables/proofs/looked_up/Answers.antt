@@ -1,4 +1,3 @@
-use Prim.Native.Nat.{◌-◌}
 use Rattle.byte_tables.proofs.TableLaws.{looked_start, rest_start, looked_turn, rest_turn, looked_end}
 use borrow.Author.Rules.{rules}
 use Rattle.byte_tables.proofs.looked_up.Goals as goal

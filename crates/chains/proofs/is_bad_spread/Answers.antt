@@ -1,6 +1,5 @@
 use mathlib.Core.Path.{ap, ◌∙◌}
 use mathlib.Core.Bool.{Bool, ◌||◌}
-use Prim.Native.Nat.{◌-◌}
 use borrow.Author.Rules.{rules}
 use Rattle.chains.proofs.Laws.{folded_starts, folded_turns, folded_ends}
 use Rattle.chains.proofs.is_bad_spread.Goals as goal

@@ -1,4 +1,4 @@
-use Prim.Native.Nat.{◌<◌, ◌-◌}
+use Prim.Native.Nat.{◌<◌}
 use native.Mathlib.Omega.{arith}
 use Rattle.closed_words.proofs.ClosedLaws.{highest_below, even_none, even_put}
 use borrow.Author.Rules.{rules}

@@ -1,6 +1,6 @@
 use mathlib.Core.Path.{refl}
 use mathlib.Core.Bool.{false}
-use Prim.Native.Nat.{◌-◌, min}
+use Prim.Native.Nat.{min}
 use Rattle.word.proofs.BoolLaws.{true_not_false}
 use Rattle.closed_words.proofs.ClosedLaws.{closing_start, closing_turn, closing_end}
 use borrow.Author.Rules.{rules}

@@ -1,5 +1,4 @@
 use mathlib.Core.Path.{sym, ◌∙◌}
-use Prim.Native.Nat.{◌-◌}
 use Rattle.column_basis.proofs.LoopLaws.{taking_start, taking_turn, taking_empty, taking_end}
 use Rattle.column_basis.proofs.take_columns.Goals as goal
 

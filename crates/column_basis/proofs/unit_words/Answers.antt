@@ -1,4 +1,3 @@
-use Prim.Native.Nat.{◌-◌}
 use Rattle.column_basis.proofs.LoopLaws.{no_words_long, units_start, units_turn, units_end}
 use borrow.Author.Rules.{rules}
 use Rattle.column_basis.proofs.unit_words.Goals as goal

@@ -1,4 +1,3 @@
-use Prim.Native.Nat.{◌-◌}
 use native.Mathlib.Omega.{arith}
 use borrow.Author.Rules.{rules}
 use Rattle.column_step.proofs.PivotLaws.{dropping_start, dropping_turn, dropping_end}

@@ -1,4 +1,3 @@
-use Prim.Native.Nat.{◌-◌}
 use borrow.Author.Rules.{rules}
 use Rattle.column_step.proofs.PivotLaws.{passed_start, passed_even, passed_odd, passed_all}
 use Rattle.column_step.proofs.first_odd.Goals as goal

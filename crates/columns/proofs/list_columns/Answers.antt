@@ -19,9 +19,12 @@ returns-then-count-ne0 c =
 pub returns-then-columns-symbols : goal.returns-then-columns-symbols
 returns-then-columns-symbols c =
     let taken = taken_set _ _ _ _ _ _ (c.read_set-read.ensures.answer, (c.read_set-read.ensures.spread, c.read_set-read.ensures.start)) c.in-Read.is in
-    record { result_value = (bare_short _ _ taken _ c.mark_rows-marks.ensures _ c.tie_count-count.ensures c.if-count-ne0.false _ c.count_marks-symbols.ensures
-    c.args.columns.now c.if-columns-symbols.true).0; columns_after = (bare_short _ _ taken _ c.mark_rows-marks.ensures _ c.tie_count-count.ensures c.if-count-ne0.false _ c.count_marks-symbols.ensures
-    c.args.columns.now c.if-columns-symbols.true).1 }
+    record {
+      result_value = (bare_short _ _ taken _ c.mark_rows-marks.ensures _ c.tie_count-count.ensures c.if-count-ne0.false _ c.count_marks-symbols.ensures
+          c.args.columns.now c.if-columns-symbols.true).0;
+      columns_after = (bare_short _ _ taken _ c.mark_rows-marks.ensures _ c.tie_count-count.ensures c.if-count-ne0.false _ c.count_marks-symbols.ensures
+          c.args.columns.now c.if-columns-symbols.true).1;
+    }
 
 pub slice_bounds-fill_columns-end-2 : goal.slice_bounds-fill_columns-end-2
 slice_bounds-fill_columns-end-2 c = sym (length-take-le _ _ (search rules))
@@ -30,6 +33,9 @@ pub returns : goal.returns
 returns c =
     let taken = taken_set _ _ _ _ _ _ (c.read_set-read.ensures.answer, (c.read_set-read.ensures.spread, c.read_set-read.ensures.start)) c.in-Read.is in
     let count = c.count_marks-symbols in
-    record { result_value = (bare_listed _ _ taken _ c.mark_rows-marks.ensures _ c.tie_count-count.ensures c.if-count-ne0.false _ count.ensures c.args.columns.now _
-    c.if-columns-symbols.false c.fill_columns.ensures).0; columns_after = (bare_listed _ _ taken _ c.mark_rows-marks.ensures _ c.tie_count-count.ensures c.if-count-ne0.false _ count.ensures c.args.columns.now _
-    c.if-columns-symbols.false c.fill_columns.ensures).1 }
+    record {
+      result_value = (bare_listed _ _ taken _ c.mark_rows-marks.ensures _ c.tie_count-count.ensures c.if-count-ne0.false _ count.ensures c.args.columns.now _
+          c.if-columns-symbols.false c.fill_columns.ensures).0;
+      columns_after = (bare_listed _ _ taken _ c.mark_rows-marks.ensures _ c.tie_count-count.ensures c.if-count-ne0.false _ count.ensures c.args.columns.now _
+          c.if-columns-symbols.false c.fill_columns.ensures).1;
+    }

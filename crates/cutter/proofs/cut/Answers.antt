@@ -102,6 +102,9 @@ pub shape_of-cuts : goal.shape_of-cuts
 shape_of-cuts c = c.write_front.auto.words
 
 pub returns : goal.returns
-returns c = record { answer = (ends_runs _ c.args.cuts.now _ _ _ (passed (goal.at.returns c).After-cut_slices-slices) _ c.in-Cut.is _ _ _ c.if-cuts-runs.false (wide (goal.at.returns c).After-cut_slices-slices) refl
-    c.write_front.ensures).0; cuts = (ends_runs _ c.args.cuts.now _ _ _ (passed (goal.at.returns c).After-cut_slices-slices) _ c.in-Cut.is _ _ _ c.if-cuts-runs.false (wide (goal.at.returns c).After-cut_slices-slices) refl
-    c.write_front.ensures).1 }
+returns c = record {
+  answer = (ends_runs _ c.args.cuts.now _ _ _ (passed (goal.at.returns c).After-cut_slices-slices) _ c.in-Cut.is _ _ _ c.if-cuts-runs.false (wide (goal.at.returns c).After-cut_slices-slices) refl
+      c.write_front.ensures).0;
+  cuts = (ends_runs _ c.args.cuts.now _ _ _ (passed (goal.at.returns c).After-cut_slices-slices) _ c.in-Cut.is _ _ _ c.if-cuts-runs.false (wide (goal.at.returns c).After-cut_slices-slices) refl
+      c.write_front.ensures).1;
+}

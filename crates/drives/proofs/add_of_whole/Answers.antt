@@ -1,5 +1,4 @@
 use mathlib.Core.Path.{refl}
-use Prim.Native.Nat.{◌-◌}
 use native.Mathlib.Omega.{arith}
 use borrow.Author.Rules.{rules}
 use Rattle.drives.proofs.DriveLaws.{added_starts, added_turns, added_ends, bytes_inside, next_place, first_place, looked_of_whole}

@@ -2,7 +2,7 @@
 -- spread words after the whole eights of as many clocks.
 use mathlib.Core.List.{[]}
 use mathlib.Core.Path.{◌≡◌}
-use Prim.Native.Nat.{◌-◌, ◌≤◌, min}
+use Prim.Native.Nat.{◌≤◌, min}
 use lib.ListN.{length, take}
 use Rattle.rows.specs.Lists.{cells_of}
 use Rattle.register.specs.Circuit.{circuit}

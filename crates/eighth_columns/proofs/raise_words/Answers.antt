@@ -1,6 +1,5 @@
 use mathlib.Core.Path.{refl, ap, ◌∙◌}
 use mathlib.Core.List.{map}
-use Prim.Native.Nat.{◌-◌}
 use native.Mathlib.Omega.{arith}
 use Rattle.powers.proofs.AdvanceLaws.{through_none, through_all, through_stores}
 use borrow.Author.Rules.{rules}

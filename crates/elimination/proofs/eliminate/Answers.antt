@@ -69,8 +69,11 @@ returns c =
     let reduced = c.reduce-q.ensures.1 in
     let so_far = kept (goal.at.returns c).After-held-2-1 in
     let written = c.write_front.ensures in
-    record { answer = (ends_done _ _ c.args.words.now _ _ _ so_far some_word (search rules)
-    (kept_words _ _ _ _ _ so_far units same_long reduced)
-    written).0; list = (ends_done _ _ c.args.words.now _ _ _ so_far some_word (search rules)
-    (kept_words _ _ _ _ _ so_far units same_long reduced)
-    written).1 }
+    record {
+      answer = (ends_done _ _ c.args.words.now _ _ _ so_far some_word (search rules)
+          (kept_words _ _ _ _ _ so_far units same_long reduced)
+          written).0;
+      list = (ends_done _ _ c.args.words.now _ _ _ so_far some_word (search rules)
+          (kept_words _ _ _ _ _ so_far units same_long reduced)
+          written).1;
+    }

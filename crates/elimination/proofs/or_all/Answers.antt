@@ -1,4 +1,3 @@
-use Prim.Native.Nat.{◌-◌}
 use Rattle.elimination.proofs.LoopLaws.{or_start, or_turn, or_end}
 use borrow.Author.Rules.{rules}
 use Rattle.elimination.proofs.or_all.Goals as goal

@@ -1,7 +1,7 @@
 use mathlib.Core.Path.{sym}
 use lib.Seq.{length-take-le}
 use mathlib.Core.List.{◌++◌}
-use Prim.Native.Nat.{◌+◌, ◌-◌}
+use Prim.Native.Nat.{◌+◌}
 use lib.ListN.{drop}
 use Rattle.elimination.proofs.LoopLaws.{Reduced, reduced_start, reduced_turn, reduced_on, reduced_empty, reduced_end}
 use borrow.Author.Rules.{rules}

@@ -1,4 +1,3 @@
-use Prim.Native.Nat.{◌-◌}
 use Rattle.word.proofs.FrontLaws.{written_start, written_turn, written_end, written_full}
 use borrow.Author.Rules.{rules}
 use Rattle.elimination.proofs.write_front.Goals as goal

@@ -1,4 +1,3 @@
-use Prim.Native.Nat.{◌-◌}
 use native.Mathlib.Omega.{arith}
 use Rattle.joint_marks.specs.Joint.{without}
 use Rattle.joint_marks.proofs.JointLaws.{adding_start, adding_turn, adding_end}

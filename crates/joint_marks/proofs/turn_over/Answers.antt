@@ -1,6 +1,5 @@
 use mathlib.Core.Path.{refl}
 use native.Mathlib.Omega.{arith}
-use Prim.Native.Nat.{◌-◌}
 use Rattle.joint_marks.proofs.JointLaws.{adding_start, adding_turn}
 use borrow.Author.Rules.{rules}
 use Rattle.joint_marks.proofs.turn_over.Goals as goal

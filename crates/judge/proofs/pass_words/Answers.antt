@@ -1,7 +1,6 @@
 use mathlib.Core.Path.{ap}
 use mathlib.Core.Bool.{not}
 use native.Mathlib.Omega.{arith}
-use Prim.Native.Nat.{◌-◌}
 use Rattle.word.proofs.Laws.{parity_lt}
 use Rattle.plan_file.proofs.WordPlaces.{next_there}
 use Rattle.judge.proofs.CallLaws.{cancelled_start, bits_room, cancelled_turn, pass_stops, pass_ends}

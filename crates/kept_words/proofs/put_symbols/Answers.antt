@@ -23,11 +23,17 @@ pub overflow_add-end : goal.overflow_add-end
 overflow_add-end c = omega (arith, few (goal.at.overflow_add-end c).After-count_flags-symbols)
 
 pub returns-then-working-end : goal.returns-then-working-end
-returns-then-working-end c = record { few = few (goal.at.returns-then-working-end c).After-count_flags-symbols; symbols = (λ taken.
+returns-then-working-end c = record {
+  few = few (goal.at.returns-then-working-end c).After-count_flags-symbols;
+  symbols = (λ taken.
       put_short _ _ taken c.args.working.now _ c.tie_count-entries.ensures _ _ _ _ c.tie_bytes-ties.ensures c.tie_limit-limit.ensures (search rules)
-      c.opening_flags-flags.ensures.flags c.count_flags-symbols.ensures c.if-working-end.true) }
+      c.opening_flags-flags.ensures.flags c.count_flags-symbols.ensures c.if-working-end.true);
+}
 
 pub returns : goal.returns
-returns c = record { few = few (goal.at.returns c).After-count_flags-symbols; symbols = (λ taken.
+returns c = record {
+  few = few (goal.at.returns c).After-count_flags-symbols;
+  symbols = (λ taken.
       put_part _ _ taken c.args.working.now _ c.tie_count-entries.ensures _ _ _ _ c.tie_bytes-ties.ensures c.tie_limit-limit.ensures (search rules)
-      c.opening_flags-flags.ensures.flags c.count_flags-symbols.ensures _ c.if-working-end.false c.fill_symbols.ensures) }
+      c.opening_flags-flags.ensures.flags c.count_flags-symbols.ensures _ c.if-working-end.false c.fill_symbols.ensures);
+}

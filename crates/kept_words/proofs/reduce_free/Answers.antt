@@ -9,18 +9,24 @@ use Rattle.kept_words.proofs.reduce_free.Goals as goal
 pub returns-then-count-eq0 : goal.returns-then-count-eq0
 returns-then-count-eq0 c =
     let reduced = c.reduce_cells in
-    record { left = reduced.ensures.left; words = (λ taken room start.
+    record {
+      left = reduced.ensures.left;
+      words = (λ taken room start.
           let words = bare_words _ _ taken _ c.unknown_rows-marks.ensures _ c.tie_count-count.ensures c.if-count-eq0.true in
           let both = reduced.ensures.words room (start ∙ ap units (sym (own_width _ _ taken))) in
-          (both.0 ∙ ap length words, both.1 ∙ words)) }
+          (both.0 ∙ ap length words, both.1 ∙ words));
+    }
 
 pub returns : goal.returns
 returns c =
     let reduced = c.reduce_cells-2 in
-    record { left = reduced.ensures.left; words = (λ taken room start.
+    record {
+      left = reduced.ensures.left;
+      words = (λ taken room start.
           let words =
           copied_words _ _ taken _ c.unknown_rows-marks.ensures _ _ _ _ c.list_rows.ensures c.tie_count-count.ensures c.tie_bytes-ties.ensures
           c.unmark-free.ensures
           in
           let both = reduced.ensures.words room (start ∙ ap units (sym (own_width _ _ taken))) in
-          (both.0 ∙ ap length words, both.1 ∙ words)) }
+          (both.0 ∙ ap length words, both.1 ∙ words));
+    }

@@ -23,6 +23,9 @@ returns c =
     let args = c.args in
     let reduced = c.reduce_free-free in
     let added = c.add_columns in
-    record { left = omega (arith, fewer_words _ _ _ added.ensures.count, length-take reduced.result reduced.new.held, reduced.ensures.left); words = (λ taken room behind start.
+    record {
+      left = omega (arith, fewer_words _ _ _ added.ensures.count, length-take reduced.result reduced.new.held, reduced.ensures.left);
+      words = (λ taken room behind start.
           let free = reduced.ensures.words taken (omega (arith, length-take-le 64 args.working.now room)) start in
-          symbols_reduced _ (whole _ _ taken) args.working.now reduced.new.working reduced.new.held _ reduced.result _ room behind reduced.auto.working free.1 added.ensures.count added.ensures.list) }
+          symbols_reduced _ (whole _ _ taken) args.working.now reduced.new.working reduced.new.held _ reduced.result _ room behind reduced.auto.working free.1 added.ensures.count added.ensures.list);
+    }

@@ -1,5 +1,4 @@
 -- `last_of_any` meets its contract: what is sought is among the rows that are left.
-use Prim.Native.Nat.{◌-◌}
 use Rattle.marked_rows.proofs.LastLaws.{Seeking}
 use Rattle.marked_rows.proofs.last_of_any.Given as goal
 

@@ -1,5 +1,5 @@
 -- `list_256` meets its contract. The loop's invariant: the words of the chains from 64 times `i` on stand at the list's end.
-use Prim.Native.Nat.{◌-◌, ◌*◌, ◌≤◌}
+use Prim.Native.Nat.{◌*◌, ◌≤◌}
 use lib.ListN.{length}
 use Rattle.marked_words.proofs.ListLaws.{Listing}
 use Rattle.marked_words.proofs.list_256.Given as goal

@@ -1,5 +1,5 @@
 -- `list_fitting` meets its contract. The loop's invariant: the words of the chains from 64 times `i` on stand at the list's end.
-use Prim.Native.Nat.{◌+◌, ◌-◌, ◌*◌, ◌≤◌, ◌<◌}
+use Prim.Native.Nat.{◌+◌, ◌*◌, ◌≤◌, ◌<◌}
 use lib.ListN.{length}
 use Rattle.marked_words.proofs.FitLaws.{Fitting}
 use Rattle.marked_words.proofs.list_fitting.Given as goal

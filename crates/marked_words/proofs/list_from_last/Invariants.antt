@@ -1,6 +1,6 @@
 -- `list_from_last` meets its contract. The loop's invariant: written over the end of the first `place` places, the words of the bits in
 -- `left` make the list.
-use Prim.Native.Nat.{◌-◌, ◌^◌, ◌≤◌, ◌<◌}
+use Prim.Native.Nat.{◌^◌, ◌≤◌, ◌<◌}
 use lib.ListN.{length}
 use Rattle.marked_words.proofs.ListLaws.{Taking}
 use Rattle.marked_words.proofs.list_from_last.Given as goal

@@ -1,5 +1,4 @@
 use mathlib.Core.Path.{refl}
-use Prim.Native.Nat.{◌-◌}
 use native.Mathlib.Omega.{arith}
 use Rattle.marked_words.proofs.WholeLaws.{copying_long, copying_starts, copying_turns, copying_ends}
 use Rattle.marked_words.proofs.list_whole.Goals as goal

@@ -1,6 +1,5 @@
 use mathlib.Core.Path.{refl}
 use mathlib.Core.Bool.{false}
-use Prim.Native.Nat.{◌-◌}
 use native.Mathlib.Omega.{arith}
 use Rattle.word.proofs.BoolLaws.{true_not_false}
 use Rattle.parity_table.proofs.SkipLaws.{all_even_turn, all_even_end}

@@ -1,4 +1,3 @@
-use Prim.Native.Nat.{◌-◌}
 use Rattle.parity_table.proofs.SkipLaws.{evened_start, evened_turn, evened_stop, evened_end}
 use borrow.Author.Rules.{rules}
 use Rattle.parity_table.proofs.is_even.Goals as goal

@@ -1,4 +1,3 @@
-use Prim.Native.Nat.{◌-◌}
 use native.Mathlib.Omega.{arith}
 use Rattle.parity_table.proofs.SkipLaws.{skipped_start, skipped_said, skipped_block}
 use Rattle.parity_table.proofs.skip_blocks.Goals as goal

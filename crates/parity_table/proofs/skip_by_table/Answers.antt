@@ -1,5 +1,4 @@
 use mathlib.Core.Path.{sym, ◌∙◌}
-use Prim.Native.Nat.{◌-◌}
 use borrow.Author.Tests.{eq-eqb, ne_eqb}
 use Rattle.parity_table.proofs.SkipLaws.{skipped_start, skipped_turn, skipped_stop, skipped_all}
 use borrow.Author.Rules.{rules}

@@ -1,5 +1,4 @@
 use mathlib.Core.Path.{sym, ◌∙◌}
-use Prim.Native.Nat.{◌-◌}
 use Rattle.parity_table.proofs.SkipLaws.{said_skipped, skipped_turn, skipped_stop, skipped_all}
 use borrow.Author.Rules.{rules}
 use Rattle.parity_table.proofs.skip_plainly.Goals as goal

@@ -1,5 +1,4 @@
 use mathlib.Core.Path.{sym}
-use Prim.Native.Nat.{◌-◌}
 use native.Mathlib.Omega.{arith}
 use Rattle.word.proofs.FrontLaws.{front_nothing}
 use Rattle.plan_file.proofs.CallLaws.{copy_turn, copy_end}

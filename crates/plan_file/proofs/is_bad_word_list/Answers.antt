@@ -1,6 +1,5 @@
 use mathlib.Core.Bool.{not}
 use mathlib.Core.Path.{ap, ◌∙◌}
-use Prim.Native.Nat.{◌-◌}
 use native.Mathlib.Omega.{arith}
 use Rattle.plan_file.proofs.WordPlaces.{plan_passed_start, next_there, plan_passed_turn, plan_passed_stop, plan_passed_end, own_words}
 use borrow.Author.Rules.{rules}

@@ -1,4 +1,3 @@
-use Prim.Native.Nat.{◌-◌}
 use Rattle.plan_lines.proofs.PieceLaws.{lining_start, lining_turn, lining_end}
 use borrow.Author.Rules.{rules}
 use Rattle.plan_lines.proofs.put_word_lines.Goals as goal

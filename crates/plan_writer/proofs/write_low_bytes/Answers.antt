@@ -1,4 +1,3 @@
-use Prim.Native.Nat.{◌-◌}
 use native.Mathlib.Omega.{arith}
 use Rattle.plan_writer.proofs.WriteLaws.{bytes_start, bytes_turn, bytes_end}
 use borrow.Author.Rules.{rules}

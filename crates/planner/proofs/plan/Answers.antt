@@ -2,7 +2,7 @@
 use mathlib.Core.Path.{sym}
 use lib.Seq.{length-take-le}
 use Rattle.expectation.proofs.CallLaws.{expected_taken}
-use Rattle.planner.proofs.CallLaws.{WordsEnd, Ends, ends_refused, worded_set, worded_words, worded_few, ends_planned}
+use Rattle.planner.proofs.CallLaws.{WordsEnd, ends_refused, worded_set, worded_words, worded_few, ends_planned}
 use Rattle.planner.proofs.plan.Goals as goal
 use Rattle.planner.proofs.plan.Goals.{After-make_words-made, In-Words}
 

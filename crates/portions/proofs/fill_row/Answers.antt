@@ -20,14 +20,17 @@ returns c =
     let fitted = c.list_fitting-fitted in
     let made = c.put_later in
     let slices = c.slice_limit-slices.ensures in
-    record { fits = record {
+    record {
+      fits = record {
         chains = fitted.ensures.chains;
         place = fitted.ensures.place;
         kept = changed_kept args.columns.now fitted.new.columns made.new.words _ _ fitted.ensures.long fitted.ensures.place fitted.ensures.kept refl;
         some = fitted.ensures.some;
-      }; row = (λ spread ws few first ready.
+      };
+      row = (λ spread ws few first ready.
           columns_at _ _ _ _ _ _ _ _ slices
-          (row_before _ _ _ _ ws args.words.now args.t c.requires (ready_at _ _ _ _ _ _ slices ready) few first args.columns.now fitted.new.columns made.new.words _ c.row_of-row.result.now _ _ (ap cell c.row_of-row.ensures) fitted.ensures c.later_slices-clocks.ensures made.ensures refl)) }
+          (row_before _ _ _ _ ws args.words.now args.t c.requires (ready_at _ _ _ _ _ _ slices ready) few first args.columns.now fitted.new.columns made.new.words _ c.row_of-row.result.now _ _ (ap cell c.row_of-row.ensures) fitted.ensures c.later_slices-clocks.ensures made.ensures refl));
+    }
 
 pub slice_bounds-put_later-count : goal.slice_bounds-put_later-count
 slice_bounds-put_later-count c = early (goal.at.slice_bounds-put_later-count c).After-list_fitting-fitted

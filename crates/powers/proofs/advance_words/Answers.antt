@@ -1,5 +1,4 @@
 use mathlib.Core.Path.{refl, ◌∙◌}
-use Prim.Native.Nat.{◌-◌}
 use native.Mathlib.Omega.{arith}
 use Rattle.powers.proofs.AdvanceLaws.{through_none, through_all, through_stores}
 use borrow.Author.Rules.{rules}

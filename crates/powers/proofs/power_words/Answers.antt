@@ -1,7 +1,5 @@
 use mathlib.Core.Path.{refl, ◌∙◌}
-use Prim.Native.Nat.{◌-◌}
 use native.Mathlib.Omega.{arith}
-use Rattle.powers.specs.Powers.{from_powers}
 use Rattle.powers.proofs.AdvanceLaws.{through_none, through_all, through_stores}
 use borrow.Author.Rules.{rules}
 use Rattle.powers.proofs.power_words.Goals as goal

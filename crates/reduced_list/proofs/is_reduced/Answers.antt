@@ -1,6 +1,5 @@
 use mathlib.Core.Path.{refl, sym, ap, ◌∙◌}
 use mathlib.Core.Bool.{not}
-use Prim.Native.Nat.{◌-◌}
 use Rattle.reduced_list.proofs.TopLaws.{tops_exactly, passed_start, passed_turn, passed_stop, passed_end}
 use borrow.Author.Rules.{rules}
 use Rattle.reduced_list.proofs.is_reduced.Goals as goal

@@ -5,8 +5,6 @@ use Rattle.rows.proofs.RowLaws.{spare_rows_end}
 use Rattle.word.proofs.RangeLaws.{none_passed, one_passed, one_found, all_passed}
 use Rattle.rows.specs.Row.{row_bytes}
 use native.Mathlib.Omega.{arith}
-use Prim.Native.Nat.{◌-◌}
-use mathlib.Core.Bool.{false}
 use mathlib.Core.Path.{sym, ◌∙◌}
 use Rattle.rows.proofs.finds_spare_row.Goals as goal
 

@@ -1,4 +1,3 @@
-use Prim.Native.Nat.{◌-◌}
 use lib.Bits.{bit_or}
 use borrow.Author.Rules.{rules}
 use Rattle.rows.proofs.PairLaws.{pairs_start, pairs_turn, pairs_end}

@@ -1,7 +1,6 @@
 -- `row_of` meets its contract: the row's place stays within the word.
 use native.Mathlib.Omega.{arith}
 use Rattle.rows.proofs.CellLaws.{place_small}
-use Rattle.rows.proofs.row_of.Lts as lts
 use Rattle.rows.proofs.row_of.Goals as goal
 
 pub overflow_mul-stride : goal.overflow_mul-stride

@@ -1,6 +1,5 @@
 use Rattle.rows.proofs.RowLaws.{shared_start, shared_turn, shared_end}
 use borrow.Author.Rules.{rules}
-use Prim.Native.Nat.{◌-◌}
 use Rattle.rows.proofs.share_a_bit.Goals as goal
 
 pub loop-i-init : goal.loop-i-init

@@ -11,8 +11,11 @@ take_columns-requires c =
 pub returns : goal.returns
 returns c =
     let took = c.take_columns in
-    record { order = took.ensures.order; list = (λ width.
+    record {
+      order = took.ensures.order;
+      list = (λ width.
           took.ensures.list _
           (singles_held _ _ _ width
           (c.write_front.ensures ∙ singles_over _ c.args.basis.now c.unit_words-bits.ensures c.requires)
-          c.dead_behind.ensures)) }
+          c.dead_behind.ensures));
+    }

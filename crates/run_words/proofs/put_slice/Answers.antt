@@ -15,6 +15,10 @@ pub returns : goal.returns
 returns c =
     let alone = c.open_run-alone in
     let took = c.take_columns-joined in
-    record { one = search rules; order = alone.ensures.order; turn = (λ width h held.
-            put_opened _ _ _ _ _ _ _ _ _ _ _ h took.ensures.list held c.held_count-left.ensures c.if-k-left.false (alone.ensures.list width)
-            c.held_count.ensures) }
+    record {
+      one = search rules;
+      order = alone.ensures.order;
+      turn = (λ width h held.
+          put_opened _ _ _ _ _ _ _ _ _ _ _ h took.ensures.list held c.held_count-left.ensures c.if-k-left.false (alone.ensures.list width)
+          c.held_count.ensures);
+    }

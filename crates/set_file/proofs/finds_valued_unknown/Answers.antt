@@ -2,7 +2,6 @@ use borrow.Author.Rules.{rules}
 use Rattle.set_file.proofs.CodeLaws.{unshared_start, unshared_turn, valued_short, valued_found, valued_none}
 use Rattle.rows.specs.Row.{row_bytes}
 use native.Mathlib.Omega.{arith}
-use Prim.Native.Nat.{◌-◌}
 use Rattle.set_layout.specs.Layout.{chains_of}
 use mathlib.Core.Path.{◌≡◌, ap, ◌∙◌}
 use Rattle.set_file.proofs.finds_valued_unknown.Goals as goal
@@ -32,12 +31,11 @@ returns-then-share_a_bit c =
     c.slice_count-s.ensures c.loop-t-test.true c.share_a_bit.ensures c.if-share_a_bit.true
 
 pub loop-t-preserved : goal.loop-t-preserved
-loop-t-preserved c =
-    (
-      search rules,
-      unshared_turn _ _ _ _ c.loop-t.invariant.1 (bytes_of (goal.at.loop-t-preserved c).After-rows_at-at) _ c.if-set-end.false
-          c.share_a_bit.ensures c.if-share_a_bit.false,
-    )
+loop-t-preserved c = (
+  search rules,
+  unshared_turn _ _ _ _ c.loop-t.invariant.1 (bytes_of (goal.at.loop-t-preserved c).After-rows_at-at) _ c.if-set-end.false
+      c.share_a_bit.ensures c.if-share_a_bit.false,
+)
 
 pub returns : goal.returns
 returns c =

@@ -1,7 +1,6 @@
 use borrow.Author.Rules.{rules}
 use Rattle.set_layout.proofs.LayoutLaws.{no_words_length, spread_start, spread_turn, spread_end, spread_full}
 use lib.ListN.{length}
-use Prim.Native.Nat.{◌-◌}
 use mathlib.Core.Path.{ap, ◌∙◌}
 use Rattle.set_layout.proofs.spread_words_there.Goals as goal
 

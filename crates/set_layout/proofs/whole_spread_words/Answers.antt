@@ -2,7 +2,6 @@ use borrow.Author.Rules.{rules}
 use Rattle.set_layout.proofs.LayoutLaws.{no_words_length, spread_start, spread_turn, spread_end}
 use lib.ListN.{length}
 use native.Mathlib.Omega.{arith}
-use Prim.Native.Nat.{◌-◌}
 use mathlib.Core.Path.{ap, ◌∙◌}
 use Rattle.set_layout.proofs.whole_spread_words.Goals as goal
 

@@ -1,5 +1,5 @@
 use mathlib.Core.Path.{◌≡◌, refl, ap, ◌∙◌}
-use mathlib.Core.Logic.{◌⊎◌, inl, inr, ⊎_elim}
+use mathlib.Core.Logic.{inl, inr, ⊎_elim}
 use Prim.Native.Nat.{◌+◌, ◌*◌, ◌≤◌, ◌<◌}
 use native.Mathlib.Omega.{arith}
 use lib.ListN.{length, take, drop}
@@ -46,11 +46,15 @@ returns-then-odd-working c =
     let at = c.loop-t in
     let filled = c.fill_portion-portion in
     let added = c.add_columns-left in
-    record { left = omega (arith, fewer_words _ at.held _ added.ensures.count, ap length at.invariant.2); less = (λ some. ⊎_elim (λ a. omega (arith, less (goal.at.returns-then-odd-working c).After-fill_portion-portion, a.0, a.1)) (λ a. omega (arith, less (goal.at.returns-then-odd-working c).After-fill_portion-portion, a)) at.invariant.3); words = (λ spread m before.
-            let so_far = at.invariant.4 spread m before in
-            reduced_portion _ _ _ _ _ _ _ _ _ _ _ _ _ so_far (filled.ensures.portion spread so_far.few so_far.ready)
-            (front_words filled.new.columns at.held _ _ _ added.ensures.count added.ensures.list
-            ∙ ap (steps (drop c.skip_by_table-odd.result filled.new.columns)) at.invariant.2 ∙ passed (goal.at.returns-then-odd-working c).After-skip_by_table-odd)) }
+    record {
+      left = omega (arith, fewer_words _ at.held _ added.ensures.count, ap length at.invariant.2);
+      less = (λ some. ⊎_elim (λ a. omega (arith, less (goal.at.returns-then-odd-working c).After-fill_portion-portion, a.0, a.1)) (λ a. omega (arith, less (goal.at.returns-then-odd-working c).After-fill_portion-portion, a)) at.invariant.3);
+      words = (λ spread m before.
+          let so_far = at.invariant.4 spread m before in
+          reduced_portion _ _ _ _ _ _ _ _ _ _ _ _ _ so_far (filled.ensures.portion spread so_far.few so_far.ready)
+          (front_words filled.new.columns at.held _ _ _ added.ensures.count added.ensures.list
+          ∙ ap (steps (drop c.skip_by_table-odd.result filled.new.columns)) at.invariant.2 ∙ passed (goal.at.returns-then-odd-working c).After-skip_by_table-odd));
+    }
 
 pub loop-t-smaller : goal.loop-t-smaller
 loop-t-smaller c = less (goal.at.loop-t-smaller c).After-fill_portion-portion
@@ -82,6 +86,10 @@ shape_of-held c = ap length c.loop-t.invariant.2
 pub returns : goal.returns
 returns c =
     let at = c.loop-t in
-    record { left = omega arith; less = (λ some. ⊎_elim (λ a. let no : ⊥ = omega (arith, a.0) in absurd no) (λ a. a) at.invariant.3); words = (λ spread m before.
-            let so_far = at.invariant.4 spread m before in
-            reduced_alike _ _ _ _ _ _ _ _ _ _ _ refl (ap (take (length c.args.held.now)) at.invariant.2 ∙ take-length c.args.held.now) so_far) }
+    record {
+      left = omega arith;
+      less = (λ some. ⊎_elim (λ a. let no : ⊥ = omega (arith, a.0) in absurd no) (λ a. a) at.invariant.3);
+      words = (λ spread m before.
+          let so_far = at.invariant.4 spread m before in
+          reduced_alike _ _ _ _ _ _ _ _ _ _ _ refl (ap (take (length c.args.held.now)) at.invariant.2 ∙ take-length c.args.held.now) so_far);
+    }

@@ -20,9 +20,13 @@ returns c =
     let args = c.args in
     let filled = c.fill_portion-portion in
     let added = c.add_columns-left in
-    record { left = fewer_words _ args.held.now _ added.ensures.count; less = (λ some. filled.ensures.less c.requires.0 c.requires.1 some); words = (λ spread m so_far.
-            reduced_portion _ _ _ _ _ _ _ _ _ _ _ _ _ so_far (filled.ensures.portion spread so_far.few so_far.ready)
-            (front_words filled.new.columns args.held.now _ _ _ added.ensures.count added.ensures.list)) }
+    record {
+      left = fewer_words _ args.held.now _ added.ensures.count;
+      less = (λ some. filled.ensures.less c.requires.0 c.requires.1 some);
+      words = (λ spread m so_far.
+          reduced_portion _ _ _ _ _ _ _ _ _ _ _ _ _ so_far (filled.ensures.portion spread so_far.few so_far.ready)
+          (front_words filled.new.columns args.held.now _ _ _ added.ensures.count added.ensures.list));
+    }
 
 pub overflow_sub-count : goal.overflow_sub-count
 overflow_sub-count c = inside (goal.at.overflow_sub-count c).After-fill_portion-portion

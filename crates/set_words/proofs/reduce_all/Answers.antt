@@ -20,9 +20,12 @@ pub returns-then-is_done : goal.returns-then-is_done
 returns-then-is_done c =
     let at = c.loop-t in
     let few : length at.words ≤ 256 = omega (arith, c.requires.1, at.invariant.3) in
-    record { left = omega (arith, at.invariant.0, at.invariant.1); words = (λ spread m start.
+    record {
+      left = omega (arith, at.invariant.0, at.invariant.1);
+      words = (λ spread m start.
           done_settled _ _ _ _ _ _ _ _ at.held _ (λ i j n hj hn hm. c.is_done.ensures c.if-is_done.true few i j n _ spread hj hn hm) at.invariant.0
-          (at.invariant.4 spread m start)) }
+          (at.invariant.4 spread m start));
+    }
 
 pub slice_bounds-add_next-end-in-loop-t : goal.slice_bounds-add_next-end-in-loop-t
 slice_bounds-add_next-end-in-loop-t c = sym (length-take-le _ _ c.loop-t.invariant.0)

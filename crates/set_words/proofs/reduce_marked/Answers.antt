@@ -50,10 +50,13 @@ returns-then-needs_sweep c =
     let table = c.eight_on-table in
     let wide : 8 ≤ min taken.register.m 64 = omega (arith, c.if-register-lt-EIGHT_BITS.false) in
     let reduced = c.reduce_all-then-needs_sweep in
-    record { left = reduced.ensures.left; words = (λ start.
+    record {
+      left = reduced.ensures.left;
+      words = (λ start.
           reduced.ensures.words _ _
           (starts_eights _ _ _ _ _ _ _ (omega arith) (few_words (goal.at.returns-then-needs_sweep c).After-all_words-words) (omega arith) (own_words (goal.at.returns-then-needs_sweep c).After-all_words-words) start (search rules) wide
-          (eight_on_same _ _ taken.register.inversion (take taken.n taken.spread) table.result (table.ensures wide)))) }
+          (eight_on_same _ _ taken.register.inversion (take taken.n taken.spread) table.result (table.ensures wide))));
+    }
 
 pub slice_bounds-reduce_all-end-3 : goal.slice_bounds-reduce_all-end-3
 slice_bounds-reduce_all-end-3 c = sym (length-take-le _ _ (search rules))
@@ -66,8 +69,11 @@ unfolding taken_words
 returns c =
     let taken = c.args.taken in
     let reduced = c.reduce_all-2 in
-    record { left = reduced.ensures.left; words = (λ start.
+    record {
+      left = reduced.ensures.left;
+      words = (λ start.
           reduced.ensures.words _ _
           (starts_sparse _ _ _ _ _ _ _ (omega arith) (few_words (goal.at.returns c).After-all_words-words) (omega arith) (own_words (goal.at.returns c).After-all_words-words) start (search rules)
           (λ i l. c.powers-powers.ensures i l l ∙ later_same _ _ taken.register.inversion (take taken.n taken.spread) i 1)
-          (or_false_right (not (ones_pay _ taken.n taken.s)) _ (sym c.needs_sweep.ensures ∙ c.if-needs_sweep.false)))) }
+          (or_false_right (not (ones_pay _ taken.n taken.s)) _ (sym c.needs_sweep.ensures ∙ c.if-needs_sweep.false))));
+    }

@@ -4,7 +4,7 @@ use Rattle.numbers.specs.Joined.{joined}
 use Rattle.set_writer.specs.Writing.{slice_bytes}
 use lib.Seq.{sets}
 use native.Mathlib.Omega.{arith}
-use Prim.Native.Nat.{ℕ, ◌+◌, ◌≤◌, ◌-◌}
+use Prim.Native.Nat.{ℕ, ◌+◌, ◌≤◌}
 use lib.ListN.{length}
 use mathlib.Core.Path.{ap, ◌∙◌}
 use Rattle.set_writer.proofs.write_any_slices.Goals as goal
@@ -51,14 +51,13 @@ overflow_add-to-in-loop-t c =
     omega (arith, c.row_bytes-bytes.ensures, c.loop-t.invariant.3.place, small (goal.at.overflow_add-to-in-loop-t c).In-loop-t)
 
 pub loop-t-preserved : goal.loop-t-preserved
-loop-t-preserved c =
-    (
-      search rules,
-      c.loop-t.invariant.1,
-      c.loop-t.invariant.2,
-      turned_turn _ _ _ _ _ _ _ _ _ _ _ _ c.loop-t.invariant.3 (inside (goal.at.loop-t-preserved c).In-loop-t).0 (inside (goal.at.loop-t-preserved c).In-loop-t).1 c.write_bytes.ensures
-          c.write_bytes-in-loop-t.ensures,
-    )
+loop-t-preserved c = (
+  search rules,
+  c.loop-t.invariant.1,
+  c.loop-t.invariant.2,
+  turned_turn _ _ _ _ _ _ _ _ _ _ _ _ c.loop-t.invariant.3 (inside (goal.at.loop-t-preserved c).In-loop-t).0 (inside (goal.at.loop-t-preserved c).In-loop-t).1 c.write_bytes.ensures
+      c.write_bytes-in-loop-t.ensures,
+)
 
 pub shape_of-out : goal.shape_of-out
 shape_of-out c = c.loop-t.invariant.3.long

@@ -1,5 +1,4 @@
 use native.Mathlib.Omega.{arith}
-use Prim.Native.Nat.{◌-◌}
 use Rattle.set_writer.proofs.WriteLaws.{wide_start, wide_room, wide_turn, wide_end}
 use borrow.Author.Rules.{rules}
 use Rattle.set_writer.proofs.write_wide_slices.Goals as goal

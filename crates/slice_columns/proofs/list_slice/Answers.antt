@@ -24,6 +24,10 @@ returns c =
     let args = c.args in
     let list = c.list_row-place in
     let unclocked = c.unclock_words in
-    record { place = list.ensures.value; list = end_changed _ _ args.columns.now list.new.columns _ list.result (length list.new.columns) list.ensures.value list.ensures.columns_after refl unclocked.ensures; frame = (λ v spread fits e.
-            slice_listed (circuit (min args.register.m 64) args.register.taps v spread) args.t args.words.now args.row.now args.columns.now list.new.columns _ list.result fits list.ensures.value list.ensures.columns_after (length list.new.columns) refl e
-            (unclocked.ensures ∙ earlier_words_same _ _ v spread _ (take (length list.new.columns - list.result) (drop list.result list.new.columns)))) }
+    record {
+      place = list.ensures.value;
+      list = end_changed _ _ args.columns.now list.new.columns _ list.result (length list.new.columns) list.ensures.value list.ensures.columns_after refl unclocked.ensures;
+      frame = (λ v spread fits e.
+          slice_listed (circuit (min args.register.m 64) args.register.taps v spread) args.t args.words.now args.row.now args.columns.now list.new.columns _ list.result fits list.ensures.value list.ensures.columns_after (length list.new.columns) refl e
+          (unclocked.ensures ∙ earlier_words_same _ _ v spread _ (take (length list.new.columns - list.result) (drop list.result list.new.columns))));
+    }

@@ -1,4 +1,3 @@
-use Prim.Native.Nat.{◌-◌}
 use native.Mathlib.Omega.{arith}
 use borrow.Author.Rules.{rules}
 use Rattle.slice_signing.proofs.RunLaws.{running_starts, running_turns, running_ends, row_looked}

@@ -1,7 +1,7 @@
 -- `fill_sparse` meets its contract. The loop's invariant: the columns of the slices from `t` on stand at the list's end, for every tap
 -- word whose powers the table has.
 use mathlib.Core.Path.{◌≡◌}
-use Prim.Native.Nat.{ℕ, ◌-◌, ◌≤◌}
+use Prim.Native.Nat.{ℕ, ◌≤◌}
 use lib.ListN.{length, take}
 use Rattle.rows.specs.Lists.{cells_of}
 use Rattle.register.specs.Circuit.{circuit}

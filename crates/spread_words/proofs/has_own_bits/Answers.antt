@@ -1,5 +1,4 @@
 use mathlib.Core.Path.{refl}
-use Prim.Native.Nat.{◌-◌}
 use Rattle.word.proofs.BoolLaws.{true_not_false}
 use Rattle.spread_words.proofs.TurnLaws.{tested_start, tested_turn, tested_all}
 use borrow.Author.Rules.{rules}

@@ -1,4 +1,3 @@
-use Prim.Native.Nat.{◌-◌}
 use Rattle.spread_words.proofs.SpreadLaws.{keeping_start, keeping_turn, keeping_end, keeping_full}
 use Rattle.spread_words.proofs.keep_alive.Goals as goal
 

@@ -1,4 +1,3 @@
-use Prim.Native.Nat.{◌-◌}
 use Rattle.spread_words.proofs.TurnLaws.{turned_start, turned_turn, turned_end}
 use borrow.Author.Rules.{rules}
 use Rattle.spread_words.proofs.turn_in.Goals as goal

@@ -1,5 +1,3 @@
-use mathlib.Core.Bool.{false}
-use Prim.Native.Nat.{◌-◌}
 use native.Mathlib.Omega.{arith}
 use borrow.Author.Rules.{rules}
 use Rattle.word.proofs.RangeLaws.{none_passed, one_passed, one_found, all_passed}

@@ -6,7 +6,7 @@ use lib.Seq.{length-take-le}
 use Rattle.ties.specs.Ties.{ties_in}
 use Rattle.set_file.specs.Reading.{taken_circuit}
 use Rattle.signatures.specs.Symbols.{side_columns}
-use Rattle.symbol_columns.proofs.SymbolLaws.{not_on, opposites_none}
+use Rattle.symbol_columns.proofs.SymbolLaws.{opposites_none}
 use Rattle.symbol_columns.proofs.FillLaws.{taken_powered, taken_within}
 use Rattle.symbol_columns.proofs.side_columns.Goals as goal
 

@@ -1,4 +1,3 @@
-use Prim.Native.Nat.{◌-◌}
 use native.Mathlib.Omega.{arith}
 use borrow.Author.Rules.{rules}
 use Rattle.symbol_flags.proofs.FlagLaws.{counted_starts, counted_turns, counted_ends}

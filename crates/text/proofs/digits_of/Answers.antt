@@ -1,8 +1,5 @@
 use Rattle.text.proofs.Laws.{digiting_start, digiting_turn, digiting_end}
 use borrow.Author.Rules.{rules}
-use Rattle.text.proofs.digits_of.Reads as reads
-use Rattle.text.proofs.digits_of.Lts as lts
-use Rattle.text.proofs.no_digits.Reads as no-digits-reads
 use Rattle.text.proofs.digits_of.Goals as goal
 
 pub loop-left-init : goal.loop-left-init

@@ -1,4 +1,3 @@
-use Prim.Native.Nat.{◌-◌}
 use Rattle.text.proofs.Laws.{put_past, put_start, put_turn, put_end}
 use borrow.Author.Rules.{rules}
 use Rattle.text.proofs.put.Goals as goal

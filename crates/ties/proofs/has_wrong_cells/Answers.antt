@@ -1,8 +1,6 @@
 use borrow.Author.Rules.{rules}
 use Rattle.word.proofs.RangeLaws.{none_passed, one_passed, one_found, all_passed}
 use Rattle.ties.specs.Ties.{wrong_cells}
-use Prim.Native.Nat.{◌-◌}
-use mathlib.Core.Bool.{false}
 use mathlib.Core.Path.{sym, ◌∙◌}
 use Rattle.ties.proofs.has_wrong_cells.Goals as goal
 

@@ -2,8 +2,7 @@ use borrow.Author.Rules.{rules}
 use Rattle.word.proofs.RangeLaws.{none_passed, one_passed, one_found, all_passed}
 use Rattle.ties.specs.Ties.{wrong_order}
 use native.Mathlib.Omega.{arith}
-use Prim.Native.Nat.{◌-◌}
-use mathlib.Core.Bool.{false, not}
+use mathlib.Core.Bool.{not}
 use mathlib.Core.Path.{refl, sym, ap, ◌∙◌}
 use Rattle.ties.proofs.has_wrong_order.Goals as goal
 

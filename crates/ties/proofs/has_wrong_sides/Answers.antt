@@ -2,8 +2,6 @@ use borrow.Author.Rules.{rules}
 use Rattle.word.proofs.RangeLaws.{none_passed, one_passed, one_found, all_passed}
 use Rattle.ties.specs.Ties.{wrong_sides}
 use Rattle.ties.proofs.EntryLaws.{side_above, side_within}
-use Prim.Native.Nat.{◌-◌}
-use mathlib.Core.Bool.{false}
 use Rattle.ties.proofs.has_wrong_sides.Goals as goal
 
 pub returns-then-tie_side-gt1 : goal.returns-then-tie_side-gt1

@@ -1,4 +1,3 @@
-use Prim.Native.Nat.{◌-◌}
 use native.Mathlib.Omega.{arith}
 use Rattle.turned_words.proofs.TurnedLaws.{turning_start, turning_turn, turning_end}
 use Rattle.turned_words.proofs.turn.Goals as goal

@@ -1,4 +1,3 @@
-use Prim.Native.Nat.{◌-◌}
 use native.Mathlib.Omega.{arith}
 use Rattle.unclocking.proofs.UnclockLaws.{bytes_start, bytes_turn, bytes_end}
 use borrow.Author.Rules.{rules}

@@ -1,4 +1,3 @@
-use Prim.Native.Nat.{◌-◌}
 use Rattle.word.proofs.FrontLaws.{written_start, cleared_turn, cleared_end}
 use borrow.Author.Rules.{rules}
 use Rattle.word.proofs.clear_words.Goals as goal

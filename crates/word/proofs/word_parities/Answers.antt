@@ -1,10 +1,6 @@
 use native.Mathlib.Omega.{arith}
 use borrow.Author.Rules.{rules}
 use Rattle.word.proofs.ParityLaws.{paritied_start, paritied_small, paritied_turn, paritied_end, parity_below}
-use Rattle.word.proofs.word_parities.Reads as reads
-use Rattle.word.proofs.word_parities.Lts as lts
-use Rattle.word.proofs.at_most_64.Reads as at-most-64-reads
-use Rattle.word.proofs.shared_parity.Reads as shared-parity-reads
 use Rattle.word.proofs.word_parities.Goals as goal
 
 pub loop-i-init : goal.loop-i-init

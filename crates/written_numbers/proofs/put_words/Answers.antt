@@ -1,4 +1,3 @@
-use Prim.Native.Nat.{◌-◌}
 use native.Mathlib.Omega.{arith}
 use Rattle.written_numbers.proofs.WritingLaws.{writing_start, words_turn, words_end}
 use borrow.Author.Rules.{rules}

@@ -2,7 +2,6 @@ use borrow.Author.Rules.{rules}
 use Rattle.written_numbers.proofs.BytesLaws.{bytes_start, bytes_turn, bytes_end}
 use Rattle.numbers.proofs.ByteLaws.{sets_past_end}
 use native.Mathlib.Omega.{arith}
-use Prim.Native.Nat.{◌-◌}
 use mathlib.Core.Path.{sym}
 use Rattle.written_numbers.proofs.write_bytes.Goals as goal
 

@@ -1,6 +1,5 @@
 use borrow.Author.Rules.{rules}
 use Rattle.written_numbers.proofs.WritingLaws.{writing_start, writing_past, words_turn, words_end}
-use Prim.Native.Nat.{◌-◌}
 use Rattle.written_numbers.proofs.write_words_to_end.Goals as goal
 
 pub loop-c-init : goal.loop-c-init
