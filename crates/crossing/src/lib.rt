@@ -4,19 +4,19 @@
 #![tactic(auto)]
 
 ghost use Rattle.std.specs.Prelude.{◌≡◌};
-ghost use Rattle.elimination.specs.Elimination.{said as saidEliminated};
-ghost use Rattle.register.specs.Clock.{said as saidClocked};
-ghost use Rattle.set_file.specs.Reading.{said as saidSet};
+ghost use Rattle.elimination.specs.Elimination.{said as said_eliminated};
+ghost use Rattle.register.specs.Clock.{said as said_clocked};
+ghost use Rattle.set_file.specs.Reading.{said as said_set};
 ghost use Rattle.slice_rows.specs.Rows.{said_place};
 ghost use Rattle.set_writer.specs.Writing.{said_set_written};
 ghost use Rattle.signing.specs.Signing.{said_signed};
 ghost use Rattle.columns.specs.Listing.{said_listed};
-ghost use Rattle.plan_file.specs.Reading.{said as saidRead};
-ghost use Rattle.plan_writer.specs.Writing.{said as saidPlanWritten};
+ghost use Rattle.plan_file.specs.Reading.{said as said_read};
+ghost use Rattle.plan_writer.specs.Writing.{said as said_plan_written};
 ghost use Rattle.expectation.specs.Expecting.{said_expected};
 ghost use Rattle.cutter.specs.Cutting.{said_cut};
-ghost use Rattle.planner.specs.Planning.{said_worded, said as saidPlanned};
-ghost use Rattle.judge.specs.Verdict.{said as saidJudged};
+ghost use Rattle.planner.specs.Planning.{said_worded, said as said_planned};
+ghost use Rattle.judge.specs.Verdict.{said as said_judged};
 ghost use Rattle.crossing.specs.Boundary.{set_of, stretch_of, written_of, clocked_of, signed_of, listed_of, eliminated_of, worded_of, expected_to, planned_of, read_of, cutting_of, judged_of};
 
 use columns::Listed;
@@ -130,7 +130,7 @@ pub struct CJudged {
 
 // The set reader's answer, with the 256 spread words beside it.
 pub fn set_of(read: SetRead) -> CSet
-    ensures { result ≡ set_of (saidSet read.answer) read.spread }
+    ensures { result ≡ set_of (said_set read.answer) read.spread }
 {
     let answer = read.answer;
     let spread = read.spread;
@@ -192,7 +192,7 @@ pub fn set_written_of(written: set_writer::Written) -> CWritten
 
 // The clock's answer: the successor's state, or in a refusal the state that was handed in.
 pub fn clocked_of(clocked: Clocked, state: u64) -> CClocked
-    ensures { result ≡ clocked_of (saidClocked clocked) state }
+    ensures { result ≡ clocked_of (said_clocked clocked) state }
 {
     let answer = clocked.answer;
     let next = clocked.register;
@@ -242,7 +242,7 @@ pub fn listed_of(listed: Listed) -> CListed
 
 // The rank and q.
 pub fn eliminated_of(eliminated: Eliminated) -> CEliminated
-    ensures { result ≡ eliminated_of (saidEliminated eliminated) }
+    ensures { result ≡ eliminated_of (said_eliminated eliminated) }
 {
     match eliminated {
         Eliminated::Done { rank, q } => CEliminated {
@@ -290,7 +290,7 @@ pub fn expected_of(expected: Expected) -> CExpected
 
 // Planning's answer.
 pub fn planned_of(planned: Planned) -> CPlanned
-    ensures { result ≡ planned_of (saidPlanned planned) }
+    ensures { result ≡ planned_of (said_planned planned) }
 {
     match planned {
         Planned::Plan { m, q, expected } => CPlanned {
@@ -310,7 +310,7 @@ pub fn planned_of(planned: Planned) -> CPlanned
 
 // The plan writer's answer.
 pub fn plan_written_of(written: plan_writer::Written) -> CWritten
-    ensures { result ≡ written_of (saidPlanWritten written) }
+    ensures { result ≡ written_of (said_plan_written written) }
 {
     match written {
         plan_writer::Written::Done { length } => CWritten {
@@ -326,7 +326,7 @@ pub fn plan_written_of(written: plan_writer::Written) -> CWritten
 
 // The plan reader's answer, in the same struct as planning's.
 pub fn read_of(read: PlanAnswer) -> CPlanned
-    ensures { result ≡ read_of (saidRead read) }
+    ensures { result ≡ read_of (said_read read) }
 {
     match read {
         PlanAnswer::Read { m, q, expected } => planned_of(Planned::Plan { m, q, expected }),
@@ -354,7 +354,7 @@ pub fn cutting_of(cutting: Cutting) -> CCutting
 
 // The cancelled bits and the verdict.
 pub fn judged_of(judged: Judged) -> CJudged
-    ensures { result ≡ judged_of (saidJudged judged) }
+    ensures { result ≡ judged_of (said_judged judged) }
 {
     match judged {
         Judged::Passes { cancelled } => CJudged {

@@ -11,11 +11,11 @@ use Rattle.word.proofs.TestLaws.{replied_answer}
 use Rattle.signing.specs.Signing.{sign_reply, said_signed}
 use Rattle.signing.specs.declared.Signed.{Signed}
 use Rattle.kept_words.specs.Working.{words_of}
-use Rattle.planner.specs.Planning.{expected_of, working_left, PlanParts, parts_of, plan_reply, said as saidPlanned}
+use Rattle.planner.specs.Planning.{expected_of, working_left, PlanParts, parts_of, plan_reply, said as said_planned}
 use Rattle.planner.specs.declared.Planned.{Planned}
 use Rattle.planner.proofs.CallLaws.{Ends, words_front}
 use Rattle.plan_file.specs.Layout.{plan_length}
-use Rattle.plan_writer.specs.Writing.{plan_content, word_count, plan_bytes, plan_write_tests, plan_write_reply, said as saidWritten}
+use Rattle.plan_writer.specs.Writing.{plan_content, word_count, plan_bytes, plan_write_tests, plan_write_reply, said as said_written}
 use Rattle.plan_writer.specs.declared.Written.{Written}
 use Rattle.plan_writer.proofs.WriteLaws.{length_plan_bytes}
 use Rattle.judge.specs.Verdict.{Finding, verdict, judge_reply}
@@ -38,11 +38,11 @@ Made set cs ws file a cs' ws' file' =
 
 module _ (set cs ws cs' ws' : List ℕ) (p : Planned) (ends : Ends set cs ws p cs' ws') where
   -- planning refused
-  pub made_unplanned : (file : List ℕ) (n k : ℕ) → p ≡ Planned.Refused n → k ≡ number_of (saidPlanned p) → Made set cs ws file (refusal k) cs' ws' file
+  pub made_unplanned : (file : List ℕ) (n k : ℕ) → p ≡ Planned.Refused n → k ≡ number_of (said_planned p) → Made set cs ws file (refusal k) cs' ws' file
   unfolding made_reply file_after
   made_unplanned file n k e h =
-      let refused : plan_reply set (length cs) (length ws) ≡ refusal n = sym ends.0 ∙ ap saidPlanned e in
-      let number : k ≡ n = h ∙ ap (λ (x : Planned). number_of (saidPlanned x)) e in
+      let refused : plan_reply set (length cs) (length ws) ≡ refusal n = sym ends.0 ∙ ap said_planned e in
+      let number : k ≡ n = h ∙ ap (λ (x : Planned). number_of (said_planned x)) e in
       let made : made_reply set (length cs) (length ws) (length file) ≡ refusal n = rw refused in
       (ap refusal number ∙ sym made, (ends.1.0, (ends.1.1, sym (ap (λ (x : Reply ℕ). lent x (plan_of set) file) made))))
 
@@ -52,7 +52,7 @@ module _ (set cs ws cs' ws' : List ℕ) (p : Planned) (ends : Ends set cs ws p c
     parts = record { m = m; q = q; expected = e }
 
     planned : plan_reply set (length cs) (length ws) ≡ answer parts
-    planned = sym ends.0 ∙ ap saidPlanned h
+    planned = sym ends.0 ∙ ap said_planned h
 
     -- the words stand at the front
     pub planned_words : (q ≤ length ws') × (take q ws' ≡ words_of set)
@@ -125,21 +125,21 @@ made_length set k l room n h =
     (replied_answer (first_of (plan_write_tests written room)) (plan_length (word_count written)) n step.2).1
     ∙ sym (length_plan_bytes (plan_content (parts_of set).m (words_of set) (parts_of set).expected))
 
-module _ (set cs ws file cs' ws' file' : List ℕ) (w : Written) (made : Made set cs ws file (saidWritten w) cs' ws' file') where
+module _ (set cs ws file cs' ws' file' : List ℕ) (w : Written) (made : Made set cs ws file (said_written w) cs' ws' file') where
   -- what a record r gets: a
   abbrev pub Got : List ℕ → Reply Finding → Type 0
   Got r a = a ≡ record_reply set r (length cs) (length ws) (length file)
 
   -- no plan was made
-  pub got_refused : (r : List ℕ) (n k : ℕ) → w ≡ Written.Refused n → k ≡ number_of (saidWritten w) → Got r (refusal k)
+  pub got_refused : (r : List ℕ) (n k : ℕ) → w ≡ Written.Refused n → k ≡ number_of (said_written w) → Got r (refusal k)
   unfolding record_reply
   got_refused r n k e h =
-      ap refusal (h ∙ ap (λ (x : Written). number_of (saidWritten x)) e)
-      ∙ sym (ap (λ (x : Reply ℕ). after x (λ n. signed_reply set r (plan_of set))) (sym made.0 ∙ ap saidWritten e))
+      ap refusal (h ∙ ap (λ (x : Written). number_of (said_written x)) e)
+      ∙ sym (ap (λ (x : Reply ℕ). after x (λ n. signed_reply set r (plan_of set))) (sym made.0 ∙ ap said_written e))
 
   module _ (n : ℕ) (e : w ≡ Written.Done n) where
     answered : made_reply set (length cs) (length ws) (length file) ≡ answer n
-    answered = sym made.0 ∙ ap saidWritten e
+    answered = sym made.0 ∙ ap said_written e
 
     -- the plan file stands at the front
     pub made_file : (n ≤ length file') × (take n file' ≡ plan_of set)

@@ -6,7 +6,7 @@ ghost use Rattle.word.specs.Reply.{answer, number_of, lent};
 ghost use Rattle.signing.specs.Signing.{sign_reply, said_signed};
 ghost use Rattle.kept_words.specs.Working.{words_of};
 ghost use Rattle.planner.specs.Planning.{working_left, plan_reply};
-ghost use Rattle.plan_writer.specs.Writing.{said as saidWritten};
+ghost use Rattle.plan_writer.specs.Writing.{said as said_written};
 ghost use Rattle.judge.specs.Verdict.{said};
 ghost use Rattle.guarantee.specs.Demand.{AlikeObeying};
 ghost use Rattle.guarantee.specs.AtWork.{made_reply, file_after, signed_reply, record_reply};
@@ -25,7 +25,7 @@ pub struct Pair {
 
 // The number of a refusal of the plan writer; 0 of an answer.
 fn writing_number(written: Written) -> u64
-    ensures { result ≡ number_of (saidWritten written) }
+    ensures { result ≡ number_of (said_written written) }
 {
     match written {
         Written::Done { length: _ } => 0,
@@ -46,7 +46,7 @@ fn signing_number(signed: Signed) -> u64
 // Makes the plan of a set: planning, then the plan writer. Answers with the length of the plan file and writes it over the front
 // of `file`; planning writes to `working` and `words`. Meets planning's numbers, then the writer's.
 fn make_plan(set: &[u8], working: &mut [u64], words: &mut [u64], file: &mut [u8]) -> Written
-    ensures answer { saidWritten result ≡ made_reply set.now (length working.old) (length words.old) (length file.old) }
+    ensures answer { said_written result ≡ made_reply set.now (length working.old) (length words.old) (length file.old) }
     ensures working { working.new ≡ working_left set.now working.old }
     ensures words { words.new ≡ lent (plan_reply set.now (length working.old) (length words.old)) (words_of set.now) words.old }
     ensures file { file.new ≡ file_after set.now (length working.old) (length words.old) file.old }

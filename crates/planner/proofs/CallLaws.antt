@@ -15,7 +15,7 @@ use Rattle.word.proofs.TestLaws.{replied_answer, replied_alike}
 use Rattle.set_file.specs.Reading.{set_tests, TakenFrom}
 use Rattle.set_file.specs.declared.Taken.{Taken}
 use Rattle.set_file.proofs.Laws.{accepted}
-use Rattle.kept_words.specs.Working.{words_of, working_places, working_test, kept_tests, kept_reply, said as keptSaid}
+use Rattle.kept_words.specs.Working.{words_of, working_places, working_test, kept_tests, kept_reply, said as kept_said}
 use Rattle.kept_words.specs.declared.Kept.{Kept}
 use Rattle.kept_words.proofs.KeptLaws.{KeptEnd}
 use Rattle.expectation.specs.Expecting.{expected_for}
@@ -97,17 +97,17 @@ module _ (set : List ℕ) (k : Taken) (taken : TakenFrom set k) where
         ∙ lent_alike number (length (words_of set)) (word_parts_of set) (words_of set) ws
 
     -- j is the number that `number_of` gives
-    pub words_unkept : (n j : ℕ) → kept ≡ Kept.Refused n → j ≡ number_of (keptSaid kept) → WordsEnd set cs ws (Worded.Refused j) cs' ws'
+    pub words_unkept : (n j : ℕ) → kept ≡ Kept.Refused n → j ≡ number_of (kept_said kept) → WordsEnd set cs ws (Worded.Refused j) cs' ws'
     unfolding words_reply number
     words_unkept n j ek h =
-        let refused : replied number (length (words_of set)) ≡ refusal n = sym reply_there ∙ sym end.0 ∙ ap keptSaid ek in
-        let same : j ≡ n = h ∙ ap (λ (x : Kept). number_of (keptSaid x)) ek in
+        let refused : replied number (length (words_of set)) ≡ refusal n = sym reply_there ∙ sym end.0 ∙ ap kept_said ek in
+        let same : j ≡ n = h ∙ ap (λ (x : Kept). number_of (kept_said x)) ek in
         (ap refusal same ∙ sym (replied_alike number (length (words_of set)) (word_parts_of set) n refused), (working_left_lem, words_left_lem))
 
     pub words_kept : (m q : ℕ) → m ≡ k.register.m → kept ≡ Kept.Words q → WordsEnd set cs ws (Worded.Words m q) cs' ws'
     unfolding words_reply number
     words_kept m q em ek =
-        let both = replied_answer number (length (words_of set)) q (sym reply_there ∙ sym end.0 ∙ ap keptSaid ek) in
+        let both = replied_answer number (length (words_of set)) q (sym reply_there ∙ sym end.0 ∙ ap kept_said ek) in
         (ap₂ (λ (x y : ℕ). answer (record { m = x; q = y })) (em ∙ taken.width) both.1 ∙ sym (ap (λ (x : ℕ). replied x (word_parts_of set)) both.0), (working_left_lem, words_left_lem))
 
 -- ---- planning, by what the call that gives the words answers and leaves

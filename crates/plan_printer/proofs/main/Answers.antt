@@ -14,5 +14,5 @@ slice_bounds-print_set-end c = sym (length-take-le _ _ (read_within _ _ _ c.in-R
 pub slice_bounds-out-end : goal.slice_bounds-out-end
 slice_bounds-out-end c = (front_part _ _ _ _ c.print_set-end.ensures.text c.print_set-end.ensures.count).0
 
-pub slice_bounds-write_all-end-2 : goal.slice_bounds-write_all-end-2
-slice_bounds-write_all-end-2 c = sym (length-take-le _ _ (front_part _ _ _ _ c.print_set-end.ensures.text c.print_set-end.ensures.count).0)
+pub slice_bounds-write_all-end : goal.slice_bounds-write_all-end
+slice_bounds-write_all-end c = sym (length-take-le _ _ (front_part _ _ _ _ c.print_set-end.ensures.text c.print_set-end.ensures.count).0)
