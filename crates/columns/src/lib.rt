@@ -112,12 +112,14 @@ pub fn list_columns(set: &[u8], columns: &mut [u64]) -> Listed
         spread,
     };
     let count = set_layout::tie_count(set);
-    if count != 0 {
+    let has_ties = count != 0;
+    if has_ties {
         return list_named(taken, set, count, columns);
     }
     let marks = set_layout::mark_rows(n);
     let symbols = marked_rows::count_marks(set, marks, s);
-    if (columns.len() as u64) < symbols {
+    let is_short = (columns.len() as u64) < symbols;
+    if is_short {
         return Listed::Declined { number: 14 };
     }
     let end = symbols as usize;

@@ -77,7 +77,8 @@ fn pass_slices(
         let turn = run_words::put_slice(&mut basis, dead, &columns[place..], width, k);
         dead = turn.dead;
         let left = turn.left;
-        if left < k {
+        let leaves_too_few = left < k;
+        if leaves_too_few {
             return Slices::Refused { number: 27 };
         }
         starts[runs] = t as u64;

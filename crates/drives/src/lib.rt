@@ -78,7 +78,8 @@ fn are_whole(list: &[u8], rows: Rows, from: usize, s: u16) -> bool
     if bytes < 8 {
         return false;
     }
-    if bytes - 8 < from {
+    let is_past = bytes - 8 < from;
+    if is_past {
         return false;
     }
     let stride = rows.stride as usize;

@@ -41,7 +41,8 @@ fn list_slice(
 fn pass_slice(register: Register, table: &[u64; 256], clocks: u16, words: &mut [u64])
     ensures { words.new ≡ cond (eqb (clocks % 8) 7) (map (looked_on (min register.m 64) table.now 8) words.old) words.old }
 {
-    if clocks % 8 == 7 {
+    let is_eighth = clocks % 8 == 7;
+    if is_eighth {
         eight_clocks::advance_eight(register.m, table, words);
     }
 }

@@ -142,7 +142,8 @@ pub fn eliminate(m: u64, columns: &[u64], words: &mut [u64]) -> Eliminated
     let mut held = unit_words();
     let q = reduce(&mut held[..width], columns);
     let rank = width - q;
-    if q == 0 {
+    let is_empty = q == 0;
+    if is_empty {
         return refused(17);
     }
     if words.len() < q {

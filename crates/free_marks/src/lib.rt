@@ -64,7 +64,8 @@ fn clear_cell(copy: &mut [u8], n: u16, t: u16, c: u16)
 fn clear_entry(copy: &mut [u8], n: u16, ties: &[u8], flags: &[u64], i: u16)
     ensures { (k u d : ℕ) → cell (list_row n copy.new u) d ≡ cond (names (ties_in ties.now k) i u d && eqb (get_or flags.now i 0) 0) 0 (cell (list_row n copy.old u) d) }
 {
-    if word::word_at(flags, i as usize) != 0 {
+    let is_flagged = word::word_at(flags, i as usize) != 0;
+    if is_flagged {
         return;
     }
     clear_cell(copy, n, ties::tie_slice(ties, i), ties::tie_chain(ties, i));

@@ -105,7 +105,8 @@ pub fn judge(plan: &[u8], signature: u64) -> Judged
         return Judged::Refused { number: 23 };
     }
     let differing = cancelled ^ expected;
-    if differing == 0 {
+    let agrees = differing == 0;
+    if agrees {
         return Judged::Passes { cancelled };
     }
     let index = u64::trailing_zeros(differing) as u64;

@@ -68,7 +68,8 @@ fn reduce_free(taken: Taken, set: &[u8], working: &mut [u64], held: &mut [u64]) 
     let s = taken.s;
     let marks = unknown_rows(n);
     let count = set_layout::tie_count(set);
-    if count == 0 {
+    let is_free = count == 0;
+    if is_free {
         return set_words::reduce_cells(taken, set, marks, working, held);
     }
     let ties = set_layout::tie_bytes(set);
@@ -96,7 +97,8 @@ pub fn fill_words(taken: Taken, set: &[u8], working: &mut [u64], words: &mut [u6
 {
     let symbols = put_symbols(taken, set, working);
     let places = WORKING_PLACES + symbols;
-    if working.len() < places {
+    let is_short = working.len() < places;
+    if is_short {
         return Kept::Refused { number: 14 };
     }
     let width = register::width_limit(taken.register.m) as usize;

@@ -65,7 +65,8 @@ fn set_symbol(
     requires { before ≤ 16777216 }
     ensures { (k : Circuit) (count : ℕ) → SymbolsFrom k slices powers.now spread.now width numbers.now (ties_in ties.now count) → i < count → flagged ≡ flag (ties_in ties.now count) i → columns.new ≡ sets columns.old (before + total ((ties_in ties.now count).chain i) (cell row.now)) (listed (flag (ties_in ties.now count) i) (symbol_column k slices (ties_in ties.now count) ((ties_in ties.now count).symbol i))) }
 {
-    if flagged == 0 {
+    let is_later = flagged == 0;
+    if is_later {
         return;
     }
     let place = (before + cells_before(row, ties::tie_chain(ties, i))) as usize;

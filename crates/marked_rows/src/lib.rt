@@ -31,7 +31,8 @@ fn ones_in(marks: u64) -> u64
 fn count_words(a: u64, b: u64, c: u64, d: u64) -> u64
     ensures { result ≡ ones a + ones b + ones c + ones d }
 {
-    if (0 < a) | (0 < b) | (0 < c) | (0 < d) {
+    let is_marked = (0 < a) | (0 < b) | (0 < c) | (0 < d);
+    if is_marked {
         return ones_in(a) + ones_in(b) + ones_in(c) + ones_in(d);
     }
     0

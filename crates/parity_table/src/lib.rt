@@ -33,7 +33,8 @@ pub fn skip_by_table(table: &[u64; 2048], columns: &[u64], from: usize) -> usize
 {
     let mut i = from;
     while i < columns.len() {
-        if byte_tables::looked_up(table, columns[i]) != 0 {
+        let is_odd = byte_tables::looked_up(table, columns[i]) != 0;
+        if is_odd {
             return i;
         }
         i += 1;
@@ -69,7 +70,8 @@ fn is_even(words: &[u64], column: u64) -> bool
 {
     let mut i: usize = 0;
     while i < words.len() {
-        if word::shared_parity(column, words[i]) != 0 {
+        let is_odd = word::shared_parity(column, words[i]) != 0;
+        if is_odd {
             return false;
         }
         i += 1;

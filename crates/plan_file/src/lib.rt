@@ -194,7 +194,8 @@ pub fn read_plan(plan: &[u8], words: &mut [u64]) -> PlanAnswer
             number: number_of(checked),
         };
     };
-    if (words.len() as u64) < q {
+    let is_short = (words.len() as u64) < q;
+    if is_short {
         return PlanAnswer::Refused { number: 18 };
     }
     copy_words(plan, words);

@@ -39,7 +39,8 @@ fn write_refusal(m: u64, words: &[u64], expected: u64, room: usize) -> u64
     if word::is_beyond(words.len() as u64, expected) {
         return 22;
     }
-    if room < plan_length(words) {
+    let is_short = room < plan_length(words);
+    if is_short {
         return 24;
     }
     0

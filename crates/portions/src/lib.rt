@@ -36,7 +36,8 @@ const TABLE_ENTRIES: usize = 256;
 fn later_slices(slices: u16, t: u16) -> usize
     ensures { result ≡ slices - t }
 {
-    if slices < t {
+    let is_past = slices < t;
+    if is_past {
         return 0;
     }
     (slices - t) as usize
@@ -47,7 +48,8 @@ fn later_slices(slices: u16, t: u16) -> usize
 fn pass_slice(m: u64, table: &[u64], clocks: usize, words: &mut [u64])
     ensures { 256 ≤ length table.now → words.new ≡ cond (eqb (clocks % 8) 7) (map (looked_on (min m 64) table.now 8) words.old) words.old }
 {
-    if clocks % 8 == 7 {
+    let is_eighth = clocks % 8 == 7;
+    if is_eighth {
         eight_clocks::look_eight(m, table, words);
     }
 }
@@ -59,7 +61,8 @@ fn go_down(source: Source, list: &[u8], powers: &[u64], words: &mut [u64], t: u1
     ensures { SliceDone (min source.register.m 64) source.register.taps (slices_in source) list.now source.marks powers.now t words.old words.new result }
 {
     let count = powers.len();
-    if TABLE_ENTRIES < count {
+    let is_over = TABLE_ENTRIES < count;
+    if is_over {
         let marks = source.marks;
         return marked_rows::marked_end(list, marks, t - 1);
     }

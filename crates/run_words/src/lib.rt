@@ -37,7 +37,8 @@ pub fn put_slice(basis: &mut [u64], dead: u64, columns: &[u64], width: usize, k:
 {
     let joined = column_basis::take_columns(basis, dead, columns);
     let left = turned_words::held_count(joined);
-    if k <= left {
+    let is_enough = k <= left;
+    if is_enough {
         return Turn {
             dead: joined,
             left,

@@ -185,7 +185,8 @@ fn reduce_all(
     let mut calm = false;
     let mut before = left;
     while 0 < t {
-        if left == 0 {
+        let is_empty = left == 0;
+        if is_empty {
             return 0;
         }
         if is_done(source, list, words, &held[..left], before, t, more) {

@@ -62,7 +62,8 @@ pub fn sign_record(set: &[u8], record: &[u8]) -> Signed
             number: set_file::number_of(answer),
         };
     };
-    if record.len() != set_layout::rows_length(n, s) {
+    let is_misfit = record.len() != set_layout::rows_length(n, s);
+    if is_misfit {
         return Signed::Refused { number: 12 };
     }
     if rows::has_spare_row(n as usize, record, s as usize) {

@@ -34,7 +34,8 @@ fn pass_slice(table: &[u64; 256], t: u16, words: &mut [u64])
     ensures looked { words.new ≡ cond (eqb (t % 8) 7) (map (λ w. bit_xor (w / 256) (get_or table.now (w % 256) 0)) words.old) words.old }
     ensures frame { (k : Circuit) (spread : List ℕ) → EightBack k table.now → words.old ≡ map (earlier k (eights t)) spread → words.new ≡ map (earlier k (eights (t + 1))) spread }
 {
-    if t % 8 == 7 {
+    let is_eighth = t % 8 == 7;
+    if is_eighth {
         unclocking::unclock_eight(table, words);
     }
 }

@@ -72,7 +72,8 @@ pub fn sign_slices(given: Register, spread: &[u64], list: &[u8], rows: Rows, s: 
     if (s < FEW_SLICES) | (256 < spread.len()) {
         return sign_by_cells(register, spread, list, rows, s);
     }
-    if (s < MANY_SLICES) | (drives::PLACES < s as usize) | (rows.bytes % 8 != 0) {
+    let is_few = (s < MANY_SLICES) | (drives::PLACES < s as usize) | (rows.bytes % 8 != 0);
+    if is_few {
         return sign_by_half_bytes(register, spread, list, rows, s);
     }
     let driven = drives::slice_drives(spread, list, rows, s);

@@ -44,7 +44,8 @@ fn has_own_bits(slots: &[u64], dead: u64) -> bool
     let mut i: usize = 0;
     while i < 64 {
         let w = word::word_at(slots, i);
-        if (w & alive) != (alive & (1u64 << i)) {
+        let is_other = (w & alive) != (alive & (1u64 << i));
+        if is_other {
             return false;
         }
         i += 1;

@@ -111,7 +111,8 @@ pub fn has_wrong_sides(ties: &[u8], count: u16) -> bool
 {
     let mut i: u16 = 0;
     while i < count {
-        if 1 < tie_side(ties, i) {
+        let is_wrong = 1 < tie_side(ties, i);
+        if is_wrong {
             return true;
         }
         i += 1;

@@ -11,19 +11,19 @@ returns-in_default c =
     let refused = refused_set _ _ _ _ _ (c.read_set-read.ensures.answer, (c.read_set-read.ensures.spread, c.read_set-read.ensures.start)) c.in_default.is c.number_of.ensures in
     record { result_value = (list_set_refused _ c.args.columns.now _ refused.0 refused.1).0; columns_after = (list_set_refused _ c.args.columns.now _ refused.0 refused.1).1 }
 
-pub returns-then-count-ne0 : goal.returns-then-count-ne0
-returns-then-count-ne0 c =
+pub returns-then-has_ties : goal.returns-then-has_ties
+returns-then-has_ties c =
     let taken = taken_set _ _ _ _ _ _ (c.read_set-read.ensures.answer, (c.read_set-read.ensures.spread, c.read_set-read.ensures.start)) c.in-Read.is in
     record { result_value = (c.list_named.ensures taken c.tie_count-count.ensures).0; columns_after = (c.list_named.ensures taken c.tie_count-count.ensures).1 }
 
-pub returns-then-columns-symbols : goal.returns-then-columns-symbols
-returns-then-columns-symbols c =
+pub returns-then-is_short : goal.returns-then-is_short
+returns-then-is_short c =
     let taken = taken_set _ _ _ _ _ _ (c.read_set-read.ensures.answer, (c.read_set-read.ensures.spread, c.read_set-read.ensures.start)) c.in-Read.is in
     record {
-      result_value = (bare_short _ _ taken _ c.mark_rows-marks.ensures _ c.tie_count-count.ensures c.if-count-ne0.false _ c.count_marks-symbols.ensures
-          c.args.columns.now c.if-columns-symbols.true).0;
-      columns_after = (bare_short _ _ taken _ c.mark_rows-marks.ensures _ c.tie_count-count.ensures c.if-count-ne0.false _ c.count_marks-symbols.ensures
-          c.args.columns.now c.if-columns-symbols.true).1;
+      result_value = (bare_short _ _ taken _ c.mark_rows-marks.ensures _ c.tie_count-count.ensures c.if-has_ties.false _ c.count_marks-symbols.ensures
+          c.args.columns.now c.if-is_short.true).0;
+      columns_after = (bare_short _ _ taken _ c.mark_rows-marks.ensures _ c.tie_count-count.ensures c.if-has_ties.false _ c.count_marks-symbols.ensures
+          c.args.columns.now c.if-is_short.true).1;
     }
 
 pub slice_bounds-fill_columns-end-2 : goal.slice_bounds-fill_columns-end-2
@@ -34,8 +34,8 @@ returns c =
     let taken = taken_set _ _ _ _ _ _ (c.read_set-read.ensures.answer, (c.read_set-read.ensures.spread, c.read_set-read.ensures.start)) c.in-Read.is in
     let count = c.count_marks-symbols in
     record {
-      result_value = (bare_listed _ _ taken _ c.mark_rows-marks.ensures _ c.tie_count-count.ensures c.if-count-ne0.false _ count.ensures c.args.columns.now _
-          c.if-columns-symbols.false c.fill_columns.ensures).0;
-      columns_after = (bare_listed _ _ taken _ c.mark_rows-marks.ensures _ c.tie_count-count.ensures c.if-count-ne0.false _ count.ensures c.args.columns.now _
-          c.if-columns-symbols.false c.fill_columns.ensures).1;
+      result_value = (bare_listed _ _ taken _ c.mark_rows-marks.ensures _ c.tie_count-count.ensures c.if-has_ties.false _ count.ensures c.args.columns.now _
+          c.if-is_short.false c.fill_columns.ensures).0;
+      columns_after = (bare_listed _ _ taken _ c.mark_rows-marks.ensures _ c.tie_count-count.ensures c.if-has_ties.false _ count.ensures c.args.columns.now _
+          c.if-is_short.false c.fill_columns.ensures).1;
     }

@@ -30,14 +30,14 @@ slice_bounds-put_slice-end c = sym c.loop-t.invariant.2.long
 pub put_slice-turn-requires : goal.put_slice-turn-requires
 put_slice-turn-requires c = c.loop-t.invariant.2
 
-pub shape_of-words-then-left-k : goal.shape_of-words-then-left-k
-shape_of-words-then-left-k c = c.next_columns-place.auto.words ∙ c.loop-t.invariant.4
+pub shape_of-words-then-leaves_too_few : goal.shape_of-words-then-leaves_too_few
+shape_of-words-then-leaves_too_few c = c.next_columns-place.auto.words ∙ c.loop-t.invariant.4
 
-pub shape_of-starts-then-left-k : goal.shape_of-starts-then-left-k
-shape_of-starts-then-left-k c = c.loop-t.invariant.3 ∙ sym c.requires.2
+pub shape_of-starts-then-leaves_too_few : goal.shape_of-starts-then-leaves_too_few
+shape_of-starts-then-leaves_too_few c = c.loop-t.invariant.3 ∙ sym c.requires.2
 
-pub returns-then-left-k : goal.returns-then-left-k
-returns-then-left-k c =
+pub returns-then-leaves_too_few : goal.returns-then-leaves_too_few
+returns-then-leaves_too_few c =
     let known = c.loop-t.invariant in
     let inside = c.loop-t-test.true in
     let listed = c.next_columns-place in
@@ -47,7 +47,7 @@ returns-then-left-k c =
     (put.ensures.turn (omega (arith, known.6))) known.7 inside (omega (arith, inside, known.1, known.3, c.requires.0)) (omega (arith, known.4, known.5, c.requires.1))
     (listed.auto.columns ∙ known.5) known.6
     in
-    λ sound right some. passed.short sound right some (known.8 sound right some) c.if-left-k.true
+    λ sound right some. passed.short sound right some (known.8 sound right some) c.if-leaves_too_few.true
 
 pub overflow_add-runs : goal.overflow_add-runs
 overflow_add-runs c = omega (arith, c.loop-t.invariant.1, c.loop-t-test.true, c.put_slice-turn.ensures.one, c.requires.0)

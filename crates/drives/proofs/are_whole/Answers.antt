@@ -10,8 +10,8 @@ use Rattle.drives.proofs.are_whole.Goals as goal
 pub returns-then-bytes-lt8 : goal.returns-then-bytes-lt8
 returns-then-bytes-lt8 c = λ h. absurd (true_not_false true refl (sym h))
 
-pub returns-then-bytes-from : goal.returns-then-bytes-from
-returns-then-bytes-from c = λ h. absurd (true_not_false true refl (sym h))
+pub returns-then-is_past : goal.returns-then-is_past
+returns-then-is_past c = λ h. absurd (true_not_false true refl (sym h))
 
 pub overflow_mul-end : goal.overflow_mul-end
 overflow_mul-end c =

@@ -4,8 +4,8 @@ use Rattle.eight_clocks.proofs.EightLaws.{looked_up_lem, left_alone}
 use borrow.Author.Rules.{rules}
 use Rattle.eighth_columns.proofs.pass_slice.Goals as goal
 
-pub returns-then-clocks-eq7 : goal.returns-then-clocks-eq7
-returns-then-clocks-eq7 c = c.advance_eight.ensures.looked ∙ looked_up_lem c.args.clocks _ _ (search rules)
+pub returns-then-is_eighth : goal.returns-then-is_eighth
+returns-then-is_eighth c = c.advance_eight.ensures.looked ∙ looked_up_lem c.args.clocks _ _ (search rules)
 
-pub returns-else-clocks-eq7 : goal.returns-else-clocks-eq7
-returns-else-clocks-eq7 c = left_alone c.args.clocks _ _ (search rules)
+pub returns-else-is_eighth : goal.returns-else-is_eighth
+returns-else-is_eighth c = left_alone c.args.clocks _ _ (search rules)

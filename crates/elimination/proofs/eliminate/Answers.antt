@@ -37,13 +37,13 @@ slice_bounds-reduce-end c =
 pub overflow_sub-rank : goal.overflow_sub-rank
 overflow_sub-rank c = kept_most _ _ _ (kept (goal.at.overflow_sub-rank c).After-held-2-1)
 
-pub returns-then-q-eq0 : goal.returns-then-q-eq0
-returns-then-q-eq0 c = record { answer = (ends_17 _ _ _ _ _ (kept (goal.at.returns-then-q-eq0 c).After-held-2-1) c.if-q-eq0.true c.refused-then-q-eq0.ensures).0; list = (ends_17 _ _ _ _ _ (kept (goal.at.returns-then-q-eq0 c).After-held-2-1) c.if-q-eq0.true c.refused-then-q-eq0.ensures).1 }
+pub returns-then-is_empty : goal.returns-then-is_empty
+returns-then-is_empty c = record { answer = (ends_17 _ _ _ _ _ (kept (goal.at.returns-then-is_empty c).After-held-2-1) c.if-is_empty.true c.refused-then-is_empty.ensures).0; list = (ends_17 _ _ _ _ _ (kept (goal.at.returns-then-is_empty c).After-held-2-1) c.if-is_empty.true c.refused-then-is_empty.ensures).1 }
 
 pub returns-then-words-q : goal.returns-then-words-q
 returns-then-words-q c =
     let so_far = kept (goal.at.returns-then-words-q c).After-held-2-1 in
-    record { answer = (ends_18 _ _ _ _ _ so_far c.if-q-eq0.false c.if-words-q.true c.refused-then-words-q.ensures).0; list = (ends_18 _ _ _ _ _ so_far c.if-q-eq0.false c.if-words-q.true c.refused-then-words-q.ensures).1 }
+    record { answer = (ends_18 _ _ _ _ _ so_far c.if-is_empty.false c.if-words-q.true c.refused-then-words-q.ensures).0; list = (ends_18 _ _ _ _ _ so_far c.if-is_empty.false c.if-words-q.true c.refused-then-words-q.ensures).1 }
 
 pub slice_bounds-held-end-2 : goal.slice_bounds-held-end-2
 slice_bounds-held-end-2 c =
@@ -63,7 +63,7 @@ slice_bounds-write_front-end c =
 
 pub returns : goal.returns
 returns c =
-    let some_word = c.if-q-eq0.false in
+    let some_word = c.if-is_empty.false in
     let units = c.unit_words-held.ensures in
     let same_long = c.reduce-q.auto.held in
     let reduced = c.reduce-q.ensures.1 in

@@ -17,11 +17,11 @@ returns-then-is_beyond c =
     let sound = c.in-Sound.is in
     judged_beyond _ _ _ checked _ _ _ sound _ c.is_beyond.ensures c.if-is_beyond.true
 
-pub returns-then-differing-eq0 : goal.returns-then-differing-eq0
-returns-then-differing-eq0 c =
+pub returns-then-agrees : goal.returns-then-agrees
+returns-then-agrees c =
     let checked = c.check_listed-checked.ensures in
     let sound = c.in-Sound.is in
-    judged_passes _ _ _ checked _ _ _ sound _ c.is_beyond.ensures c.if-is_beyond.false _ _ (c.find_bits-found.ensures.list, c.find_bits-found.ensures.cancelled) c.if-differing-eq0.true
+    judged_passes _ _ _ checked _ _ _ sound _ c.is_beyond.ensures c.if-is_beyond.false _ _ (c.find_bits-found.ensures.list, c.find_bits-found.ensures.cancelled) c.if-agrees.true
 
 pub overflow_cast-index : goal.overflow_cast-index
 overflow_cast-index c =
@@ -33,4 +33,4 @@ pub returns : goal.returns
 returns c =
     let checked = c.check_listed-checked.ensures in
     let sound = c.in-Sound.is in
-    judged_fails _ _ _ checked _ _ _ sound _ c.is_beyond.ensures c.if-is_beyond.false _ _ (c.find_bits-found.ensures.list, c.find_bits-found.ensures.cancelled) c.if-differing-eq0.false
+    judged_fails _ _ _ checked _ _ _ sound _ c.is_beyond.ensures c.if-is_beyond.false _ _ (c.find_bits-found.ensures.list, c.find_bits-found.ensures.cancelled) c.if-agrees.false

@@ -20,11 +20,11 @@ use Rattle.kept_words.proofs.fill_words.Goals.{After-clear_words, After-reduce_s
 pub overflow_add-places : goal.overflow_add-places
 overflow_add-places c = omega (arith, c.put_symbols-symbols.ensures.few)
 
-pub returns-then-working-places : goal.returns-then-working-places
-returns-then-working-places c =
+pub returns-then-is_short : goal.returns-then-is_short
+returns-then-is_short c =
     let put = c.put_symbols-symbols in
     λ taken.
-    let short = put_short_14 _ c.args.working.now _ _ (put.ensures.symbols taken) put.auto.working c.if-working-places.true in
+    let short = put_short_14 _ c.args.working.now _ _ (put.ensures.symbols taken) put.auto.working c.if-is_short.true in
     ends_14 _ c.args.working.now _ c.args.words.now short.0 short.1
 
 -- the words of single bits, as many as the register is wide
@@ -36,7 +36,7 @@ kept : (c : After-reduce_symbols-q) → TakenFrom c.args.set.now c.args.taken
 kept c taken =
     let width = c.width_limit-width in
     let put = c.put_symbols-symbols in
-    let room : 64 + c.put_symbols-symbols.result ≤ length c.put_symbols-symbols.new.working = c.if-working-places.false in
+    let room : 64 + c.put_symbols-symbols.result ≤ length c.put_symbols-symbols.new.working = c.if-is_short.false in
     c.reduce_symbols-q.ensures.words taken (omega (arith, length-take-le (64 + c.put_symbols-symbols.result) c.put_symbols-symbols.new.working room))
     (put_behind _ c.args.working.now _ _ (put.ensures.symbols taken) put.auto.working room)
     (ap (take width.result) c.unit_words-held.ensures ∙ units_front width.result (omega (arith, width.ensures)) ∙ ap units (width.ensures ∙ own_width _ _ taken))
@@ -51,28 +51,28 @@ held-few c =
 
 written_long : (c : After-reduce_symbols-q) → 64 + c.put_symbols-symbols.result ≤ length (c.reduce_symbols-q.new.working ++ drop (64 + c.put_symbols-symbols.result) c.put_symbols-symbols.new.working)
 written_long c =
-    omega (arith, length-append c.reduce_symbols-q.new.working (drop (64 + c.put_symbols-symbols.result) c.put_symbols-symbols.new.working), c.reduce_symbols-q.auto.working, length-take-le (64 + c.put_symbols-symbols.result) c.put_symbols-symbols.new.working c.if-working-places.false)
+    omega (arith, length-append c.reduce_symbols-q.new.working (drop (64 + c.put_symbols-symbols.result) c.put_symbols-symbols.new.working), c.reduce_symbols-q.auto.working, length-take-le (64 + c.put_symbols-symbols.result) c.put_symbols-symbols.new.working c.if-is_short.false)
 
 still-long : (c : After-clear_words) → length (c.clear_words.new.words ++ drop (64 + c.put_symbols-symbols.result) (c.reduce_symbols-q.new.working ++ drop (64 + c.put_symbols-symbols.result) c.put_symbols-symbols.new.working)) ≡ length c.put_symbols-symbols.new.working
 still-long c =
-    ap length (cleared_places (64 + c.put_symbols-symbols.result) c.put_symbols-symbols.new.working c.reduce_symbols-q.new.working c.clear_words.new.words c.if-working-places.false c.reduce_symbols-q.auto.working c.clear_words.ensures)
-    ∙ front_length (zeros (64 + c.put_symbols-symbols.result)) c.put_symbols-symbols.new.working (omega (arith, length_zeros (64 + c.put_symbols-symbols.result), c.if-working-places.false))
+    ap length (cleared_places (64 + c.put_symbols-symbols.result) c.put_symbols-symbols.new.working c.reduce_symbols-q.new.working c.clear_words.new.words c.if-is_short.false c.reduce_symbols-q.auto.working c.clear_words.ensures)
+    ∙ front_length (zeros (64 + c.put_symbols-symbols.result)) c.put_symbols-symbols.new.working (omega (arith, length_zeros (64 + c.put_symbols-symbols.result), c.if-is_short.false))
 
 -- past 14 the working list has the places, and they are cleared
 room : (c : After-clear_words) → TakenFrom c.args.set.now c.args.taken → working_places c.args.set.now ≤ length c.args.working.now
 room c taken =
     let put = c.put_symbols-symbols in
-    put_room _ c.args.working.now c.put_symbols-symbols.new.working _ (put.ensures.symbols taken) put.auto.working c.if-working-places.false
+    put_room _ c.args.working.now c.put_symbols-symbols.new.working _ (put.ensures.symbols taken) put.auto.working c.if-is_short.false
 
 cleared : (c : After-clear_words) → TakenFrom c.args.set.now c.args.taken
     → c.clear_words.new.words ++ drop (64 + c.put_symbols-symbols.result) (c.reduce_symbols-q.new.working ++ drop (64 + c.put_symbols-symbols.result) c.put_symbols-symbols.new.working) ≡ front (zeros (working_places c.args.set.now)) c.args.working.now
 cleared c taken =
     let put = c.put_symbols-symbols in
-    put_cleared _ c.args.working.now c.put_symbols-symbols.new.working _ (put.ensures.symbols taken) put.auto.working c.if-working-places.false
+    put_cleared _ c.args.working.now c.put_symbols-symbols.new.working _ (put.ensures.symbols taken) put.auto.working c.if-is_short.false
     c.reduce_symbols-q.new.working c.clear_words.new.words c.reduce_symbols-q.auto.working c.clear_words.ensures
 
 pub slice_bounds-reduce_symbols-end-2 : goal.slice_bounds-reduce_symbols-end-2
-slice_bounds-reduce_symbols-end-2 c = sym (length-take-le (64 + c.put_symbols-symbols.result) c.put_symbols-symbols.new.working c.if-working-places.false)
+slice_bounds-reduce_symbols-end-2 c = sym (length-take-le (64 + c.put_symbols-symbols.result) c.put_symbols-symbols.new.working c.if-is_short.false)
 
 pub slice_bounds-held-end : goal.slice_bounds-held-end
 slice_bounds-held-end c = width_inside (goal.at.slice_bounds-held-end c).After-unit_words-held

@@ -6,13 +6,13 @@ use Rattle.signatures.proofs.TakenLaws.{own_width}
 use Rattle.kept_words.proofs.FreeLaws.{bare_words, copied_words}
 use Rattle.kept_words.proofs.reduce_free.Goals as goal
 
-pub returns-then-count-eq0 : goal.returns-then-count-eq0
-returns-then-count-eq0 c =
+pub returns-then-is_free : goal.returns-then-is_free
+returns-then-is_free c =
     let reduced = c.reduce_cells in
     record {
       left = reduced.ensures.left;
       words = (λ taken room start.
-          let words = bare_words _ _ taken _ c.unknown_rows-marks.ensures _ c.tie_count-count.ensures c.if-count-eq0.true in
+          let words = bare_words _ _ taken _ c.unknown_rows-marks.ensures _ c.tie_count-count.ensures c.if-is_free.true in
           let both = reduced.ensures.words room (start ∙ ap units (sym (own_width _ _ taken))) in
           (both.0 ∙ ap length words, both.1 ∙ words));
     }

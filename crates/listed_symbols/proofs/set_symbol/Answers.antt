@@ -5,18 +5,18 @@ use Rattle.listed_symbols.proofs.BeforeLaws.{place_of}
 use Rattle.listed_symbols.proofs.HeadLaws.{set_none, set_past, set_one}
 use Rattle.listed_symbols.proofs.set_symbol.Goals as goal
 
-pub returns-then-flagged-eq0 : goal.returns-then-flagged-eq0
-returns-then-flagged-eq0 c k count from h ef = set_none _ _ _ _ _ ef c.if-flagged-eq0.true
+pub returns-then-is_later : goal.returns-then-is_later
+returns-then-is_later c k count from h ef = set_none _ _ _ _ _ ef c.if-is_later.true
 
 pub returns-then-columns-place : goal.returns-then-columns-place
 returns-then-columns-place c k count from h ef =
     let args = c.args in
     let place = place_of args.row.now _ _ _ _ c.tie_chain.ensures c.cells_before.ensures.0 in
-    set_past (ties_in args.ties.now count) args.i _ ef c.if-flagged-eq0.false args.columns.now _ _ _ place c.if-columns-place.true
+    set_past (ties_in args.ties.now count) args.i _ ef c.if-is_later.false args.columns.now _ _ _ place c.if-columns-place.true
 
 pub returns : goal.returns
 returns c k count from h ef =
     let args = c.args in
     let place = place_of args.row.now _ _ _ _ c.tie_chain.ensures c.cells_before.ensures.0 in
-    set_one (ties_in args.ties.now count) args.i _ ef c.if-flagged-eq0.false args.columns.now _ _ _
+    set_one (ties_in args.ties.now count) args.i _ ef c.if-is_later.false args.columns.now _ _ _
     (symbol_column k args.slices (ties_in args.ties.now count) ((ties_in args.ties.now count).symbol args.i)) place (c.symbol_column_of-column.ensures k count from h)

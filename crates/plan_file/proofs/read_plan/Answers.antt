@@ -6,8 +6,8 @@ use Rattle.plan_file.proofs.read_plan.Goals as goal
 pub returns-in_default : goal.returns-in_default
 returns-in_default c = record { answer = (ends_unsound _ _ _ c.check_plan-checked.ensures _ _ c.in_default.is c.number_of.ensures).0; list = (ends_unsound _ _ _ c.check_plan-checked.ensures _ _ c.in_default.is c.number_of.ensures).1 }
 
-pub returns-then-words-q : goal.returns-then-words-q
-returns-then-words-q c =
+pub returns-then-is_short : goal.returns-then-is_short
+returns-then-is_short c =
     let checked = c.check_plan-checked.ensures in
     record { answer = (ends_short _ _ _ checked _ _ _ c.in-Sound.is (search rules)).0; list = (ends_short _ _ _ checked _ _ _ c.in-Sound.is (search rules)).1 }
 

@@ -26,16 +26,16 @@ returns-then-is_beyond c =
     let listed = ap not c.is_reduced.ensures in
     search refusals depth 20 fits 20000
 
-pub returns-then-room-plan_length : goal.returns-then-room-plan_length
+pub returns-then-is_short : goal.returns-then-is_short
 unfolding plan_write_tests
-returns-then-room-plan_length c =
+returns-then-is_short c =
     let listed = ap not c.is_reduced.ensures in
-    let short = room_short _ _ _ c.plan_length.ensures c.if-room-plan_length.true in
+    let short = room_short _ _ _ c.plan_length.ensures c.if-is_short.true in
     search refusals depth 20 fits 20000
 
 pub returns : goal.returns
 unfolding plan_write_tests
 returns c =
     let listed = ap not c.is_reduced.ensures in
-    let enough = room_enough _ _ _ c.plan_length.ensures c.if-room-plan_length.false in
+    let enough = room_enough _ _ _ c.plan_length.ensures c.if-is_short.false in
     search refusals depth 20 fits 20000

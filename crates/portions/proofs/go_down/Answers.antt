@@ -6,12 +6,12 @@ use Rattle.marked_rows.proofs.LastLaws.{last_le}
 use Rattle.portions.proofs.PortionLaws.{words_passed}
 use Rattle.portions.proofs.go_down.Goals as goal
 
-pub returns-then-count-gt-TABLE_ENTRIES : goal.returns-then-count-gt-TABLE_ENTRIES
-returns-then-count-gt-TABLE_ENTRIES c =
+pub returns-then-is_over : goal.returns-then-is_over
+returns-then-is_over c =
     let args = c.args in record {
       down = omega (arith, c.marked_end.ensures, last_le args.list.now args.source.marks (args.t - 1));
-      advances = (λ z. let no : ⊥ = omega (arith, z, c.if-count-gt-TABLE_ENTRIES.true) in absurd no);
-      passes = (λ z. let no : ⊥ = omega (arith, z, c.if-count-gt-TABLE_ENTRIES.true) in absurd no);
+      advances = (λ z. let no : ⊥ = omega (arith, z, c.if-is_over.true) in absurd no);
+      passes = (λ z. let no : ⊥ = omega (arith, z, c.if-is_over.true) in absurd no);
       skips = (λ z. (c.marked_end.ensures, refl));
     }
 
@@ -29,5 +29,5 @@ returns c =
       down = omega arith;
       advances = (λ z. let no : ⊥ = omega (arith, z, c.if-count-lt-TABLE_ENTRIES.false) in absurd no);
       passes = (λ z. (refl, words_passed (min args.source.register.m 64) _ args.t _ _ args.powers.now args.words.now _ c.slice_limit-slices.ensures c.later_slices-clocks.ensures c.pass_slice.ensures z));
-      skips = (λ z. let no : ⊥ = omega (arith, z, c.if-count-gt-TABLE_ENTRIES.false) in absurd no);
+      skips = (λ z. let no : ⊥ = omega (arith, z, c.if-is_over.false) in absurd no);
     }

@@ -3,10 +3,10 @@ use Rattle.run_words.proofs.TurnLaws.{put_joined, put_opened}
 use borrow.Author.Rules.{rules}
 use Rattle.run_words.proofs.put_slice.Goals as goal
 
-pub returns-then-k-left : goal.returns-then-k-left
-returns-then-k-left c =
+pub returns-then-is_enough : goal.returns-then-is_enough
+returns-then-is_enough c =
     let took = c.take_columns-joined in
-    record { one = search rules; order = took.ensures.order; turn = (λ width h held. put_joined _ _ _ _ _ _ _ _ h took.ensures.list held c.held_count-left.ensures c.if-k-left.true) }
+    record { one = search rules; order = took.ensures.order; turn = (λ width h held. put_joined _ _ _ _ _ _ _ _ h took.ensures.list held c.held_count-left.ensures c.if-is_enough.true) }
 
 pub open_run-alone-requires : goal.open_run-alone-requires
 open_run-alone-requires c = c.take_columns-joined.ensures.order.long
@@ -19,6 +19,6 @@ returns c =
       one = search rules;
       order = alone.ensures.order;
       turn = (λ width h held.
-          put_opened _ _ _ _ _ _ _ _ _ _ _ h took.ensures.list held c.held_count-left.ensures c.if-k-left.false (alone.ensures.list width)
+          put_opened _ _ _ _ _ _ _ _ _ _ _ h took.ensures.list held c.held_count-left.ensures c.if-is_enough.false (alone.ensures.list width)
           c.held_count.ensures);
     }

@@ -10,8 +10,8 @@ pub loop-t-init : goal.loop-t-init
 loop-t-init c =
     (omega arith, refl, refl, refl, (λ spread m so_far. reduced_alike _ _ _ _ _ _ _ _ _ _ _ c.slice_limit-t.ensures (take-length _) so_far))
 
-pub returns-then-left-eq0 : goal.returns-then-left-eq0
-returns-then-left-eq0 c = record { left = omega arith; words = (λ spread m start. done_early _ _ _ _ _ _ _ _ c.loop-t.held _ c.if-left-eq0.true (c.loop-t.invariant.4 spread m start)) }
+pub returns-then-is_empty : goal.returns-then-is_empty
+returns-then-is_empty c = record { left = omega arith; words = (λ spread m start. done_early _ _ _ _ _ _ _ _ c.loop-t.held _ c.if-is_empty.true (c.loop-t.invariant.4 spread m start)) }
 
 pub slice_bounds-is_done-end-in-loop-t : goal.slice_bounds-is_done-end-in-loop-t
 slice_bounds-is_done-end-in-loop-t c = sym (length-take-le _ _ c.loop-t.invariant.0)
@@ -56,14 +56,14 @@ returns c =
     let at = c.loop-t in
     record { left = omega (arith, at.invariant.0, at.invariant.1); words = (λ spread m start. done_all _ _ _ _ _ _ _ _ _ _ (omega arith) at.invariant.0 (at.invariant.4 spread m start)) }
 
-pub shape_of-words-then-left-eq0 : goal.shape_of-words-then-left-eq0
-shape_of-words-then-left-eq0 c = c.loop-t.invariant.3
+pub shape_of-words-then-is_empty : goal.shape_of-words-then-is_empty
+shape_of-words-then-is_empty c = c.loop-t.invariant.3
 
-pub shape_of-working-then-left-eq0 : goal.shape_of-working-then-left-eq0
-shape_of-working-then-left-eq0 c = c.loop-t.invariant.2
+pub shape_of-working-then-is_empty : goal.shape_of-working-then-is_empty
+shape_of-working-then-is_empty c = c.loop-t.invariant.2
 
-pub shape_of-held-then-left-eq0 : goal.shape_of-held-then-left-eq0
-shape_of-held-then-left-eq0 c = c.loop-t.invariant.1
+pub shape_of-held-then-is_empty : goal.shape_of-held-then-is_empty
+shape_of-held-then-is_empty c = c.loop-t.invariant.1
 
 pub slice_bounds-is_done-end : goal.slice_bounds-is_done-end
 slice_bounds-is_done-end c = c.loop-t.invariant.0

@@ -7,12 +7,12 @@ use Rattle.spread_words.proofs.has_own_bits.Goals as goal
 pub loop-i-init : goal.loop-i-init
 loop-i-init c = (search rules, refl, tested_start _ _)
 
-pub returns-then-w-alive : goal.returns-then-w-alive
-returns-then-w-alive c = λ e. absurd (true_not_false _ e refl)
+pub returns-then-is_other : goal.returns-then-is_other
+returns-then-is_other c = λ e. absurd (true_not_false _ e refl)
 
 pub loop-i-preserved : goal.loop-i-preserved
 loop-i-preserved c = let at = c.loop-i in
-    (search rules, at.invariant.1, tested_turn _ _ _ _ at.invariant.2 c.loop-i-test.true c.word_at-w.ensures c.if-w-alive.false)
+    (search rules, at.invariant.1, tested_turn _ _ _ _ at.invariant.2 c.loop-i-test.true c.word_at-w.ensures c.if-is_other.false)
 
 pub returns : goal.returns
 returns c = λ e.
