@@ -7,7 +7,6 @@ use reference::second::planning::printed;
 use reference::second::set::Content;
 use std::fs::File;
 use std::io::Write;
-use std::os::unix::process::ExitStatusExt;
 use std::path::PathBuf;
 use std::process::{Child, Command, Output, Stdio};
 use std::time::{Duration, Instant};
@@ -205,13 +204,11 @@ fn a_pipe_that_nobody_reads() {
     drop(child.stdout.take());
     child.stdin.take().unwrap().write_all(&set).unwrap();
     tells_of_its_output(&ended(child));
-    // and else the signal of a broken pipe ends the printer, as it ends every program; nothing but that signal may
+    // and where it is not: the printer's own runtime ignores it
     let mut child = started(Command::new(printer()));
     drop(child.stdout.take());
     child.stdin.take().unwrap().write_all(&set).unwrap();
-    let status = ended(child).status;
-    const BROKEN_PIPE: i32 = 13;
-    assert_eq!(status.signal(), Some(BROKEN_PIPE), "{status:?}");
+    tells_of_its_output(&ended(child));
 }
 
 #[test]
