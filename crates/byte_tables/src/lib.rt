@@ -42,7 +42,7 @@ pub fn fill_table(table: &mut [u64], words: &[u64])
 }
 
 // The XOR of the table's entries for the eight bytes of x. By the table of some words that is the XOR of those of them that x marks
-// (proofs/TableLaws.antt, looked-marked).
+// (proofs/TableLaws.antt, looked_marked).
 pub fn looked_up(table: &[u64; 2048], x: u64) -> u64
     ensures { result ≡ looked table.now x 8 }
 {

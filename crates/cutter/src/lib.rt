@@ -124,7 +124,7 @@ fn slices_number(slices: Slices) -> u64
 
 // Cutting of document 02. Answers with the number of runs and the control bits in all, m × k for each run, and writes the first slice of
 // each run over the front of `cuts`. Meets the set's numbers, then 26, 27 and 28. A refusal writes nothing. The set's values change nothing
-// of what it answers and writes (proofs/Theorems.antt, same-cut-reply, same-cuts-after).
+// of what it answers and writes (proofs/Theorems.antt, same_cut_reply, same_cuts_after).
 pub fn cut(set: &[u8], k: u64, cuts: &mut [u64]) -> Cutting
     ensures answer { said_cut result ≡ cut_reply set.now k (length cuts.old) }
     ensures cuts { cuts.new ≡ cuts_after set.now k cuts.old }

@@ -1,6 +1,6 @@
 -- Number 16, taken out. Document 01: "16. The elimination would hold more than m independent columns."; "The elimination meets 2 and 15 to
 -- 18". Document 02, No. 4: "Show that 16 cannot come up, then take it out; the number isn't given to anything else." That it cannot come up is
--- proofs/Theorems rank-most; here, that taking it out changes nothing. What is defined here is how the call was: no contract and no other
+-- proofs/Theorems rank_most; here, that taking it out changes nothing. What is defined here is how the call was: no contract and no other
 -- definition names it.
 --
 --   tests_with_sixteen m cs k   document 01's numbers of the call, in order, for a lent list of k places

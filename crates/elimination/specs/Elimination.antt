@@ -1,5 +1,5 @@
 -- The elimination call. Document 01: "The elimination meets 2 and 15 to 18 and answers with the rank and q." Document 02, No. 4:
--- "Show that 16 cannot come up, then take it out; the number isn't given to anything else." Shown in proofs/Theorems (rank-most) and
+-- "Show that 16 cannot come up, then take it out; the number isn't given to anything else." Shown in proofs/Theorems (rank_most) and
 -- proofs/Sixteen; so it meets 2, 15, 17 and 18.
 --
 --   Counts               what it answers: the rank and q

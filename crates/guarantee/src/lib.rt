@@ -77,7 +77,7 @@ fn judge_signed(set: &[u8], response: &[u8], plan: &[u8]) -> Judged
 // Judges a record by the plan of its set: planning, the plan writer, the record's signature and judging, in turn. Answers with
 // the cancelled bits and the verdict. `working` and `words` are as planning leaves them, and `file` as the plan writer does.
 // Meets planning's numbers (the set's, then 14, 17 and 18), then the writer's 24, then the record's 12 and 13; where planning and
-// signing answer and the output has room for the plan, it answers (proofs/WorkLaws.antt, record-judged).
+// signing answer and the output has room for the plan, it answers (proofs/WorkLaws.antt, record_judged).
 pub fn judge_record(
     set: &[u8],
     response: &[u8],

@@ -27,7 +27,7 @@ pub fn byte_table(words: &[u64]) -> [u64; 2048]
 }
 
 // The place of the first column, from place `from` on, for which the table doesn't give 0; the end where none is. By the table of some
-// words that is the first column that is odd with one of them (proofs/SkipLaws.antt, table-run).
+// words that is the first column that is odd with one of them (proofs/SkipLaws.antt, table_run_lem).
 pub fn skip_by_table(table: &[u64; 2048], columns: &[u64], from: usize) -> usize
     ensures { result ≡ from + table_run table.now (drop from columns.now) }
 {

@@ -17,7 +17,7 @@ enum Input {
 }
 
 // So many bytes of the input are read: one more than the longest set has. A longer input prints what these print (plan_text,
-// proofs/InputLaws.antt, long-printed).
+// proofs/InputLaws.antt, long_printed).
 const MOST_BYTES: usize = 36633;
 
 // Document 01: "It lends 4,096 column places"; document 02, No. 3: "The printer still lends 4,096 and prints 14 no more."

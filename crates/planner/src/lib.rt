@@ -34,7 +34,7 @@ struct Made {
 }
 
 // The words of a taken set. Past the set's numbers it meets 14, 17 and 18. The set's values change nothing of what it answers and leaves
-// (proofs/Revised.antt, same-words-reply, same-working-after).
+// (proofs/Revised.antt, same_words_reply, same_working_after).
 fn fill_words(taken: Taken, set: &[u8], working: &mut [u64], words: &mut [u64]) -> Worded
     ensures { TakenFrom set.now taken → (said_worded result ≡ words_reply set.now (length working.old) (length words.old)) × ((working.new ≡ working_left set.now working.old) × (words.new ≡ lent (words_reply set.now (length working.old) (length words.old)) (words_of set.now) words.old)) }
 {
@@ -104,7 +104,7 @@ fn words_number(worded: Worded) -> u64
     }
 }
 
-// Planning of document 01: the words, then the expected bits for them (proofs/InARow.antt, plan-in-a-row); the set is read once for
+// Planning of document 01: the words, then the expected bits for them (proofs/InARow.antt, plan_in_a_row); the set is read once for
 // both. Answers with m, q and the expected bits, and writes the q words over the front of `words`. Meets the set's numbers, then 14, 17
 // and 18. A refusal writes nothing, but that past 14 the first places of `working`, 64 and one for each named symbol, hold 0.
 pub fn plan(set: &[u8], working: &mut [u64], words: &mut [u64]) -> Planned

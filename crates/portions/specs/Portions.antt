@@ -62,7 +62,7 @@ pub record SliceDone (m taps s : ℕ) (list : List ℕ) (rows : Rows) (ps : List
   pub passes : length ps ≡ 256 → (r ≡ t - 1) × (ws' ≡ cond (eqb ((s - t) % 8) 7) (map (looked_on m ps 8) ws) ws)
   pub skips : length ps ≡ 576 → (r ≡ last_marked list rows (t - 1)) × (ws' ≡ ws)
 
--- of n chains r .chains are left, and only the places from r.place on have changed; with 64 places fewer chains are left than there were
+-- of n chains r.chains are left, and only the places from r.place on have changed; with 64 places fewer chains are left than there were
 pub record RowFits (n : ℕ) (l l' : List ℕ) (r : Fitted) : Type 0 where
   pub chains : r.chains ≤ n
   pub place : r.place ≤ length l

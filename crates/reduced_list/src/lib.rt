@@ -22,7 +22,7 @@ pub fn with_highest(seen: u64, w: u64) -> u64
     seen | (1u64 << word::highest_bit(w))
 }
 
-// Whether the words are a reduced list for m, by one pass over them (proofs/TopLaws.antt, tops-exactly). The words ascend, so their
+// Whether the words are a reduced list for m, by one pass over them (proofs/TopLaws.antt, tops_exactly). The words ascend, so their
 // highest bits are asked once, behind the last, whether one is at or above m.
 pub fn is_reduced(m: u64, words: &[u64]) -> bool
     ensures { result ≡ is_reduced m words.now }

@@ -92,7 +92,7 @@ fn one_if_set(flag: u64) -> u64
     if flag == 0 { 0 } else { 1 }
 }
 
-// The number of flags that aren't 0. Over the flags of all entries of ties it is the number of named symbols (proofs/FlagLaws, flags-counted).
+// The number of flags that aren't 0. Over the flags of all entries of ties it is the number of named symbols (proofs/FlagLaws, flags_counted).
 pub fn count_flags(flags: &[u64]) -> u64
     ensures { result ≡ total (length flags.now) (λ i. cond (eqb (get_or flags.now i 0) 0) 0 1) }
 {
