@@ -3,7 +3,7 @@ use mathlib.Core.Path.{◌≡◌, refl, sym, ap, ap₂, ◌∙◌}
 use mathlib.Core.List.{List, [], ◌∷◌, ◌++◌, append_assoc}
 use Prim.Native.Nat.{ℕ, zero, suc, ◌+◌, ◌*◌, ◌/◌, ◌%◌, ◌^◌, ◌≤◌, ◌<◌}
 use native.Mathlib.Omega.{arith}
-use native.Mathlib.Nat.{mul-le-mul_right, add-zero, add-suc, suc-add, pow-suc, mod-lt, mod-one, one-le-pow, div-div-eq-div-mul, le_of_suc-le-suc}
+use native.Mathlib.Nat.{mul-le-mul_right, add-zero, add-suc, suc-add, pow-suc, mod-lt, mod-one, one-le-pow, le_of_suc-le-suc}
 use native.Mathlib.Numerals.{add-one, towards_suc}
 use lib.Arith.{mod-mul}
 use lib.Dec.{lit<}
@@ -120,20 +120,6 @@ number_at_bytes k x a b = number_at_append k a (bytes_of k x) b (bytes_of_length
 pub sets_past_end : (vs l : List ℕ) (i : ℕ) → length l ≤ i → sets l i vs ≡ l
 sets_past_end [] l i h = refl
 sets_past_end (v ∷ vs) l i h = rw (set_out l i v h) (sets_past_end vs l (suc i) (omega arith))
-
--- a word is written as four counts
--- eight bytes written one by one are a word
-pub sets_eight : (l : List ℕ) (i x : ℕ)
-    → set (set (set (set (set (set (set (set l i (x % 256)) (i + 1) (x / 256 % 256)) (i + 2) (x / 256 / 256 % 256)) (i + 3) (x / 256 / 256 / 256 % 256)) (i + 4) (x / 256 / 256 / 256 / 256 % 256)) (i + 5) (x / 256 / 256 / 256 / 256 / 256 % 256)) (i + 6) (x / 256 / 256 / 256 / 256 / 256 / 256 % 256)) (i + 7) (x / 256 / 256 / 256 / 256 / 256 / 256 / 256 % 256)
-    ≡ sets l i (bytes_of 8 x)
-unfolding bytes_of
-sets_eight l i x = simp towards_suc refl
-
-pub sets_word : (l : List ℕ) (i x : ℕ)
-    → sets l i (bytes_of 8 x)
-    ≡ sets (sets (sets (sets l i (bytes_of 2 x)) (i + 2) (bytes_of 2 (x / 65536))) (i + 4) (bytes_of 2 (x / 4294967296))) (i + 6) (bytes_of 2 (x / 281474976710656))
-unfolding bytes_of
-sets_word l i x = simp (towards_suc, div-div-eq-div-mul)
 
 -- one write after another is a write of both
 pub sets_append : (a b l : List ℕ) (i : ℕ) → sets l i (a ++ b) ≡ sets (sets l i a) (i + length a) b
