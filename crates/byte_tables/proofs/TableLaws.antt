@@ -11,7 +11,7 @@ use native.Mathlib.Omega.{arith}
 use lib.Bits.{bit_xor, xor_comm, xor_shifted}
 use lib.ListN.{length, get_or, set, length-set}
 use lib.Seq.{get_or-set_same, get_or-set_other}
-use lib.Pow.{pow-add, pow_pos, pow_mono, shr-shr, mod-pow-add, shl_exact}
+use lib.Pow.{pow-add, pow_pos, pow_mono, mod-pow-add, shl_exact}
 use Rattle.word.specs.Doubled.{Doubled}
 use Rattle.word.specs.Marked.{xor_marked}
 use Rattle.word.proofs.WordLaws.{xor_scaled}
@@ -108,24 +108,10 @@ pub looked_start : (table : List ℕ) (c : ℕ) → 0 ≡ looked table c 0
 unfolding looked
 looked_start table c = refl
 
-pub rest_start : (c : ℕ) → c ≡ c / 2 ^ (8 * 0)
-rest_start c = omega arith
-
-pub looked_turn : (table : List ℕ) (c b all rest : ℕ) → all ≡ looked table c b → rest ≡ c / 2 ^ (8 * b)
-    → bit_xor all (get_or table (256 * b + rest % 256) 0) ≡ looked table c (b + 1)
+pub looked_turn : (table : List ℕ) (c b all : ℕ) → all ≡ looked table c b
+    → bit_xor all (get_or table (256 * b + c / 2 ^ (8 * b) % 256) 0) ≡ looked table c (b + 1)
 unfolding looked
-looked_turn table c b all rest e er =
-    ap₂ (λ (x y : ℕ). bit_xor x (get_or table (256 * b + y % 256) 0)) e er ∙ ap (looked table c) (sym (add-one b))
-
-pub rest_turn : (c b rest : ℕ) → rest ≡ c / 2 ^ (8 * b) → rest / 256 ≡ c / 2 ^ (8 * (b + 1))
-rest_turn c b rest e =
-    let more : 8 * b + 8 ≡ 8 * (b + 1) = omega arith in
-    ap (λ (x : ℕ). x / 256) e ∙ shr-shr c (8 * b) 8 ∙ ap (λ (x : ℕ). c / 2 ^ x) more
-
-pub looked_end : (table : List ℕ) (c b all : ℕ) → all ≡ looked table c b → b ≤ 8 → 8 ≤ b → all ≡ looked table c 8
-looked_end table c b all e l h =
-    let last : b ≡ 8 = omega arith in
-    e ∙ ap (looked table c) last
+looked_turn table c b all e = ap (λ (x : ℕ). bit_xor x (get_or table (256 * b + c / 2 ^ (8 * b) % 256) 0)) e ∙ ap (looked table c) (sym (add-one b))
 
 module _ (ws table : List ℕ) (right : ByteTable ws table) where
   looked_low : (c b : ℕ) → b ≤ 8 → looked table c b ≡ xor_marked ws (c % 2 ^ (8 * b))

@@ -20,11 +20,9 @@ fn fill_byte(table: &mut [u64], words: &[u64], e: usize, i: usize)
     ensures { Filled words.now table.old table.new e i 256 }
 {
     table[e] = 0;
-    let mut t: usize = 0;
-    while t < 8 {
+    for t in 0..8 {
         let w = word::word_at(words, i + t);
-        word::double_entries(table, e, 1usize << t, w);
-        t += 1;
+        word::double_entries(table, e, 1 << t, w);
     }
 }
 
@@ -34,10 +32,8 @@ pub fn fill_table(table: &mut [u64], words: &[u64])
     requires { 2048 ≤ length table.old }
     ensures { ByteTable words.now table.new }
 {
-    let mut b: usize = 0;
-    while b < 8 {
+    for b in 0..8 {
         fill_byte(table, words, 256 * b, 8 * b);
-        b += 1;
     }
 }
 
@@ -47,12 +43,8 @@ pub fn looked_up(table: &[u64; 2048], x: u64) -> u64
     ensures { result ≡ looked table.now x 8 }
 {
     let mut all: u64 = 0;
-    let mut rest = x;
-    let mut b: usize = 0;
-    while b < 8 {
-        all = all ^ table[256 * b + (rest % 256) as usize];
-        rest = rest / 256;
-        b += 1;
+    for b in 0..8 {
+        all ^= table[256 * b + (x >> (8 * b)) as usize % 256];
     }
     all
 }

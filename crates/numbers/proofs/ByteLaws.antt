@@ -1,16 +1,13 @@
 -- Numbers in a list of bytes: reading one byte on, how large a number is, and that what is written is read back.
 use mathlib.Core.Path.{◌≡◌, refl, sym, ap, ap₂, ◌∙◌}
 use mathlib.Core.List.{List, [], ◌∷◌, ◌++◌, append_assoc}
-use mathlib.Core.Logic.{◌⊎◌, inl, inr, ⊎_elim, dite}
-use Prim.Native.Nat.{ℕ, zero, suc, ◌+◌, ◌-◌, ◌*◌, ◌/◌, ◌%◌, ◌^◌, ◌≤◌, ◌<◌, min}
+use Prim.Native.Nat.{ℕ, zero, suc, ◌+◌, ◌*◌, ◌/◌, ◌%◌, ◌^◌, ◌≤◌, ◌<◌}
 use native.Mathlib.Omega.{arith}
-use native.Mathlib.Nat.{add-zero, add-suc, suc-add, pow-suc, mod-lt, mod-one, one-le-pow, div-div-eq-div-mul, le_of_suc-le-suc, lt_of_lt_of_le}
-use native.Mathlib.Decide.{dec_lt}
+use native.Mathlib.Nat.{mul-le-mul_right, add-zero, add-suc, suc-add, pow-suc, mod-lt, mod-one, one-le-pow, le_of_suc-le-suc}
 use native.Mathlib.Numerals.{add-one, towards_suc}
 use lib.Arith.{mod-mul}
 use lib.Dec.{lit<}
 use lib.ListN.{length, get_or, set, take, drop, length-append, drop_of_length-le}
-use lib.Pow.{pow_mono, pow-add}
 use lib.Seq.{drop-drop, take-nil, take_at, get_or-take, drop-append_seam, sets, set_out}
 use Rattle.numbers.specs.Bytes.{number, number_at, count_at, word_at, words_at, bytes_of, word_bytes}
 
@@ -64,43 +61,24 @@ word_of_bytes s i = simp towards_suc (number_of_bytes 8 s i)
 
 -- ---- a word, from its last byte on
 
--- of the 8 bytes at place i those from place i + k on make w; a byte past the end counts as 0
-abbrev pub Numbered : List ℕ → ℕ → ℕ → ℕ → Type 0
-Numbered s i k w = (k ≤ 8) × (i + k ≤ length s) × (w ≡ number_at (8 - k) s (i + k)) × (w < 2 ^ (8 * (8 - k)))
-
-pub numbered_start : (s : List ℕ) (i k : ℕ) → i < length s → k ≡ min (length s - i) 8 → Numbered s i k 0
-numbered_start s i k h e = (
-  omega (arith, e),
-  omega (arith, e, h),
-  sym (⊎_elim (λ (z : k ≡ 8). ap (λ (x : ℕ). number_at x s (i + k)) (omega (arith, z)) ∙ number_at_zero s (i + k)) (λ (z : length s ≤ i + k). number_at_end (8 - k) s (i + k) z) full),
-  one-le-pow (8 * (8 - k)) 2 (omega arith),
-)
+-- a byte moves from the end of the bytes that are left into the number of those behind it
+pub number_moved : (r : List ℕ) (b w : ℕ) → number (r ++ b ∷ []) + 256 ^ length (r ++ b ∷ []) * w ≡ number r + 256 ^ length r * (256 * w + b)
+unfolding number
+number_moved [] b w = omega arith
+number_moved (a ∷ r) b w = step (number (r ++ b ∷ [])) (number r) (length (r ++ b ∷ [])) (length r) (number_moved r b w)
   where
-    full : (k ≡ 8) ⊎ (length s ≤ i + k)
-    full = dite (dec_lt (length s - i) 8) (λ (z : length s - i < 8). inr (omega (arith, e, h, z))) (λ (z : length s - i < 8 → ⊥). inl (omega (arith, e, z)))
+    step : (x y n m : ℕ) → x + 256 ^ n * w ≡ y + 256 ^ m * (256 * w + b) → a + 256 * x + 256 ^ suc n * w ≡ a + 256 * y + 256 ^ suc m * (256 * w + b)
+    step x y n m e = rw (pow-suc 256 n, pow-suc 256 m) (omega arith)
 
-pub numbered_small : (s : List ℕ) (i k w : ℕ) → Numbered s i k w → 0 < k → w < 2 ^ 56
-numbered_small s i k w n h =
-    let few : 8 * (8 - k) ≤ 56 = omega (arith, h) in
-    lt_of_lt_of_le n.3 (pow_mono few)
+-- .. and that number is no larger than all of them
+pub number_within : (r : List ℕ) (w x : ℕ) → number r + 256 ^ length r * w ≡ x → w ≤ x
+number_within r w x e = omega (arith, mul-le-mul_right w (one-le-pow (length r) 256 (omega arith)))
 
-pub numbered_turn : (s : List ℕ) (i k w b : ℕ) → Numbered s i k w → 0 < k → b ≡ get_or s (i + (k - 1)) 0 → b < 256 → Numbered s i (k - 1) (256 * w + b)
-numbered_turn s i zero w b n h e l = let z : ⊥ = omega arith in absurd z
-numbered_turn s i (suc k) w b n h e l =
-    let more : 8 - (suc k - 1) ≡ suc (8 - suc k) = omega (arith, n.0) in
-    let next : i + suc k ≡ suc (i + (suc k - 1)) = omega arith in
-    let step : number_at (suc (8 - suc k)) s (i + (suc k - 1)) ≡ get_or s (i + (suc k - 1)) 0 + 256 * number_at (8 - suc k) s (suc (i + (suc k - 1))) = number_at_suc (8 - suc k) s (i + (suc k - 1)) in
-    let here : w ≡ number_at (8 - suc k) s (suc (i + (suc k - 1))) = n.2 ∙ ap (number_at (8 - suc k) s) next in
-    let split : 8 * suc (8 - suc k) ≡ 8 * (8 - suc k) + 8 = omega arith in
-    let whole : 2 ^ (8 * suc (8 - suc k)) ≡ 2 ^ (8 * (8 - suc k)) * 256 = ap (λ (x : ℕ). 2 ^ x) split ∙ pow-add 2 (8 * (8 - suc k)) 8 in (
-      omega (arith, n.0),
-      omega (arith, n.1),
-      omega (arith, step, here, e, ap (λ (x : ℕ). number_at x s (i + (suc k - 1))) more),
-      omega (arith, whole, n.3, l, ap (λ (x : ℕ). 2 ^ (8 * x)) more),
-    )
-
-pub numbered_done : (s : List ℕ) (i k w : ℕ) → Numbered s i k w → k ≡ 0 → w ≡ word_at s i
-numbered_done s i k w n z = n.2 ∙ ap₂ (λ (x y : ℕ). number_at x s y) (omega (arith, z)) (omega (arith, z))
+-- .. until none is left
+pub number_whole : (r : List ℕ) (w x : ℕ) → length r ≡ 0 → number r + 256 ^ length r * w ≡ x → w ≡ x
+unfolding number
+number_whole [] w x h e = omega arith
+number_whole (a ∷ r) w x h e = let z : ⊥ = omega arith in absurd z
 
 pub bytes_of_length : (k x : ℕ) → length (bytes_of k x) ≡ k
 unfolding bytes_of
@@ -142,20 +120,6 @@ number_at_bytes k x a b = number_at_append k a (bytes_of k x) b (bytes_of_length
 pub sets_past_end : (vs l : List ℕ) (i : ℕ) → length l ≤ i → sets l i vs ≡ l
 sets_past_end [] l i h = refl
 sets_past_end (v ∷ vs) l i h = rw (set_out l i v h) (sets_past_end vs l (suc i) (omega arith))
-
--- a word is written as four counts
--- eight bytes written one by one are a word
-pub sets_eight : (l : List ℕ) (i x : ℕ)
-    → set (set (set (set (set (set (set (set l i (x % 256)) (i + 1) (x / 256 % 256)) (i + 2) (x / 256 / 256 % 256)) (i + 3) (x / 256 / 256 / 256 % 256)) (i + 4) (x / 256 / 256 / 256 / 256 % 256)) (i + 5) (x / 256 / 256 / 256 / 256 / 256 % 256)) (i + 6) (x / 256 / 256 / 256 / 256 / 256 / 256 % 256)) (i + 7) (x / 256 / 256 / 256 / 256 / 256 / 256 / 256 % 256)
-    ≡ sets l i (bytes_of 8 x)
-unfolding bytes_of
-sets_eight l i x = simp towards_suc refl
-
-pub sets_word : (l : List ℕ) (i x : ℕ)
-    → sets l i (bytes_of 8 x)
-    ≡ sets (sets (sets (sets l i (bytes_of 2 x)) (i + 2) (bytes_of 2 (x / 65536))) (i + 4) (bytes_of 2 (x / 4294967296))) (i + 6) (bytes_of 2 (x / 281474976710656))
-unfolding bytes_of
-sets_word l i x = simp (towards_suc, div-div-eq-div-mul)
 
 -- one write after another is a write of both
 pub sets_append : (a b l : List ℕ) (i : ℕ) → sets l i (a ++ b) ≡ sets (sets l i a) (i + length a) b

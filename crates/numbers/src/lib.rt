@@ -8,27 +8,21 @@ ghost use Rattle.numbers.specs.Bytes.{number, count_at, word_at};
 pub fn wide(b: u8) -> u64
     ensures { (result ≡ b) × (result < 256) }
 {
-    b as u64
+    u64::from(b)
 }
 
 // The byte of s at place i; 0 past the end.
 pub fn byte_at(s: &[u8], i: usize) -> u8
     ensures { result ≡ get_or s.now i 0 }
 {
-    if i < s.len() { s[i] } else { 0 }
+    s.get(i).copied().unwrap_or(0)
 }
 
 // The place `step` places after `at`, and no further than `end`.
 pub fn moved(at: usize, step: usize, end: usize) -> usize
     ensures { result ≡ min (at + step) end }
 {
-    if end <= at {
-        return end;
-    }
-    if end - at < step {
-        return end;
-    }
-    at + step
+    at.saturating_add(step).min(end)
 }
 
 // The `count` bytes at place `at`, as far as they are there.
@@ -52,39 +46,14 @@ pub fn read_count(s: &[u8], i: usize) -> u64
     low + 256 * high
 }
 
-// The word with these eight bytes, the lowest first.
-fn word_of(b0: u8, b1: u8, b2: u8, b3: u8, b4: u8, b5: u8, b6: u8, b7: u8) -> u64
-    ensures { result ≡ number (b0 ∷ b1 ∷ b2 ∷ b3 ∷ b4 ∷ b5 ∷ b6 ∷ b7 ∷ []) }
-{
-    let w = b7 as u64;
-    let w = 256 * w + b6 as u64;
-    let w = 256 * w + b5 as u64;
-    let w = 256 * w + b4 as u64;
-    let w = 256 * w + b3 as u64;
-    let w = 256 * w + b2 as u64;
-    let w = 256 * w + b1 as u64;
-    256 * w + b0 as u64
-}
-
-fn at_most_8(n: usize) -> usize
-    ensures { result ≡ min n 8 }
-{
-    if n < 8 { n } else { 8 }
-}
-
 // The word of 8 bytes of s at place i, low byte first; a byte past the end counts as 0. It goes over the bytes that are there,
 // from the last one on, and is for places where fewer than 8 may be left.
 pub fn read_short_word(s: &[u8], i: usize) -> u64
     ensures { result ≡ word_at s.now i }
 {
-    if s.len() <= i {
-        return 0;
-    }
-    let mut k = at_most_8(s.len() - i);
     let mut w: u64 = 0;
-    while 0 < k {
-        k -= 1;
-        w = 256 * w + wide(s[i + k]);
+    for b in part(s, i, 8).iter().rev() {
+        w = 256 * w + u64::from(*b);
     }
     w
 }
@@ -94,7 +63,7 @@ pub fn eight_bytes(s: &[u8], i: usize) -> u64
     requires { i + 8 ≤ length s.now }
     ensures { result ≡ word_at s.now i }
 {
-    word_of(
+    u64::from_le_bytes([
         s[i],
         s[i + 1],
         s[i + 2],
@@ -103,7 +72,7 @@ pub fn eight_bytes(s: &[u8], i: usize) -> u64
         s[i + 5],
         s[i + 6],
         s[i + 7],
-    )
+    ])
 }
 
 // The word of 8 bytes of s at place i, low byte first; a byte past the end counts as 0.
@@ -123,5 +92,5 @@ pub fn read_word(s: &[u8], i: usize) -> u64
 pub fn shorter(a: usize, b: usize) -> usize
     ensures { result ≡ min a b }
 {
-    if a < b { a } else { b }
+    a.min(b)
 }

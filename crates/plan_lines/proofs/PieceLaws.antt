@@ -47,14 +47,12 @@ refused_line_put n p p₂ = number_put (decimal n) newline p p₂
 -- before word i: what the lines from it on make of the list is what all lines make of the list at the start
 abbrev pub Lining : List ℕ → ℕ → List ℕ → ℕ → List ℕ → ℕ → ℕ → ℕ → Type 0
 Lining l₀ at ws e l place bits i =
-    (i ≤ length ws)
-    × (length l ≡ length l₀)
-    × (place ≤ length l)
+    (place ≤ length l)
     × (bits ≡ e / 2 ^ i)
     × ((r : ℕ) (l' : List ℕ) → Put l place (word_lines i (drop i ws) e) r l' → Put l₀ at (word_lines 0 ws e) r l')
 
 pub lining_start : (l : List ℕ) (at : ℕ) (ws : List ℕ) (e place : ℕ) → place ≡ min (at + 0) (length l) → Lining l at ws e l place e 0
-lining_start l at ws e place h = (omega arith, refl, omega arith, omega arith, λ r l' p. put_then (put_nothing l at place h) p)
+lining_start l at ws e place h = (omega arith, omega arith, λ r l' p. put_then (put_nothing l at place h) p)
 
 next_line : (ws : List ℕ) (e i : ℕ) → i < length ws → word_lines i (drop i ws) e ≡ word_line i (get_or ws i 0) (digit i e) ++ word_lines (suc i) (drop (suc i) ws) e
 unfolding word_lines
@@ -68,20 +66,18 @@ pub lining_turn : (l₀ : List ℕ) (at : ℕ) (ws : List ℕ) (e : ℕ) (l : Li
     → length l₁ ≡ length l → Put l place (word_line i (get_or ws i 0) (bits % 2)) next l₁ → Lining l₀ at ws e l₁ next (bits / 2) (i + 1)
 lining_turn l₀ at ws e l place bits i l₁ next inv h long p =
     subst (Lining l₀ at ws e l₁ next (bits / 2)) (sym (add-one i)) (
-      omega arith,
-      long ∙ inv.1,
       omega (arith, p.place, long),
-      ap (◌/ 2) inv.3 ∙ shr-shr e i 1 ∙ ap (λ (n : ℕ). e / 2 ^ n) (add-one i),
+      ap (◌/ 2) inv.1 ∙ shr-shr e i 1 ∙ ap (λ (n : ℕ). e / 2 ^ n) (add-one i),
       λ r l' q.
-          inv.4 r l'
+          inv.2 r l'
           (subst (λ (x : List ℕ). Put l place x r l')
-          (ap (λ (b : ℕ). word_line i (get_or ws i 0) (b % 2) ++ word_lines (suc i) (drop (suc i) ws) e) inv.3 ∙ sym (next_line ws e i h))
+          (ap (λ (b : ℕ). word_line i (get_or ws i 0) (b % 2) ++ word_lines (suc i) (drop (suc i) ws) e) inv.1 ∙ sym (next_line ws e i h))
           (put_then p q)),
     )
 
 pub lining_end : (l₀ : List ℕ) (at : ℕ) (ws : List ℕ) (e : ℕ) (l : List ℕ) (place bits i : ℕ) → Lining l₀ at ws e l place bits i → length ws ≤ i
     → Put l₀ at (word_lines 0 ws e) place l
 lining_end l₀ at ws e l place bits i inv h =
-    inv.4 place l
+    inv.2 place l
     (subst (λ (x : List ℕ). Put l place x place l)
-    (sym (ap (λ (x : List ℕ). word_lines i x e) (drop_of_length-le ws h) ∙ no_line i e)) (put_nothing l place place (omega (arith, inv.2))))
+    (sym (ap (λ (x : List ℕ). word_lines i x e) (drop_of_length-le ws h) ∙ no_line i e)) (put_nothing l place place (omega (arith, inv.0))))

@@ -42,11 +42,9 @@ pub fn put_word_lines(out: &mut [u8], at: usize, words: &[u64], expected: u64) -
 {
     let mut place = numbers::moved(at, 0, out.len());
     let mut bits = expected;
-    let mut i: usize = 0;
-    while i < words.len() {
-        place = put_word_line(out, place, i as u64, words[i], bits % 2);
+    for (i, w) in words.iter().enumerate() {
+        place = put_word_line(out, place, i as u64, *w, bits % 2);
         bits /= 2;
-        i += 1;
     }
     place
 }

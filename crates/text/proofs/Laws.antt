@@ -1,37 +1,13 @@
--- The start, turn and end of the loops that put bytes and make digits. Assumes nothing.
+-- The start, turn and end of the loop that makes digits. Assumes nothing.
 use mathlib.Core.Path.{◌≡◌, sym, ap, ap₂, ◌∙◌, subst}
 use mathlib.Core.List.{List, [], ◌∷◌, ◌++◌, append_assoc, append-nil}
-use Prim.Native.Nat.{ℕ, zero, suc, min, ◌+◌, ◌-◌, ◌/◌, ◌%◌, ◌^◌, ◌<◌, ◌≤◌}
-use native.Mathlib.Nat.{add-zero, add-suc, pow-suc}
-use native.Mathlib.Numerals.{add-one}
+use Prim.Native.Nat.{ℕ, zero, suc, ◌+◌, ◌-◌, ◌/◌, ◌%◌, ◌^◌, ◌<◌, ◌≤◌}
+use native.Mathlib.Nat.{pow-suc}
 use native.Mathlib.Omega.{arith}
-use lib.ListN.{length, get_or, set, take, drop, length-set, length-drop, drop_of_length-le}
-use lib.Seq.{sets, take_all, drop-cons, drop-set-lt, get_or-set_same}
-use Rattle.numbers.proofs.ByteLaws.{sets_past_end}
-use Rattle.text.specs.Text.{digits_in, decimal, Put}
+use lib.ListN.{length, set, drop, length-set, drop_of_length-le}
+use lib.Seq.{drop-cons, drop-set-lt, get_or-set_same}
+use Rattle.text.specs.Text.{digits_in, decimal}
 use Rattle.text.proofs.DecimalLaws.{digits_more, digits_last}
-
--- ---- bytes
-
-pub put_past : (l vs : List ℕ) (at : ℕ) → length l < at → Put l at vs (length l) l
-put_past l vs at h = record { place = omega arith; bytes = sym (sets_past_end vs l at (omega arith)) }
-
-pub put_start : (l vs : List ℕ) (at : ℕ) → sets l (at + 0) vs ≡ sets l at vs
-put_start l vs at = ap (λ (n : ℕ). sets l n vs) (add-zero at)
-
-pub put_turn : (l vs ws : List ℕ) (at i : ℕ) (done : List ℕ) → i < length vs → sets ws (at + i) (drop i vs) ≡ done
-    → l ≡ set ws (at + i) (get_or vs i 0) → sets l (at + (i + 1)) (drop (i + 1) vs) ≡ done
-put_turn l vs ws at i done h inv e =
-    ap₂ (λ (x y : ℕ). sets l x (drop y vs)) (ap (at +◌) (add-one i) ∙ add-suc at i) (add-one i)
-    ∙ ap (λ (x : List ℕ). sets x (suc (at + i)) (drop (suc i) vs)) e
-    ∙ ap (sets ws (at + i)) (sym (drop-cons vs i 0 h)) ∙ inv
-
-pub put_end : (l vs ws : List ℕ) (at i r : ℕ) → i ≤ length vs → length vs ≤ i → length ws ≡ length l → sets ws (at + i) (drop i vs) ≡ sets l at vs
-    → r ≡ min (at + i) (length ws) → Put l at vs r ws
-put_end l vs ws at i r a b h inv e =
-    record { place = omega arith; bytes = ap (sets ws (at + i)) (sym (drop_of_length-le vs b)) ∙ inv }
-
--- ---- digits
 
 pub record Digiting (n : ℕ) (bytes : List ℕ) (left i : ℕ) : Type 0 where
   pub low : 1 ≤ i
@@ -97,8 +73,3 @@ pub digiting_end : (n : ℕ) (bytes : List ℕ) (left i : ℕ) → Digiting n by
 digiting_end n bytes left i d h =
     let e : i ≡ suc (i - 1) = omega (arith, d.low) in
     end_at n bytes left (i - 1) (subst (Digiting n bytes left) e d) h
-
-pub decimal_put : {l : List ℕ} {at : ℕ} (bytes : List ℕ) (from n : ℕ) {r : ℕ} {l' : List ℕ} → length bytes ≡ 20 → drop from bytes ≡ decimal n
-    → Put l at (take (20 - from) (drop from bytes)) r l' → Put l at (decimal n) r l'
-decimal_put {l = l} {at = at} bytes from n {r = r} {l' = l'} long e p =
-    subst (λ (vs : List ℕ). Put l at vs r l') (take_all (20 - from) (drop from bytes) (omega (arith, length-drop from bytes)) ∙ e) p

@@ -9,15 +9,8 @@ ghost use Rattle.text.specs.Text.{decimal, Put};
 pub fn put(out: &mut [u8], at: usize, text: &[u8]) -> usize
     ensures { Put out.old at text.now result out.new }
 {
-    if out.len() < at {
-        return out.len();
-    }
-    let mut i: usize = 0;
-    while i < text.len() {
-        written_numbers::write_byte(out, at + i, text[i]);
-        i += 1;
-    }
-    numbers::moved(at, i, out.len())
+    written_numbers::write_bytes(out, at, text);
+    numbers::moved(at, text.len(), out.len())
 }
 
 // A number's digits at the end of 20 bytes: they start at place `from`.
@@ -27,25 +20,20 @@ struct Digits {
     from: usize,
 }
 
-fn no_digits() -> [u8; 20]
-    ensures { length result ≡ 20 }
-{
-    [0u8; 20]
-}
-
 fn digits_of(n: u64) -> Digits
     ensures { (length result.bytes ≡ 20) × (result.from ≤ 20) × (drop result.from result.bytes ≡ decimal n) }
 {
-    let mut bytes = no_digits();
+    let mut bytes = [0; 20];
     let mut left = n;
     let mut i: usize = 20;
+    // no plainer: the loop ends at the number's last digit, and its count is the answer
     while 9 < left {
         i -= 1;
-        bytes[i] = (48 + left % 10) as u8;
+        bytes[i] = b'0' + (left % 10) as u8;
         left /= 10;
     }
     i -= 1;
-    bytes[i] = (48 + left) as u8;
+    bytes[i] = b'0' + left as u8;
     Digits { bytes, from: i }
 }
 
@@ -54,7 +42,5 @@ pub fn put_decimal(out: &mut [u8], at: usize, n: u64) -> usize
     ensures { Put out.old at (decimal n) result out.new }
 {
     let digits = digits_of(n);
-    let bytes = digits.bytes;
-    let from = digits.from;
-    put(out, at, &bytes[from..20])
+    put(out, at, &digits.bytes[digits.from..])
 }

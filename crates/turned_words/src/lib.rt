@@ -3,7 +3,6 @@
 #![tactic(auto)]
 
 ghost use Rattle.std.specs.Prelude.{◌≡◌, List, ℕ, length, take};
-ghost use Rattle.word.specs.Zeros.{zeros};
 ghost use Rattle.turned_words.specs.Turned.{kept, Turns, XoredInto, dead_behind};
 
 // XORs x into the words whose bit in `marks` is 1, bit i for word i. It goes from one such bit to the next.
@@ -12,28 +11,19 @@ pub fn xor_into(words: &mut [u64], marks: u64, x: u64)
 {
     let mut left = marks & word::low_mask(words.len() as u64);
     while left != 0 {
-        let low = u64::trailing_zeros(left) as usize;
-        words[low] = words[low] ^ x;
-        left = left & (left - 1);
+        let low = left.trailing_zeros() as usize;
+        words[low] ^= x;
+        left &= left - 1;
     }
-}
-
-fn no_rows() -> [u64; 64]
-    ensures { result ≡ zeros 64 }
-{
-    [0u64; 64]
 }
 
 // The rows of the first 64 words: for each bit that bit of every word, which is its parity with the single bit.
 pub fn turn(words: &[u64]) -> [u64; 64]
     ensures { Turns (take 64 words.now) result }
 {
-    let count = word::at_most_64(words.len());
-    let mut rows = no_rows();
-    let mut i: usize = 0;
-    while i < count {
-        xor_into(&mut rows[..], words[i], 1u64 << i);
-        i += 1;
+    let mut rows = [0; 64];
+    for (i, w) in words[..words.len().min(64)].iter().enumerate() {
+        xor_into(&mut rows, *w, 1 << i);
     }
     rows
 }
@@ -42,12 +32,12 @@ pub fn turn(words: &[u64]) -> [u64; 64]
 pub fn held_count(dead: u64) -> usize
     ensures { (ws : List ℕ) → length ws ≡ 64 → result ≡ length (kept dead ws) }
 {
-    64 - u64::count_ones(dead) as usize
+    64 - dead.count_ones() as usize
 }
 
 // The slots behind the first m, which are dead where m words stand in 64 slots.
 pub fn dead_behind(m: usize) -> u64
     ensures { result ≡ dead_behind m }
 {
-    0xffff_ffff_ffff_ffff - word::low_mask(m as u64)
+    !word::low_mask(m as u64)
 }

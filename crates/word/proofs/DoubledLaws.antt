@@ -1,5 +1,5 @@
 -- The loop that doubles the entries of a group. Assumes nothing.
-use mathlib.Core.Path.{◌≡◌, refl, ap, subst, ◌∙◌}
+use mathlib.Core.Path.{◌≡◌, refl, ap, ◌∙◌}
 use mathlib.Core.Logic.{dite}
 use mathlib.Core.List.{List}
 use Prim.Native.Nat.{ℕ, ◌+◌, ◌-◌, ◌≤◌, ◌<◌}
@@ -36,6 +36,3 @@ module _ (l₀ : List ℕ) (e h w : ℕ) where
           ap (λ (x : ℕ). get_or (set l (e + h + j) (bit_xor (get_or l (e + j) 0) w)) x 0) z
           ∙ get_or-set_same l (e + h + j) _ 0 (omega (arith, d.long))
           ∙ ap (λ (x : ℕ). bit_xor x w) (d.below (e + j) (omega arith) ∙ ap (λ (x : ℕ). get_or l₀ x 0) from)
-
-  pub doubled_ends : (l : List ℕ) (j : ℕ) → j ≡ h → Doubled l₀ l e h j w → Doubled l₀ l e h h w
-  doubled_ends l j ej d = subst (λ (x : ℕ). Doubled l₀ l e h x w) ej d

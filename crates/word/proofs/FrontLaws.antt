@@ -5,7 +5,7 @@ use Prim.Native.Nat.{ℕ, suc, ◌+◌, ◌<◌, ◌≤◌}
 use native.Mathlib.Nat.{le_of_lt}
 use native.Mathlib.Numerals.{add-one}
 use native.Mathlib.Omega.{arith}
-use lib.ListN.{length, get_or, take, drop, set, length-append, length-drop, length-replicate, get_or-replicate, drop_of_length-le}
+use lib.ListN.{length, get_or, take, drop, set, length-append, length-drop, length-replicate, drop_of_length-le}
 use lib.Seq.{drop-cons, take-suc, take_all, take-length, length-take-le, set_at, append_snoc}
 use Rattle.word.specs.Reply.{front}
 use Rattle.word.specs.Zeros.{zeros}
@@ -69,14 +69,3 @@ length_zeros n = length-replicate n (the_zero)
   where
     the_zero : ℕ
     the_zero = 0
-
-pub cleared_turn : (l ws : List ℕ) (i : ℕ) → ws ≡ front (take i (zeros (length l))) l → i < length l → set ws i 0 ≡ front (take (i + 1) (zeros (length l))) l
-cleared_turn l ws i e h =
-    ap (set ws i) (sym (get_or-replicate (length l) i 0 0 h))
-    ∙ written_turn (zeros (length l)) l ws i e (omega (arith, length_zeros (length l))) h
-
-pub cleared_end : (l ws : List ℕ) (i : ℕ) → ws ≡ front (take i (zeros (length l))) l → i ≤ length l → length l ≤ i → ws ≡ zeros (length l)
-cleared_end l ws i e a b =
-    written_full (zeros (length l)) l ws i e a b
-    ∙ ap (λ (x : List ℕ). front x l) (take_all (length l) (zeros (length l)) (omega (arith, length_zeros (length l))))
-    ∙ front_all (zeros (length l)) l (length_zeros (length l))

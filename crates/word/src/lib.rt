@@ -13,11 +13,7 @@ ghost use Rattle.word.specs.Doubled.{Doubled};
 pub fn low_mask(m: u64) -> u64
     ensures { result ≡ low_mask m }
 {
-    if m < 64 {
-        (1u64 << m) - 1
-    } else {
-        0xffff_ffff_ffff_ffff
-    }
+    if m < 64 { (1u64 << m) - 1 } else { u64::MAX }
 }
 
 // Whether w has a bit at or above m.
@@ -31,24 +27,22 @@ pub fn is_beyond(m: u64, w: u64) -> bool
 pub fn shared_parity(a: u64, b: u64) -> u64
     ensures { result ≡ parity a b }
 {
-    (u64::count_ones(a & b) % 2) as u64
+    u64::from((a & b).count_ones() % 2)
 }
 
 // The smaller of n and 64.
 pub fn at_most_64(n: usize) -> usize
     ensures { result ≡ min n 64 }
 {
-    if n < 64 { n } else { 64 }
+    n.min(64)
 }
 
 // The parities of the first 64 words with y as one word, bit i for word i.
 pub fn word_parities(words: &[u64], y: u64) -> u64
     ensures { result ≡ parities (take 64 words.now) y }
 {
-    let mut i = at_most_64(words.len());
     let mut bits: u64 = 0;
-    while 0 < i {
-        i -= 1;
+    for i in (0..at_most_64(words.len())).rev() {
         bits = 2 * bits + shared_parity(words[i], y);
     }
     bits
@@ -58,8 +52,7 @@ pub fn word_parities(words: &[u64], y: u64) -> u64
 pub fn highest_bit(w: u64) -> u64
     ensures { result ≡ highest_bit w }
 {
-    let zeros = u64::leading_zeros(w);
-    if zeros < 64 { (63 - zeros) as u64 } else { 0 }
+    u64::from(63u32.saturating_sub(w.leading_zeros()))
 }
 
 // The largest width of a register: the bits of a word.
@@ -69,25 +62,21 @@ pub const LARGEST_WIDTH: u64 = 64;
 pub fn is_bad_width(m: u64) -> bool
     ensures { result ≡ bad_width m }
 {
-    (m < 1) | (LARGEST_WIDTH < m)
+    !(1..=LARGEST_WIDTH).contains(&m)
 }
 
 // The word of place c; 0 past the end.
 pub fn word_at(words: &[u64], c: usize) -> u64
     ensures { result ≡ get_or words.now c 0 }
 {
-    if c < words.len() { words[c] } else { 0 }
+    words.get(c).copied().unwrap_or(0)
 }
 
 // Puts 0 into every place.
 pub fn clear_words(words: &mut [u64])
     ensures { words.new ≡ zeros (length words.old) }
 {
-    let mut i: usize = 0;
-    while i < words.len() {
-        words[i] = 0;
-        i += 1;
-    }
+    words.fill(0);
 }
 
 // The XOR of the words whose bit in `marks` is 1, bit i for word i. It goes from one such bit to the next.
@@ -97,9 +86,9 @@ pub fn xor_marked(words: &[u64], marks: u64) -> u64
     let mut left = marks & low_mask(words.len() as u64);
     let mut sum: u64 = 0;
     while left != 0 {
-        let low = u64::trailing_zeros(left) as usize;
-        sum = sum ^ words[low];
-        left = left & (left - 1);
+        let low = left.trailing_zeros() as usize;
+        sum ^= words[low];
+        left &= left - 1;
     }
     sum
 }
@@ -109,9 +98,7 @@ pub fn double_entries(table: &mut [u64], e: usize, h: usize, w: u64)
     requires { e + h + h ≤ length table.old }
     ensures { Doubled table.old table.new e h h w }
 {
-    let mut j = 0;
-    while j < h {
+    for j in 0..h {
         table[e + h + j] = table[e + j] ^ w;
-        j += 1;
     }
 }

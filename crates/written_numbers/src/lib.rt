@@ -31,37 +31,18 @@ pub fn put_word(out: &mut [u8], i: usize, x: u64)
     requires { i + 8 ≤ length out.old }
     ensures { out.new ≡ sets out.old i (bytes_of 8 x) }
 {
-    let x1 = x / 256;
-    let x2 = x1 / 256;
-    let x3 = x2 / 256;
-    let x4 = x3 / 256;
-    let x5 = x4 / 256;
-    let x6 = x5 / 256;
-    out[i] = (x % 256) as u8;
-    out[i + 1] = (x1 % 256) as u8;
-    out[i + 2] = (x2 % 256) as u8;
-    out[i + 3] = (x3 % 256) as u8;
-    out[i + 4] = (x4 % 256) as u8;
-    out[i + 5] = (x5 % 256) as u8;
-    out[i + 6] = (x6 % 256) as u8;
-    out[i + 7] = (x6 / 256 % 256) as u8;
+    out[i..i + 8].copy_from_slice(&x.to_le_bytes());
 }
 
 // The 8 bytes of x at place i of out, low byte first; nothing past the end.
 pub fn write_word(out: &mut [u8], i: usize, x: u64)
     ensures { out.new ≡ sets out.old i (bytes_of 8 x) }
 {
-    if out.len() <= i {
-        return;
-    }
-    if 8 <= out.len() - i {
+    if i < out.len() && 8 <= out.len() - i {
         put_word(out, i, x);
-        return;
+    } else {
+        write_bytes(out, i, &x.to_le_bytes());
     }
-    write_count(out, i, x);
-    write_count(out, i + 2, x / 65536);
-    write_count(out, i + 4, x / 4294967296);
-    write_count(out, i + 6, x / 281474976710656);
 }
 
 // The words, 8 bytes each, one after the other from place `at` of out on, where there is room for them, low byte first.
@@ -70,11 +51,9 @@ fn put_words(out: &mut [u8], at: usize, words: &[u64])
     ensures { out.new ≡ sets out.old at (word_bytes words.now) }
 {
     let mut i = at;
-    let mut c = 0;
-    while c < words.len() {
-        put_word(out, i, words[c]);
+    for w in words {
+        put_word(out, i, *w);
         i += 8;
-        c += 1;
     }
 }
 
@@ -83,14 +62,12 @@ fn write_words_to_end(out: &mut [u8], at: usize, words: &[u64])
     ensures { out.new ≡ sets out.old at (word_bytes words.now) }
 {
     let mut i = at;
-    let mut c = 0;
-    while c < words.len() {
+    for w in words {
         if out.len() <= i {
             return;
         }
-        write_word(out, i, words[c]);
+        write_word(out, i, *w);
         i += 8;
-        c += 1;
     }
 }
 
@@ -115,12 +92,8 @@ pub fn write_bytes(out: &mut [u8], at: usize, bytes: &[u8])
     if out.len() <= at {
         return;
     }
-    let count = numbers::shorter(bytes.len(), out.len() - at);
-    let mut i = 0;
-    while i < count {
-        out[at + i] = bytes[i];
-        i += 1;
-    }
+    let count = bytes.len().min(out.len() - at);
+    out[at..at + count].copy_from_slice(&bytes[..count]);
 }
 
 // The 32 bytes from place `from` of the list `bytes` on, at place `at` of out, where they are there and there is room for them: 4 loads,
@@ -129,6 +102,7 @@ pub fn put_32(out: &mut [u8], at: usize, bytes: &[u8], from: usize)
     requires { (at + 32 ≤ length out.old) × (from + 32 ≤ length bytes.now) }
     ensures { out.new ≡ sets out.old at (take 32 (drop from bytes.now)) }
 {
+    // slower: one `copy_from_slice` of the 32 bytes tests first whether the two lists overlap
     let a = numbers::eight_bytes(bytes, from);
     let b = numbers::eight_bytes(bytes, from + 8);
     let c = numbers::eight_bytes(bytes, from + 16);

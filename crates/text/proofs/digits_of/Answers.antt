@@ -3,7 +3,7 @@ use borrow.Author.Rules.{rules}
 use Rattle.text.proofs.digits_of.Goals as goal
 
 pub loop-left-init : goal.loop-left-init
-loop-left-init c = digiting_start _ _ c.ranges.n.fits c.no_digits-bytes.ensures
+loop-left-init c = digiting_start _ _ c.ranges.n.fits (search rules)
 
 pub loop-left-preserved : goal.loop-left-preserved
 loop-left-preserved c = digiting_turn _ _ _ _ c.loop-left.invariant (search rules)

@@ -1,8 +1,8 @@
 -- `put_decimal` meets its contract: the digits are put.
-use Rattle.text.proofs.Laws.{decimal_put}
+use Rattle.std.proofs.lemmas.List.{take_rest}
 use Rattle.text.proofs.put_decimal.Goals as goal
 
 pub returns : goal.returns
 returns c =
     let digits = c.digits_of-digits in
-    decimal_put digits.result.bytes digits.result.from _ digits.ensures.0 digits.ensures.2 c.put.ensures
+    rw (take_rest digits.result.bytes digits.result.from, digits.ensures.2) at c.put.ensures

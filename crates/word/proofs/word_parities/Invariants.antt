@@ -4,6 +4,3 @@ use Rattle.word.proofs.word_parities.Given as goal
 
 abbrev pub invariant-loop-i : goal.invariant-loop-i
 invariant-loop-i l = Paritied l.words l.y l.i l.bits
-
-abbrev pub decreases-loop-i : goal.decreases-loop-i
-decreases-loop-i l = l.i

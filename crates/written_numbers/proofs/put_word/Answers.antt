@@ -1,33 +1,13 @@
--- `put_word` meets its contract: the eight bytes are written one by one.
-use mathlib.Core.Path.{refl}
+-- `put_word` meets its contract: the eight bytes are copied in.
+use mathlib.Core.Path.{◌∙◌}
+use Prim.Native.Nat.{◌+◌, ◌-◌}
 use native.Mathlib.Omega.{arith}
-use lib.ListN.{length-set}
-use Rattle.numbers.proofs.ByteLaws.{sets_eight}
+use Rattle.numbers.specs.Bytes.{bytes_of}
+use Rattle.numbers.proofs.ByteLaws.{bytes_of_length}
+use Rattle.written_numbers.proofs.BytesLaws.{word_in_bytes, copied}
 use Rattle.written_numbers.proofs.put_word.Goals as goal
 
-pub bounds-out-i-2 : goal.bounds-out-i-2
-bounds-out-i-2 c = simp length-set (omega (arith, c.requires))
-
-pub bounds-out-i-3 : goal.bounds-out-i-3
-bounds-out-i-3 c = simp length-set (omega (arith, c.requires))
-
-pub bounds-out-i-4 : goal.bounds-out-i-4
-bounds-out-i-4 c = simp length-set (omega (arith, c.requires))
-
-pub bounds-out-i-5 : goal.bounds-out-i-5
-bounds-out-i-5 c = simp length-set (omega (arith, c.requires))
-
-pub bounds-out-i-6 : goal.bounds-out-i-6
-bounds-out-i-6 c = simp length-set (omega (arith, c.requires))
-
-pub bounds-out-i-7 : goal.bounds-out-i-7
-bounds-out-i-7 c = simp length-set (omega (arith, c.requires))
-
-pub bounds-out-i-8 : goal.bounds-out-i-8
-bounds-out-i-8 c = simp length-set (omega (arith, c.requires))
-
-pub shape_of-out : goal.shape_of-out
-shape_of-out c = simp length-set refl
-
 pub returns : goal.returns
-returns c = sets_eight _ _ _
+returns c =
+    rw (c.copy_from_slice.ensures.after, word_in_bytes c.args.x _ c.to_le_bytes.ensures)
+    (copied c.args.out.now (bytes_of 8 c.args.x) c.args.i (c.args.i + 8 - c.args.i) (omega arith) (bytes_of_length 8 c.args.x ∙ omega arith))
