@@ -6,10 +6,8 @@ use native.Mathlib.Numerals.{add-one}
 use native.Mathlib.Omega.{arith}
 use lib.Bits.{bit_xor}
 use lib.ListN.{length, get_or, take, drop, set, drop_of_length-le}
-use lib.Seq.{drop-cons, take_all}
+use lib.Seq.{drop-cons}
 use Rattle.word.specs.Parities.{parities}
-use Rattle.word.specs.Zeros.{zeros}
-use Rattle.word.proofs.FrontLaws.{length_zeros}
 use Rattle.word.proofs.LowestLaws.{Lowest}
 use Rattle.combinations.specs.Step.{cleared, step, steps, units}
 use Rattle.combinations.proofs.StepLaws.{steps_none}
@@ -19,10 +17,7 @@ use Rattle.column_basis.specs.Basis.{Basis, Slots, Held}
 use Rattle.turned_words.proofs.KeptLaws.{kept_full}
 use Rattle.column_basis.proofs.BasisLaws.{column_even, column_odd, basis_grown}
 
--- ---- the loop over the marks: with x in the words of the bits in `left` too, it is in those of all marks
-
-pub no_words_long : (ws : List ℕ) → ws ≡ zeros 64 → length ws ≡ 64
-no_words_long ws e = ap length e ∙ length_zeros 64
+-- ---- the loop over the places: those passed hold their bits
 
 pub units_start : (ws : List ℕ) → take 0 ws ≡ units 0
 unfolding units
@@ -33,11 +28,6 @@ unfolding units
 units_turn ws i long h e =
     next_taken ws (units i) i ((1 * 2 ^ i) % 18446744073709551616) (2 ^ i) (subst (λ (n : ℕ). i < n) (sym long) h) e (one_bit i h)
     ∙ ap units (sym (add-one i))
-
-pub units_end : (ws : List ℕ) (i : ℕ) → length ws ≡ 64 → i ≤ 64 → 64 ≤ i → take i ws ≡ units i → ws ≡ units 64
-units_end ws i long l h e =
-    let all : i ≡ 64 = omega arith in
-    sym (take_all i ws (omega arith)) ∙ e ∙ ap units all
 
 -- ---- one column
 

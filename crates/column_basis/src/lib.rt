@@ -5,29 +5,20 @@
 
 ghost use Rattle.std.specs.Prelude.{◌≡◌, List, ℕ, ◌+◌, ◌<◌, length};
 ghost use Rattle.word.specs.Parities.{parities};
-ghost use Rattle.word.specs.Zeros.{zeros};
 ghost use Rattle.combinations.specs.Step.{step, steps, units};
 ghost use Rattle.turned_words.specs.Turned.{kept};
 ghost use Rattle.column_basis.specs.Basis.{Basis, Slots, Held, Settled};
 
 // Every bit is dead.
-pub const ALL_DEAD: u64 = 0xffff_ffff_ffff_ffff;
-
-pub fn no_words() -> [u64; 64]
-    ensures { result ≡ zeros 64 }
-{
-    [0u64; 64]
-}
+pub const ALL_DEAD: u64 = u64::MAX;
 
 // The words of the 64 single bits.
 pub fn unit_words() -> [u64; 64]
     ensures { result ≡ units 64 }
 {
-    let mut words = no_words();
-    let mut i: usize = 0;
-    while i < 64 {
-        words[i] = 1u64 << i;
-        i += 1;
+    let mut words = [0; 64];
+    for (i, w) in words.iter_mut().enumerate() {
+        *w = 1u64 << i;
     }
     words
 }
@@ -40,7 +31,7 @@ fn reduced(basis: &[u64], dead: u64, column: u64) -> u64
     let mut rest = column;
     let mut left = rest & dead;
     while left != 0 {
-        let d = u64::trailing_zeros(left) as usize;
+        let d = left.trailing_zeros() as usize;
         rest = rest ^ basis[d];
         left = rest & dead;
     }
@@ -57,7 +48,7 @@ fn add_to_basis(basis: &mut [u64], dead: u64, column: u64) -> u64
     if rest == 0 {
         return dead;
     }
-    let k = u64::trailing_zeros(rest) as usize;
+    let k = rest.trailing_zeros() as usize;
     basis[k] = rest;
     dead ^ (1u64 << k)
 }
@@ -69,13 +60,11 @@ pub fn take_columns(basis: &mut [u64], dead: u64, columns: &[u64]) -> u64
     ensures list { (l : List ℕ) → Held l basis.old dead → Held (steps columns.now l) basis.new result }
 {
     let mut gone = dead;
-    let mut i: usize = 0;
-    while i < columns.len() {
+    for column in columns {
         if gone == ALL_DEAD {
             return gone;
         }
-        gone = add_to_basis(basis, gone, columns[i]);
-        i += 1;
+        gone = add_to_basis(basis, gone, *column);
     }
     gone
 }
@@ -102,10 +91,8 @@ pub fn slot_words(basis: &mut [u64], dead: u64) -> [u64; 64]
     ensures { (l : List ℕ) → Held l basis.old dead → kept dead result ≡ l }
 {
     let mut words = unit_words();
-    let mut d: usize = 64;
-    while 0 < d {
-        d -= 1;
-        settle(basis, &mut words[..], dead, d);
+    for d in (0..64).rev() {
+        settle(basis, &mut words, dead, d);
     }
     words
 }

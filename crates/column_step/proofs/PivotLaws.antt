@@ -3,12 +3,16 @@ use mathlib.Core.Path.{◌≡◌, refl, sym, ap, ap₂, ◌∙◌, subst}
 use mathlib.Core.Logic.{⊎_elim}
 use mathlib.Core.List.{List, [], ◌∷◌, ◌++◌, append-nil}
 use Prim.Native.Nat.{ℕ, suc, ◌+◌, ◌-◌, ◌<◌, ◌≤◌}
-use native.Mathlib.Nat.{zero-add, le_refl, le_of_eq, le_antisymm, le_of_suc-le-suc, not-suc-le-zero}
+use native.Mathlib.Nat.{le_refl, le_of_eq, le_antisymm, le_of_suc-le-suc, not-suc-le-zero}
 use native.Mathlib.Numerals.{add-one}
 use native.Mathlib.Omega.{arith}
 use lib.ListN.{length, get_or, take, drop, set, length-append, length-drop, length-set, take-append-drop, drop_of_length-le}
 use lib.Seq.{drop-cons, take-suc-set, drop-set-lt, drop-drop, get_or-drop, append_snoc, length-take-le}
 use lib.Bits.{bit_xor}
+use Rattle.std.specs.declared.option.Option.{Option}
+use Rattle.std.specs.Option.{MatchOption, unwrap_or}
+use Rattle.std.specs.List.{AllWithin, HoldsAt}
+use Rattle.std.proofs.lemmas.Iterator.{index_from_first}
 use Rattle.word.specs.Word.{parity}
 use Rattle.word.specs.Reply.{front}
 use Rattle.word.proofs.Laws.{parity_cases}
@@ -18,43 +22,6 @@ use Rattle.combinations.proofs.StepLaws.{step_even, step_odd, length_cleared}
 
 -- ---- the first odd word
 
-first_odd_even : (c : ℕ) (ws : List ℕ) (i : ℕ) → i < length ws → parity (get_or ws i 0) c ≡ 0 → first_odd c (drop i ws) ≡ suc (first_odd c (drop (suc i) ws))
-unfolding first_odd
-first_odd_even c ws i h e = ap (first_odd c) (drop-cons ws i 0 h) ∙ ap (λ (n : ℕ). by_parity n (suc (first_odd c (drop (suc i) ws))) 0) e
-
-first_odd_odd : (c : ℕ) (ws : List ℕ) (i : ℕ) → i < length ws → parity (get_or ws i 0) c ≡ 1 → first_odd c (drop i ws) ≡ 0
-unfolding first_odd
-first_odd_odd c ws i h e = ap (first_odd c) (drop-cons ws i 0 h) ∙ ap (λ (n : ℕ). by_parity n (suc (first_odd c (drop (suc i) ws))) 0) e
-
-first_odd_end : (c : ℕ) (ws : List ℕ) (i : ℕ) → length ws ≤ i → first_odd c (drop i ws) ≡ 0
-unfolding first_odd
-first_odd_end c ws i h = ap (first_odd c) (drop_of_length-le ws h)
-
--- i words passed, and none of them odd
-pub Passed : ℕ → List ℕ → ℕ → Type 0
-Passed c ws i = first_odd c ws ≡ i + first_odd c (drop i ws)
-
-pub passed_start : (c : ℕ) (ws : List ℕ) → Passed c ws 0
-unfolding Passed
-passed_start c ws = sym (zero-add (first_odd c ws))
-
-pub passed_even : (c : ℕ) (ws : List ℕ) (i r : ℕ) → Passed c ws i → i < length ws → r ≡ parity (get_or ws i 0) c → r ≡ 0 → Passed c ws (i + 1)
-unfolding Passed
-passed_even c ws i r p h e z =
-    let turn : first_odd c (drop i ws) ≡ suc (first_odd c (drop (suc i) ws)) = first_odd_even c ws i h (sym e ∙ z) in
-    let same : first_odd c (drop (i + 1) ws) ≡ first_odd c (drop (suc i) ws) = ap (λ (n : ℕ). first_odd c (drop n ws)) (add-one i) in
-    omega arith
-
-pub passed_odd : (c : ℕ) (ws : List ℕ) (i r : ℕ) → Passed c ws i → i < length ws → r ≡ parity (get_or ws i 0) c → (r ≡ 0 → ⊥) → i ≡ first_odd c ws
-unfolding Passed
-passed_odd c ws i r p h e n =
-    ⊎_elim (λ (z : parity (get_or ws i 0) c ≡ 0). absurd (n (e ∙ z)))
-    (λ (o : parity (get_or ws i 0) c ≡ 1). omega (arith, first_odd_odd c ws i h o)) (parity_cases (get_or ws i 0) c)
-
-pub passed_all : (c : ℕ) (ws : List ℕ) (i : ℕ) → Passed c ws i → length ws ≤ i → i ≡ first_odd c ws
-unfolding Passed
-passed_all c ws i p h = omega (arith, first_odd_end c ws i h)
-
 first_even : (c w : ℕ) (ws : List ℕ) → parity w c ≡ 0 → first_odd c (w ∷ ws) ≡ suc (first_odd c ws)
 unfolding first_odd
 first_even c w ws e = ap (λ (n : ℕ). by_parity n (suc (first_odd c ws)) 0) e
@@ -62,6 +29,20 @@ first_even c w ws e = ap (λ (n : ℕ). by_parity n (suc (first_odd c ws)) 0) e
 first_odd_lem : (c w : ℕ) (ws : List ℕ) → parity w c ≡ 1 → first_odd c (w ∷ ws) ≡ 0
 unfolding first_odd
 first_odd_lem c w ws e = ap (λ (n : ℕ). by_parity n (suc (first_odd c ws)) 0) e
+
+-- the place of the first odd word, where the words are asked one by one
+pub first_odd_at : (c : ℕ) (ws : List ℕ) (r : Option ℕ)
+    → MatchOption r (AllWithin (λ w. parity w c ≡ 0) ws 0 (length ws)) (λ i. (i < length ws) × HoldsAt (λ w. parity w c ≡ 0 → ⊥) ws i × AllWithin (λ w. parity w c ≡ 0) ws 0 i)
+    → unwrap_or r (length ws) ≡ first_odd c ws
+unfolding first_odd
+first_odd_at c ws r h =
+    sym (index_from_first (first_odd c) (λ w. parity w c ≡ 0 → ⊥) (λ w. parity w c ≡ 0) refl hit miss ws r h)
+  where
+    hit : (w : ℕ) (ws : List ℕ) → (parity w c ≡ 0 → ⊥) → first_odd c (w ∷ ws) ≡ 0
+    hit w ws n = ⊎_elim (λ (z : parity w c ≡ 0). absurd (n z)) (λ (o : parity w c ≡ 1). first_odd_lem c w ws o) (parity_cases w c)
+
+    miss : (w : ℕ) (ws : List ℕ) → parity w c ≡ 0 → first_odd c (w ∷ ws) ≡ first_odd c ws + 1
+    miss w ws z = first_even c w ws z ∙ sym (add-one (first_odd c ws))
 
 -- ---- the step by the place of its pivot
 

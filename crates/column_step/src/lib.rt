@@ -13,14 +13,10 @@ ghost use Rattle.column_step.specs.Pivot.{first_odd};
 fn first_odd(words: &[u64], column: u64) -> usize
     ensures { result ≡ first_odd column words.now }
 {
-    let mut i: usize = 0;
-    while i < words.len() {
-        if word::shared_parity(words[i], column) != 0 {
-            return i;
-        }
-        i += 1;
-    }
-    i
+    words
+        .iter()
+        .position(|w| word::shared_parity(*w, column) != 0)
+        .unwrap_or(words.len())
 }
 
 // The word w, with the pivot XORed in where w is odd with the column.
@@ -42,11 +38,9 @@ fn drop_pivot(words: &mut [u64], column: u64, at: usize)
         return;
     }
     let pivot = words[at];
-    let mut i = at;
-    while i + 1 < words.len() {
+    for i in at..words.len() - 1 {
         let w = words[i + 1];
         words[i] = cleared_word(w, column, pivot);
-        i += 1;
     }
 }
 

@@ -2,20 +2,20 @@
 use mathlib.Core.Path.{◌≡◌, refl, sym, ap, ap₂, ◌∙◌, subst}
 use mathlib.Core.Bool.{Bool, true, false, not, cond, ◌&&◌, ◌||◌}
 use mathlib.Core.List.{List, [], ◌∷◌}
-use Prim.Native.Nat.{ℕ, zero, suc, ◌+◌, ◌-◌, ◌*◌, ◌/◌, ◌^◌, ◌≤◌, ◌<◌}
-use mathlib.Core.Logic.{dite}
-use native.Mathlib.Nat.{add-zero}
-use native.Mathlib.Decide.{dec_lt}
-use native.Mathlib.Numerals.{add-one}
+use Prim.Native.Nat.{ℕ, zero, suc, ◌+◌, ◌-◌, ◌*◌, ◌/◌, ◌^◌, ◌≤◌, ◌<◌, min}
+use native.Mathlib.Nat.{zero-add, not-suc-le-zero}
 use native.Mathlib.Omega.{arith}
-use borrow.Author.Tests.{eq-eqb, ne_eqb, ltb-false}
+use borrow.Author.Tests.{ltb-false}
 use lib.Dec.{eqb, leb, ltb}
-use lib.ListN.{length, get_or, take, drop, drop_of_length-le, length-drop}
-use lib.Seq.{drop-cons, drop-drop, take_all, get_or-take, get_or-drop, length-take-le}
+use lib.ListN.{length, get_or, take, drop, length-drop}
+use lib.Seq.{drop-drop, take_all, get_or-drop}
 use Rattle.word.specs.Word.{parity}
 use Rattle.word.proofs.BoolLaws.{and_left, or_false_right}
 use Rattle.word.proofs.Laws.{or_zero_left, or_zero_right}
 use lib.Bits.{bit_or}
+use Rattle.std.specs.List.{fold, list_all, prefix_len}
+use Rattle.std.proofs.lemmas.List.{drop_min}
+use Rattle.std.proofs.lemmas.List.Folds.{length-prefix_len}
 use Rattle.combinations.specs.Combination.{x_free}
 use Rattle.combinations.specs.Step.{steps}
 use Rattle.combinations.proofs.XFree.{x_free_cons}
@@ -30,43 +30,6 @@ run_on f cs c h = rw h
 run_stops : (f : ℕ → Bool) (cs : List ℕ) (c : ℕ) → f c ≡ false → run_of f (c ∷ cs) ≡ 0
 unfolding run_of
 run_stops f cs c h = rw h
-
--- ---- the loop: f holds of the columns from `from` to i
-
-pub Skipped : (ℕ → Bool) → List ℕ → ℕ → ℕ → Type 0
-Skipped f cs from i = from + run_of f (drop from cs) ≡ i + run_of f (drop i cs)
-
-module _ (f : ℕ → Bool) (cs : List ℕ) (from : ℕ) where
-  pub skipped_start : Skipped f cs from from
-  unfolding Skipped
-  skipped_start = refl
-
-  pub skipped_said : (i : ℕ) → Skipped f cs from i → from + run_of f (drop from cs) ≡ i + run_of f (drop i cs)
-  unfolding Skipped
-  skipped_said i s = s
-
-  pub said_skipped : (i : ℕ) → from + run_of f (drop from cs) ≡ i + run_of f (drop i cs) → Skipped f cs from i
-  unfolding Skipped
-  said_skipped i s = s
-
-  pub skipped_turn : (i : ℕ) → Skipped f cs from i → i < length cs → f (get_or cs i 0) ≡ true → Skipped f cs from (i + 1)
-  unfolding Skipped
-  skipped_turn i s h e =
-      let turn : run_of f (drop i cs) ≡ suc (run_of f (drop (suc i) cs)) = ap (run_of f) (drop-cons cs i 0 h) ∙ run_on f (drop (suc i) cs) (get_or cs i 0) e in
-      let same : run_of f (drop (i + 1) cs) ≡ run_of f (drop (suc i) cs) = ap (λ (n : ℕ). run_of f (drop n cs)) (add-one i) in
-      omega arith
-
-  pub skipped_stop : (i : ℕ) → Skipped f cs from i → i < length cs → f (get_or cs i 0) ≡ false → i ≡ from + run_of f (drop from cs)
-  unfolding Skipped
-  skipped_stop i s h e =
-      let stop : run_of f (drop i cs) ≡ 0 = ap (run_of f) (drop-cons cs i 0 h) ∙ run_stops f (drop (suc i) cs) (get_or cs i 0) e in
-      omega arith
-
-  pub skipped_all : (i : ℕ) → Skipped f cs from i → length cs ≤ i → i ≡ from + run_of f (drop from cs)
-  unfolding Skipped run_of
-  skipped_all i s h =
-      let stop : run_of f (drop i cs) ≡ 0 = ap (run_of f) (drop_of_length-le cs h) in
-      omega arith
 
 -- ---- what is looked up in the words' own table
 
@@ -85,35 +48,20 @@ pub table_run_from : (ws table cs : List ℕ) (from r : ℕ) → ParityTable ws 
 table_run_from ws table cs from r right small e =
     e ∙ ap (λ (n : ℕ). from + n) (table_run_lem ws table (drop from cs) right (λ i. subst (λ (x : ℕ). x < 2 ^ 64) (sym (get_or-drop from cs i 0)) (small (from + i))))
 
--- ---- the loop over the words: those before place i are even with the column
+-- ---- the words one by one, and runs as the front of a list
 
-pub Evened : List ℕ → ℕ → ℕ → Type 0
-Evened ws c i = x_free ws c ≡ x_free (drop i ws) c
+pub x_free_each : (ws : List ℕ) (c : ℕ) → list_all (λ w. eqb (parity c w) 0) ws ≡ x_free ws c
+unfolding x_free
+x_free_each [] c = refl
+x_free_each (w ∷ ws) c = ap (λ (b : Bool). eqb (parity c w) 0 && b) (x_free_each ws c)
 
-module _ (ws : List ℕ) (c : ℕ) where
-  pub evened_start : Evened ws c 0
-  unfolding Evened
-  evened_start = refl
+same_run : (f : ℕ → Bool) (cs : List ℕ) → prefix_len f cs ≡ run_of f cs
+unfolding run_of
+same_run f [] = refl
+same_run f (c ∷ cs) = let next : 1 + prefix_len f cs ≡ suc (run_of f cs) = omega (arith, same_run f cs) in ap (λ (n : ℕ). cond (f c) n 0) next
 
-  one_more : (i : ℕ) → i < length ws → x_free (drop i ws) c ≡ (eqb (parity c (get_or ws i 0)) 0 && x_free (drop (i + 1) ws) c)
-  unfolding x_free
-  one_more i h =
-      ap (λ (x : List ℕ). x_free x c) (drop-cons ws i 0 h)
-      ∙ ap (λ (n : ℕ). eqb (parity c (get_or ws i 0)) 0 && x_free (drop n ws) c) (sym (add-one i))
-
-  pub evened_turn : (i p : ℕ) → Evened ws c i → i < length ws → p ≡ parity c (get_or ws i 0) → p ≡ 0 → Evened ws c (i + 1)
-  unfolding Evened
-  evened_turn i p e h ep z =
-      e ∙ one_more i h ∙ ap (λ (b : Bool). b && x_free (drop (i + 1) ws) c) (eq-eqb (parity c (get_or ws i 0)) 0 (sym ep ∙ z))
-
-  pub evened_stop : (i p : ℕ) → Evened ws c i → i < length ws → p ≡ parity c (get_or ws i 0) → (p ≡ 0 → ⊥) → false ≡ x_free ws c
-  unfolding Evened
-  evened_stop i p e h ep n =
-      sym (e ∙ one_more i h ∙ ap (λ (b : Bool). b && x_free (drop (i + 1) ws) c) (ne_eqb (parity c (get_or ws i 0)) 0 (λ z. n (ep ∙ z))))
-
-  pub evened_end : (i : ℕ) → Evened ws c i → length ws ≤ i → true ≡ x_free ws c
-  unfolding Evened x_free
-  evened_end i e h = sym (e ∙ ap (λ (x : List ℕ). x_free x c) (drop_of_length-le ws h))
+pub run_prefix : (f : ℕ → Bool) (cs : List ℕ) → length (take (prefix_len f cs) cs) ≡ run_of f cs
+run_prefix f cs = length-prefix_len f cs ∙ same_run f cs
 
 -- ---- the columns passed over
 
@@ -160,47 +108,48 @@ unfolding x_free
 x_free_all [] x h = refl
 x_free_all (w ∷ ws) x h = x_free_cons w ws x (h 0 (omega arith)) (x_free_all ws x (λ i l. h (suc i) (omega arith)))
 
--- the columns before place j are even with the word
-abbrev pub NoneOdd : List ℕ → ℕ → ℕ → ℕ → Type 0
-NoneOdd cs w odd j = odd ≡ 0 → (i : ℕ) → i < j → parity (get_or cs i 0) w ≡ 0
+-- where the OR of the parities is 0, each of them is
+pub or_parities : ℕ → ℕ → List ℕ → ℕ
+or_parities w odd cs = fold (λ a x. bit_or a (parity x w)) odd cs
 
-pub none_odd_turn : (cs : List ℕ) (w odd j p : ℕ) → NoneOdd cs w odd j → p ≡ parity (get_or cs j 0) w → NoneOdd cs w (bit_or odd p) (j + 1)
-none_odd_turn cs w odd j p so_far e z i l =
-    dite (dec_lt i j) (so_far (or_zero_left odd p z) i)
-    (λ (n : i < j → ⊥). let same : i ≡ j = omega arith in ap (λ (k : ℕ). parity (get_or cs k 0) w) same ∙ sym e ∙ or_zero_right odd p z)
+none_odd : (w odd : ℕ) (cs : List ℕ) → or_parities w odd cs ≡ 0 → (odd ≡ 0) × ((j : ℕ) → j < length cs → parity (get_or cs j 0) w ≡ 0)
+unfolding or_parities
+none_odd w odd [] z = (z, λ j l. let no : ⊥ = omega arith in absurd no)
+none_odd w odd (c ∷ cs) z =
+    let rest = none_odd w (bit_or odd (parity c w)) cs z in
+    (or_zero_left odd (parity c w) rest.0, at rest.0 rest.1)
+  where
+    at : bit_or odd (parity c w) ≡ 0 → ((j : ℕ) → j < length cs → parity (get_or cs j 0) w ≡ 0) → (j : ℕ) → j < suc (length cs) → parity (get_or (c ∷ cs) j 0) w ≡ 0
+    at e h zero l = or_zero_right odd (parity c w) e
+    at e h (suc j) l = h j (omega arith)
 
--- the words before place i are even with all columns
-abbrev pub AllEven : List ℕ → List ℕ → ℕ → Type 0
-AllEven ws cs i = (k : ℕ) → k < i → (j : ℕ) → j < length cs → parity (get_or cs j 0) (get_or ws k 0) ≡ 0
+pub none_odd_fold : (w : ℕ) (cs : List ℕ) → fold (λ a x. bit_or a (parity x w)) 0 cs ≡ 0 → (j : ℕ) → j < length cs → parity (get_or cs j 0) w ≡ 0
+unfolding or_parities
+none_odd_fold w cs z = (none_odd w 0 cs z).1
 
-pub all_even_turn : (ws cs : List ℕ) (i : ℕ) → AllEven ws cs i → ((j : ℕ) → j < length cs → parity (get_or cs j 0) (get_or ws i 0) ≡ 0) → AllEven ws cs (i + 1)
-all_even_turn ws cs i so_far h k l j b =
-    dite (dec_lt k i) (λ (s : k < i). so_far k s j b)
-    (λ (n : k < i → ⊥). let same : k ≡ i = omega arith in ap (λ (x : ℕ). parity (get_or cs j 0) (get_or ws x 0)) same ∙ h j b)
+-- f holds of the first k columns
+run_passed : (f : ℕ → Bool) (cs : List ℕ) (k : ℕ) → k ≤ length cs → ((j : ℕ) → j < k → f (get_or cs j 0) ≡ true) → run_of f cs ≡ k + run_of f (drop k cs)
+run_passed f cs zero h e = sym (zero-add (run_of f cs))
+run_passed f [] (suc k) h e = absurd (not-suc-le-zero h)
+run_passed f (c ∷ cs) (suc k) h e =
+    let on : run_of f (c ∷ cs) ≡ suc (run_of f cs) = run_on f cs c (e 0 (omega arith)) in
+    let rest : run_of f cs ≡ k + run_of f (drop k cs) = run_passed f cs k (omega arith) (λ j l. e (suc j) (omega arith)) in
+    omega arith
 
-pub all_even_end : (ws cs : List ℕ) (i : ℕ) → AllEven ws cs i → length ws ≤ i → (j : ℕ) → j < length cs → x_free ws (get_or cs j 0) ≡ true
-all_even_end ws cs i h past j b = x_free_all ws (get_or cs j 0) (λ k l. h k (omega arith) j b)
+-- a part up to the end
+tail_part : (k : ℕ) (cs : List ℕ) → take (length cs - k) (drop k cs) ≡ drop k cs
+tail_part k cs = take_all (length cs - k) (drop k cs) (omega (arith, length-drop k cs))
 
-module _ (f : ℕ → Bool) (cs : List ℕ) (from i : ℕ) (s : Skipped f cs from i) where
-  skipped_on : (k : ℕ) → i + k ≤ length cs → ((j : ℕ) → j < k → f (get_or cs (i + j) 0) ≡ true) → Skipped f cs from (i + k)
-  skipped_on zero h e = subst (Skipped f cs from) (sym (add-zero i)) s
-  skipped_on (suc k) h e =
-      let next : i + k + 1 ≡ i + suc k = omega arith in
-      subst (Skipped f cs from) next (skipped_turn f cs from (i + k) (skipped_on k (omega arith) (λ j l. e j (omega arith))) (omega arith) (e k (omega arith)))
+pub from_part : (cs : List ℕ) (from at : ℕ) → at ≡ min from (length cs) → take (length cs - at) (drop at cs) ≡ drop from cs
+from_part cs from at e = tail_part at cs ∙ ap (λ (n : ℕ). drop n cs) e ∙ drop_min from cs
 
-  -- a block, as the part that it is
-  pub skipped_block : i + 64 ≤ length cs → ((j : ℕ) → j < length (take (i + 64 - i) (drop i cs)) → f (get_or (take (i + 64 - i) (drop i cs)) j 0) ≡ true)
-      → Skipped f cs from (i + 64)
-  skipped_block h e = skipped_on 64 h (λ j l. ap f (sym (part j l)) ∙ e j (omega (arith, long)))
-    where
-      width : i + 64 - i ≡ 64
-      width = omega arith
-
-      long : length (take (i + 64 - i) (drop i cs)) ≡ 64
-      long = ap (λ (n : ℕ). length (take n (drop i cs))) width ∙ length-take-le 64 (drop i cs) (omega (arith, length-drop i cs))
-
-      part : (j : ℕ) → j < 64 → get_or (take (i + 64 - i) (drop i cs)) j 0 ≡ get_or cs (i + j) 0
-      part j l = get_or-take (i + 64 - i) (drop i cs) j 0 (omega (arith, width)) ∙ get_or-drop i cs j 0
+pub run_behind : (f : ℕ → Bool) (cs rest : List ℕ) (from k n : ℕ) → rest ≡ drop from cs → k ≤ length rest → ((j : ℕ) → j < k → f (get_or rest j 0) ≡ true)
+    → n ≡ run_of f (take (length rest - k) (drop k rest)) → from + k + n ≡ from + run_of f (drop from cs)
+run_behind f cs rest from k n e h passed count =
+    let all : run_of f rest ≡ k + run_of f (drop k rest) = run_passed f rest k h passed in
+    let tail : n ≡ run_of f (drop k rest) = count ∙ ap (run_of f) (tail_part k rest) in
+    let same : run_of f rest ≡ run_of f (drop from cs) = ap (run_of f) e in
+    omega arith
 
 -- ---- when a table pays
 

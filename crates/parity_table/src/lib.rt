@@ -14,15 +14,15 @@ fn fill_parities(table: &mut [u64], words: &[u64])
     ensures { ParityTable (take 64 words.now) table.new }
 {
     let rows = turned_words::turn(words);
-    byte_tables::fill_table(table, &rows[..]);
+    byte_tables::fill_table(table, &rows);
 }
 
 // That table.
 pub fn byte_table(words: &[u64]) -> [u64; 2048]
     ensures { ParityTable (take 64 words.now) result }
 {
-    let mut table = byte_tables::no_entries();
-    fill_parities(&mut table[..], words);
+    let mut table = [0; 2048];
+    fill_parities(&mut table, words);
     table
 }
 
@@ -31,23 +31,19 @@ pub fn byte_table(words: &[u64]) -> [u64; 2048]
 pub fn skip_by_table(table: &[u64; 2048], columns: &[u64], from: usize) -> usize
     ensures { result ≡ from + table_run table.now (drop from columns.now) }
 {
-    let mut i = from;
-    while i < columns.len() {
-        let is_odd = byte_tables::looked_up(table, columns[i]) != 0;
-        if is_odd {
-            return i;
-        }
-        i += 1;
-    }
-    i
+    let rest = &columns[from.min(columns.len())..];
+    from + rest
+        .iter()
+        .take_while(|x| byte_tables::looked_up(table, **x) == 0)
+        .count()
 }
 
 // The same for the first 64 words, whose table is made for it, here and not by `byte_table`: a table handed back is copied.
 pub fn skip_even(words: &[u64], columns: &[u64], from: usize) -> usize
     ensures { result ≡ from + even_run (take 64 words.now) (drop from columns.now) }
 {
-    let mut table = byte_tables::no_entries();
-    fill_parities(&mut table[..], words);
+    let mut table = [0; 2048];
+    fill_parities(&mut table, words);
     skip_by_table(&table, columns, from)
 }
 
@@ -68,63 +64,39 @@ pub fn pays(words: usize, columns: usize) -> bool
 fn is_even(words: &[u64], column: u64) -> bool
     ensures { result ≡ x_free words.now column }
 {
-    let mut i: usize = 0;
-    while i < words.len() {
-        let is_odd = word::shared_parity(column, words[i]) != 0;
-        if is_odd {
-            return false;
-        }
-        i += 1;
-    }
-    true
+    words.iter().all(|w| word::shared_parity(column, *w) == 0)
 }
 
 // Whether some column is odd with the word. All are looked at, so that the loop has no way out.
 fn has_odd(columns: &[u64], w: u64) -> bool
     ensures { result ≡ false → (j : ℕ) → j < length columns.now → parity (get_or columns.now j 0) w ≡ 0 }
 {
-    let mut odd: u64 = 0;
-    let mut j: usize = 0;
-    while j < columns.len() {
-        odd = odd | word::shared_parity(columns[j], w);
-        j += 1;
-    }
-    odd != 0
+    columns
+        .iter()
+        .fold(0, |odd, x| odd | word::shared_parity(*x, w))
+        != 0
 }
 
 // Whether all columns are even with every word.
 fn are_even(words: &[u64], columns: &[u64]) -> bool
     ensures { result ≡ true → (j : ℕ) → j < length columns.now → x_free words.now (get_or columns.now j 0) ≡ true }
 {
-    let mut i: usize = 0;
-    while i < words.len() {
-        if has_odd(columns, words[i]) {
-            return false;
-        }
-        i += 1;
-    }
-    true
+    words.iter().all(|w| !has_odd(columns, *w))
 }
 
 // The columns that are looked at together.
 const BLOCK: usize = 64;
 
-// A place from place `from` on, up to which all columns are even with every word: behind whole blocks of them.
-fn skip_blocks(words: &[u64], columns: &[u64], from: usize) -> usize
-    ensures { from + even_run words.now (drop from columns.now) ≡ result + even_run words.now (drop result columns.now) }
+// How many columns stand in whole blocks at the front in which all are even with every word.
+fn even_blocks(words: &[u64], columns: &[u64]) -> usize
+    ensures within { result ≤ length columns.now }
+    ensures even { (j : ℕ) → j < result → x_free words.now (get_or columns.now j 0) ≡ true }
 {
-    let mut i = from;
-    while i < columns.len() {
-        if columns.len() - i < BLOCK {
-            return i;
-        }
-        let end = i + BLOCK;
-        if !are_even(words, &columns[i..end]) {
-            return i;
-        }
-        i = end;
-    }
-    i
+    BLOCK
+        * columns
+            .chunks_exact(BLOCK)
+            .take_while(|block| are_even(words, block))
+            .count()
 }
 
 // The place of the first column, from place `from` on, that is odd with one of the words, without a table; the end where none is. For a few
@@ -132,12 +104,11 @@ fn skip_blocks(words: &[u64], columns: &[u64], from: usize) -> usize
 pub fn skip_plainly(words: &[u64], columns: &[u64], from: usize) -> usize
     ensures { result ≡ from + even_run words.now (drop from columns.now) }
 {
-    let mut i = skip_blocks(words, columns, from);
-    while i < columns.len() {
-        if !is_even(words, columns[i]) {
-            return i;
-        }
-        i += 1;
-    }
-    i
+    let rest = &columns[from.min(columns.len())..];
+    let even = even_blocks(words, rest);
+    from + even
+        + rest[even..]
+            .iter()
+            .take_while(|x| is_even(words, **x))
+            .count()
 }

@@ -25,23 +25,6 @@ use Rattle.spread_words.proofs.SpreadLaws.{all_ones}
 
 -- ---- the loop of the test
 
-pub record Tested (ws : List ℕ) (alive i : ℕ) : Type 0 where
-  pub each : (j : ℕ) → j < i → bit_and (get_or ws j 0) alive ≡ bit_and alive (2 ^ j)
-
-pub tested_start : (ws : List ℕ) (alive : ℕ) → Tested ws alive 0
-tested_start ws alive = record { each = λ j l. absurd (not-suc-le-zero l) }
-
-pub tested_turn : (ws : List ℕ) (alive i w : ℕ) → Tested ws alive i → i < 64 → w ≡ get_or ws i 0 → bit_and w alive ≡ bit_and alive ((1 * 2 ^ i) % 18446744073709551616) → Tested ws alive (i + 1)
-tested_turn ws alive i w t li ew e = record { each = λ j l. dite (dec_lt j i) (t.each j) (here j l) }
-  where
-    here : (j : ℕ) → j < i + 1 → (j < i → ⊥) → bit_and (get_or ws j 0) alive ≡ bit_and alive (2 ^ j)
-    here j l n =
-        let same : j ≡ i = omega arith in
-        ap (λ (k : ℕ). bit_and (get_or ws k 0) alive) same ∙ ap (λ (x : ℕ). bit_and x alive) (sym ew) ∙ e ∙ ap (bit_and alive) (one_bit i li ∙ ap (λ (k : ℕ). 2 ^ k) (sym same))
-
-pub tested_end : (ws : List ℕ) (dead i : ℕ) → Tested ws (bit_xor dead 18446744073709551615) i → 64 ≤ i → OwnBits ws dead
-tested_end ws dead i t h j lj = t.each j (omega arith)
-
 -- ---- words below their slot's next bit
 
 top_below : (w i : ℕ) → w / 2 ^ i ≡ 1 → w < 2 ^ suc i
@@ -257,6 +240,3 @@ turned_end ws basis dead i s o t l h =
     let all : i ≡ 64 = omega arith in
     let t' : TurnedIn ws basis dead 64 = subst (TurnedIn ws basis dead) all t in
     (turned_basis ws basis dead s o t', turned_held ws basis dead s o t')
-
-pub tested_all : (ws : List ℕ) (dead alive i : ℕ) → alive ≡ bit_xor dead 18446744073709551615 → Tested ws alive i → 64 ≤ i → OwnBits ws dead
-tested_all ws dead alive i e t h = tested_end ws dead i (subst (λ (a : ℕ). Tested ws a i) e t) h

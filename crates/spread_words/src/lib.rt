@@ -18,9 +18,7 @@ fn spread(words: &[u64], slots: &mut [u64]) -> u64
 {
     let mut dead = column_basis::ALL_DEAD;
     let mut next: u64 = 0;
-    let mut k: usize = 0;
-    while k < words.len() {
-        let w = words[k];
+    for &w in words {
         let top = word::highest_bit(w);
         if top < next {
             return column_basis::ALL_DEAD;
@@ -31,26 +29,20 @@ fn spread(words: &[u64], slots: &mut [u64]) -> u64
         slots[top as usize] = w;
         dead = dead ^ (1u64 << top);
         next = top + 1;
-        k += 1;
     }
     dead
 }
 
 // Whether, of the bits that aren't dead, the word of each slot has its own alone, and that of a dead slot none.
 fn has_own_bits(slots: &[u64], dead: u64) -> bool
+    requires { length slots.now ≡ 64 }
     ensures { result ≡ true → OwnBits slots.now dead }
 {
     let alive = dead ^ column_basis::ALL_DEAD;
-    let mut i: usize = 0;
-    while i < 64 {
-        let w = word::word_at(slots, i);
-        let is_other = (w & alive) != (alive & (1u64 << i));
-        if is_other {
-            return false;
-        }
-        i += 1;
-    }
-    true
+    slots
+        .iter()
+        .enumerate()
+        .all(|(i, w)| w & alive == alive & (1u64 << i))
 }
 
 // The basis of the slots' words: their dead bits, turned.
@@ -60,11 +52,8 @@ fn turn_in(slots: &[u64], dead: u64) -> [u64; 64]
     ensures list { Held (kept dead slots.now) result dead }
 {
     let mut basis = column_basis::unit_words();
-    let mut i: usize = 0;
-    while i < 64 {
-        let w = word::word_at(slots, i);
-        turned_words::xor_into(&mut basis[..], w & dead, 1u64 << i);
-        i += 1;
+    for (i, w) in slots.iter().enumerate() {
+        turned_words::xor_into(&mut basis, *w & dead, 1u64 << i);
     }
     basis
 }
@@ -75,15 +64,13 @@ fn keep_alive(slots: &[u64], dead: u64, words: &mut [u64]) -> usize
 {
     let mut rest = dead;
     let mut at: usize = 0;
-    let mut k: usize = 0;
-    while k < slots.len() {
+    for w in slots {
         if words.len() <= at {
             return at;
         }
-        words[at] = slots[k];
+        words[at] = *w;
         at += 1 - (rest % 2) as usize;
         rest = rest / 2;
-        k += 1;
     }
     at
 }
@@ -95,12 +82,12 @@ fn reduce_spread(slots: &[u64], dead: u64, columns: &[u64], words: &mut [u64]) -
     ensures { length (kept dead slots.now) ≤ length words.old → (result ≡ length (steps columns.now (kept dead slots.now))) × (take result words.new ≡ steps columns.now (kept dead slots.now)) }
 {
     let mut basis = turn_in(slots, dead);
-    let gone = column_basis::take_columns(&mut basis[..], dead, columns);
+    let gone = column_basis::take_columns(&mut basis, dead, columns);
     if gone == column_basis::ALL_DEAD {
         return 0;
     }
-    let made = column_basis::slot_words(&mut basis[..], gone);
-    keep_alive(&made[..], gone, words)
+    let made = column_basis::slot_words(&mut basis, gone);
+    keep_alive(&made, gone, words)
 }
 
 // Where the basis pays: it takes some time to make it, and to make the words from it again. These are estimates: of how many words and how
@@ -149,20 +136,20 @@ pub fn begin(words: &mut [u64], columns: &[u64]) -> Begun
             left: words.len(),
         };
     }
-    let mut slots = column_basis::no_words();
-    let dead = spread(words, &mut slots[..]);
+    let mut slots = [0; 64];
+    let dead = spread(words, &mut slots);
     if dead == column_basis::ALL_DEAD {
         return Begun {
             count: 0,
             left: words.len(),
         };
     }
-    if !has_own_bits(&slots[..], dead) {
+    if !has_own_bits(&slots, dead) {
         return Begun {
             count: 0,
             left: words.len(),
         };
     }
-    let left = reduce_spread(&slots[..], dead, &columns[..count], words);
+    let left = reduce_spread(&slots, dead, &columns[..count], words);
     Begun { count, left }
 }

@@ -1,13 +1,10 @@
 -- `slot_words` meets its contract: the words have their dead bits from bit d on.
 use mathlib.Core.Path.{◌≡◌}
 use mathlib.Core.List.{List}
-use Prim.Native.Nat.{ℕ, ◌≤◌}
+use Prim.Native.Nat.{ℕ}
 use lib.ListN.{length}
 use Rattle.column_basis.specs.Basis.{Held, Settled}
 use Rattle.column_basis.proofs.slot_words.Given as goal
 
 abbrev pub invariant-loop-d : goal.invariant-loop-d
-invariant-loop-d live = (live.d ≤ 64) × (length live.basis ≡ 64) × (length live.words ≡ 64) × ((l : List ℕ) → Held l live.initial.basis live.dead → Settled l live.basis live.words live.dead live.d)
-
-abbrev pub decreases-loop-d : goal.decreases-loop-d
-decreases-loop-d l = l.d
+invariant-loop-d live = (length live.basis ≡ 64) × (length live.words ≡ 64) × ((l : List ℕ) → Held l live.initial.basis live.dead → Settled l live.basis live.words live.dead live.d)

@@ -1,13 +1,9 @@
 -- `take_columns` meets its contract: the list held, after the columns that are left, is the list after all of them.
 use mathlib.Core.List.{List}
-use Prim.Native.Nat.{ℕ, ◌-◌}
-use lib.ListN.{length}
+use Prim.Native.Nat.{ℕ}
 use Rattle.column_basis.specs.Basis.{Basis, Held}
 use Rattle.column_basis.proofs.LoopLaws.{Taking}
 use Rattle.column_basis.proofs.take_columns.Given as goal
 
-abbrev pub invariant-loop-i : goal.invariant-loop-i
-invariant-loop-i live = Basis live.basis live.gone × ((l : List ℕ) → Held l live.initial.basis live.dead → Taking live.columns l live.basis live.gone live.i)
-
-abbrev pub decreases-loop-i : goal.decreases-loop-i
-decreases-loop-i l = length l.columns - l.i
+abbrev pub invariant-loop-column : goal.invariant-loop-column
+invariant-loop-column live = Basis live.basis live.gone × ((l : List ℕ) → Held l live.initial.basis live.dead → Taking live.columns l live.basis live.gone live.column-index)

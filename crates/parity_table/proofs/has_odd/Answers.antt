@@ -1,14 +1,18 @@
-use native.Mathlib.Omega.{arith}
-use borrow.Author.Tests.{eqb-true, not-false}
+-- `has_odd` meets its contract: where the OR of the parities is 0, each of them is.
+use mathlib.Core.Path.{sym, ◌∙◌}
+use lib.Bits.{bit_or}
 use borrow.Author.Rules.{rules}
-use Rattle.parity_table.proofs.SkipLaws.{none_odd_turn}
+use borrow.Author.Tests.{eqb-true, not-false, tests}
+use Rattle.word.specs.Word.{parity}
+use Rattle.std.proofs.lemmas.Iterator.{YieldsList-from_slice}
+use Rattle.std.proofs.lemmas.Iterator.Consumers.{fold_from_yields_List}
+use Rattle.parity_table.proofs.SkipLaws.{none_odd_fold}
 use Rattle.parity_table.proofs.has_odd.Goals as goal
 
-pub loop-j-init : goal.loop-j-init
-loop-j-init c = (search rules, (λ z i l. let no : ⊥ = omega arith in absurd no))
-
-pub loop-j-preserved : goal.loop-j-preserved
-loop-j-preserved c = (search rules, none_odd_turn c.args.columns.now c.args.w _ c.loop-j.j _ c.loop-j.invariant.1 c.shared_parity-odd.ensures)
-
 pub returns : goal.returns
-returns c = λ e j l. c.loop-j.invariant.1 (eqb-true _ 0 (not-false _ e)) j (omega arith)
+returns c =
+    λ e.
+    none_odd_fold c.args.w c.args.columns.now
+    (sym
+    (fold_from_yields_List _ (λ a x. bit_or a (parity x c.args.w)) _ _ c.fold.ensures.ran (YieldsList-from_slice c.args.columns.now cc) (λ a x b q k. search (rules, tests)))
+    ∙ eqb-true _ 0 (not-false _ e))

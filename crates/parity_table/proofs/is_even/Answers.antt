@@ -1,15 +1,15 @@
-use Rattle.parity_table.proofs.SkipLaws.{evened_start, evened_turn, evened_stop, evened_end}
+-- `is_even` meets its contract.
+use mathlib.Core.Path.{◌∙◌}
+use lib.Dec.{eqb}
 use borrow.Author.Rules.{rules}
+use borrow.Author.Tests.{tests}
+use Rattle.word.specs.Word.{parity}
+use Rattle.std.proofs.lemmas.Iterator.{YieldsList-from_slice}
+use Rattle.std.proofs.lemmas.Iterator.Search.{all_from_yields_List}
+use Rattle.parity_table.proofs.SkipLaws.{x_free_each}
 use Rattle.parity_table.proofs.is_even.Goals as goal
 
-pub loop-i-init : goal.loop-i-init
-loop-i-init c = evened_start _ _
-
-pub returns-then-is_odd : goal.returns-then-is_odd
-returns-then-is_odd c = evened_stop _ _ _ _ c.loop-i.invariant (search rules) c.shared_parity-is_odd.ensures c.if-is_odd.true
-
-pub loop-i-preserved : goal.loop-i-preserved
-loop-i-preserved c = evened_turn _ _ _ _ c.loop-i.invariant (search rules) c.shared_parity-is_odd.ensures c.if-is_odd.false
-
 pub returns : goal.returns
-returns c = evened_end _ _ _ c.loop-i.invariant (search rules)
+returns c =
+    all_from_yields_List (λ w. eqb (parity c.args.column w) 0) _ _ _ c.all.ensures.ran (YieldsList-from_slice c.args.words.now cc) (λ x b q k. search (rules, tests))
+    ∙ x_free_each _ _

@@ -3,4 +3,4 @@ use Rattle.parity_table.proofs.SkipLaws.{table_run_from}
 use Rattle.parity_table.proofs.skip_even.Goals as goal
 
 pub returns : goal.returns
-returns c = table_run_from _ c.fill_parities.new.table _ _ _ c.fill_parities.ensures (λ i. (c.shared_slice_known-2-1.given i).fits) c.skip_by_table.ensures
+returns c = table_run_from _ c.fill_parities.new.table _ _ _ c.fill_parities.ensures (λ i. (c.type_inv.columns i).fits) c.skip_by_table.ensures

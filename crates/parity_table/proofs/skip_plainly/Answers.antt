@@ -1,18 +1,19 @@
-use mathlib.Core.Path.{sym, ◌∙◌}
-use Rattle.parity_table.proofs.SkipLaws.{said_skipped, skipped_turn, skipped_stop, skipped_all}
+-- `skip_plainly` meets its contract: the columns of the even blocks and those counted behind them are all that are even with every word.
+use mathlib.Core.Path.{◌∙◌}
 use borrow.Author.Rules.{rules}
+use borrow.Author.Tests.{tests}
+use Rattle.combinations.specs.Combination.{x_free}
+use Rattle.std.proofs.lemmas.Iterator.{YieldsList-from_slice}
+use Rattle.std.proofs.lemmas.Iterator.Consumers.{YieldsList-at, count_from_yields_List}
+use Rattle.std.proofs.lemmas.Iterator.Search.{YieldsList-from_take_while}
+use Rattle.parity_table.proofs.SkipLaws.{run_prefix, from_part, run_behind}
 use Rattle.parity_table.proofs.skip_plainly.Goals as goal
 
-pub loop-i-init : goal.loop-i-init
-loop-i-init c = said_skipped _ _ _ _ c.skip_blocks-i.ensures
-
-pub returns-then-not-is_even : goal.returns-then-not-is_even
-returns-then-not-is_even c =
-    skipped_stop _ _ _ _ c.loop-i.invariant (search rules) (sym c.is_even.ensures ∙ c.if-not-is_even.true)
-
-pub loop-i-preserved : goal.loop-i-preserved
-loop-i-preserved c =
-    skipped_turn _ _ _ _ c.loop-i.invariant (search rules) (sym c.is_even.ensures ∙ c.if-not-is_even.false)
-
 pub returns : goal.returns
-returns c = skipped_all _ _ _ _ c.loop-i.invariant (search rules)
+returns c =
+    run_behind (x_free c.args.words.now) _ _ _ _ _ (from_part c.args.columns.now c.args.from c.min.result c.min.ensures) c.even_blocks-even.ensures.within
+    c.even_blocks-even.ensures.even
+    (count_from_yields_List c.take_while.result _ c.count.ensures.ran
+    (YieldsList-from_take_while _ (x_free c.args.words.now) (YieldsList-at c.take_while.ensures.source (YieldsList-from_slice _ c.iter.ensures.rest))
+    c.take_while.ensures.closure c.take_while.ensures.done (λ x b q k. search (rules, tests)))
+    ∙ run_prefix _ _)

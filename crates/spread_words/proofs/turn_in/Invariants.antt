@@ -1,10 +1,6 @@
 -- `turn_in` meets its contract: the dead bits of the slots passed are turned.
-use Prim.Native.Nat.{◌≤◌, ◌-◌}
 use Rattle.spread_words.proofs.TurnLaws.{TurnedIn}
 use Rattle.spread_words.proofs.turn_in.Given as goal
 
 abbrev pub invariant-loop-i : goal.invariant-loop-i
-invariant-loop-i l = (l.i ≤ 64) × TurnedIn l.slots l.basis l.dead l.i
-
-abbrev pub decreases-loop-i : goal.decreases-loop-i
-decreases-loop-i l = 64 - l.i
+invariant-loop-i l = TurnedIn l.slots l.basis l.dead l.i
