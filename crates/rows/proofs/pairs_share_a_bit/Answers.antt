@@ -10,7 +10,7 @@ loop-t-init c = pairs_start _ _
 pub loop-t-preserved : goal.loop-t-preserved
 loop-t-preserved c =
     let at = c.loop-t in
-    pairs_turn _ (λ i. (c.shared_slice_known-1.given i).fits) _ _ _ at.even at.odd _ _ refl (omega arith) at.invariant
+    pairs_turn _ (λ i. (c.type_inv.list i).fits) _ _ _ at.even at.odd _ _ refl (omega arith) at.invariant
     c.shared_words-even.ensures c.shared_words-odd.ensures
 
 pub returns : goal.returns
