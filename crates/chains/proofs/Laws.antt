@@ -12,8 +12,8 @@ use native.Mathlib.Omega.{arith}
 use borrow.Author.Tests.{eqb-false, eq-eqb, ne_eqb}
 use lib.Bits.{bit_xor, bit_or, xor_zero_r, xor_lt, xor_self}
 use lib.Dec.{eqb}
-use lib.ListN.{length, get_or, drop, drop_of_length-le, get_or-eq_default}
-use lib.Seq.{drop-cons, get_or-drop}
+use lib.ListN.{length, get_or, take, drop, drop_of_length-le, get_or-eq_default}
+use lib.Seq.{drop-cons, get_or-drop, get_or-take}
 use lib.Pow.{pow_pos}
 use Rattle.word.specs.Word.{digit, beyond}
 use Rattle.word.specs.Some.{any_of}
@@ -165,14 +165,19 @@ marked_64 ws w h =
     ∙ ap (driven ws (λ c. digit c w)) both
     ∙ driven_stops ws (λ c. digit c w) 64 (length ws) (λ c l. ap (λ (d : ℕ). chosen d (get_or ws c 0)) (digit_past 64 w c h l))
 
+-- .. of the first 64 words of a list
+marked_front : (ws : List ℕ) (w : ℕ) → w < 2 ^ 64 → xor_marked (take 64 ws) w ≡ driven ws (λ c. digit c w) 64
+marked_front ws w h =
+    marked_64 (take 64 ws) w h ∙ driven_words_ext (take 64 ws) ws (λ c. digit c w) 64 (λ c l. get_or-take 64 ws c 0 l)
+
 -- 64 chains more
 pub driven_turn : (ws row part : List ℕ) → ((i : ℕ) → get_or row i 0 < 256) → (i marks drive r : ℕ) → drive ≡ driven ws (cell row) (64 * i)
-    → marks ≡ word_at row (8 * i) → marks < 2 ^ 64 → part ≡ drop (64 * i) ws → r ≡ xor_marked part marks
+    → marks ≡ word_at row (8 * i) → marks < 2 ^ 64 → part ≡ take 64 (drop (64 * i) ws) → r ≡ xor_marked part marks
     → bit_xor drive r ≡ driven ws (cell row) (64 * (i + 1))
 driven_turn ws row part bytes i marks drive r ed em h ep er =
     let next : 64 * i + 64 ≡ 64 * (i + 1) = omega arith in
     ap₂ bit_xor ed
-    (er ∙ ap (λ (l : List ℕ). xor_marked l marks) ep ∙ marked_64 (drop (64 * i) ws) marks h
+    (er ∙ ap (λ (l : List ℕ). xor_marked l marks) ep ∙ marked_front (drop (64 * i) ws) marks h
     ∙ driven_ext (drop (64 * i) ws) (λ c. digit c marks) (λ c. cell row (64 * i + c)) 64 (λ c l. ap (digit c) em ∙ word_cell row bytes i c l))
     ∙ sym (driven_add ws (cell row) (64 * i) 64) ∙ ap (driven ws (cell row)) next
 

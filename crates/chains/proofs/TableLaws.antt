@@ -5,7 +5,7 @@ use mathlib.Core.Bool.{Bool, true, false, cond, not, ◌&&◌}
 use mathlib.Core.Logic.{dite}
 use mathlib.Core.List.{List, []}
 use Prim.Native.Nat.{ℕ, zero, suc, ◌+◌, ◌-◌, ◌*◌, ◌/◌, ◌%◌, ◌^◌, ◌≤◌, ◌<◌, min}
-use native.Mathlib.Nat.{add-zero, add_assoc}
+use native.Mathlib.Nat.{add_assoc}
 use native.Mathlib.Numerals.{add-one}
 use native.Mathlib.Decide.{dec_le, dec_lt}
 use native.Mathlib.Omega.{arith}
@@ -153,20 +153,23 @@ module _ (ws : List ℕ) where
           d.new i a b ∙ ap₂ bit_xor (m.1 (i - h) (omega arith) ∙ ap (half_byte ws) from) ew
           ∙ sym (half_byte_next e k h (i - (e + h)) hk hh h8 (omega arith) h0) ∙ ap (half_byte ws) here
 
-  -- the sixteen entries of a group
-  pub made_group : (t t1 t2 t3 t4 : List ℕ) (e w0 w1 w2 w3 : ℕ) → e % 16 ≡ 0 → Made t e → w0 ≡ get_or ws (e / 4) 0
-      → w1 ≡ get_or ws (e / 4 + 1) 0 → w2 ≡ get_or ws (e / 4 + 2) 0 → w3 ≡ get_or ws (e / 4 + 3) 0 → Doubled t t1 e 1 1 w0
-      → Doubled t1 t2 e 2 2 w1 → Doubled t2 t3 e 4 4 w2 → Doubled t3 t4 e 8 8 w3 → Made t4 (e + 16)
-  made_group t t1 t2 t3 t4 e w0 w1 w2 w3 h m e0 e1 e2 e3 d1 d2 d3 d4 =
-      let first : w0 ≡ get_or ws (e / 4 + 0) 0 = e0 ∙ ap (λ (x : ℕ). get_or ws x 0) (sym (add-zero (e / 4))) in
-      let m1 = made_doubles t t1 e 0 1 w0 (omega arith) refl (omega arith) h first (made_first t e h m) d1 in
-      let m2 = made_doubles t1 t2 e 1 2 w1 (omega arith) refl (omega arith) h e1 (to t1 _ _ (omega arith) m1) d2 in
-      let m3 = made_doubles t2 t3 e 2 4 w2 (omega arith) refl (omega arith) h e2 (to t2 _ _ (omega arith) m2) d3 in
-      let m4 = made_doubles t3 t4 e 3 8 w3 (omega arith) refl (omega arith) h e3 (to t3 _ _ (omega arith) m3) d4 in
+  -- the sixteen entries of group g
+  pub made_group : (t t1 t2 t3 t4 : List ℕ) (g w0 w1 w2 w3 : ℕ) → Made t (16 * g) → w0 ≡ get_or ws (4 * g) 0
+      → w1 ≡ get_or ws (4 * g + 1) 0 → w2 ≡ get_or ws (4 * g + 2) 0 → w3 ≡ get_or ws (4 * g + 3) 0 → Doubled t t1 (16 * g) 1 1 w0
+      → Doubled t1 t2 (16 * g) 2 2 w1 → Doubled t2 t3 (16 * g) 4 4 w2 → Doubled t3 t4 (16 * g) 8 8 w3 → Made t4 (16 * (g + 1))
+  made_group t t1 t2 t3 t4 g w0 w1 w2 w3 m e0 e1 e2 e3 d1 d2 d3 d4 =
+      let whole : 16 * g % 16 ≡ 0 = omega arith in
+      let m1 = made_doubles t t1 (16 * g) 0 1 w0 (omega arith) refl (omega arith) whole (e0 ∙ word 0 _ (omega arith)) (made_first t (16 * g) whole m) d1 in
+      let m2 = made_doubles t1 t2 (16 * g) 1 2 w1 (omega arith) refl (omega arith) whole (e1 ∙ word 1 _ (omega arith)) (to t1 _ _ (omega arith) m1) d2 in
+      let m3 = made_doubles t2 t3 (16 * g) 2 4 w2 (omega arith) refl (omega arith) whole (e2 ∙ word 2 _ (omega arith)) (to t2 _ _ (omega arith) m2) d3 in
+      let m4 = made_doubles t3 t4 (16 * g) 3 8 w3 (omega arith) refl (omega arith) whole (e3 ∙ word 3 _ (omega arith)) (to t3 _ _ (omega arith) m3) d4 in
       to t4 _ _ (omega arith) m4
     where
       to : (l : List ℕ) (a b : ℕ) → a ≡ b → Made l a → Made l b
       to l a b e k = subst (Made l) e k
+
+      word : (k i : ℕ) → i ≡ 16 * g / 4 + k → get_or ws i 0 ≡ get_or ws (16 * g / 4 + k) 0
+      word k i e = ap (λ (x : ℕ). get_or ws x 0) e
 
   pub made_ends : (table : List ℕ) (e : ℕ) → Made table e → e ≡ table_end (length ws) → (i : ℕ) → i < 1024 → get_or table i 0 ≡ half_byte ws i
   unfolding Made

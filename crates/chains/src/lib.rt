@@ -2,7 +2,7 @@
 // words, numbers and rows; it knows no register. Every function is total.
 #![tactic(auto)]
 
-ghost use Rattle.std.specs.Prelude.{◌≡◌, min, ◌+◌, ◌≤◌, ◌<◌, length, get_or, replicate};
+ghost use Rattle.std.specs.Prelude.{◌≡◌, min, ◌+◌, ◌≤◌, ◌<◌, length, get_or};
 ghost use Rattle.std.specs.Int.Bits.{bit_xor};
 ghost use Rattle.rows.specs.Row.{cell};
 ghost use Rattle.chains.specs.Driven.{chosen, driven, bad_spread};
@@ -13,16 +13,13 @@ ghost use Rattle.chains.specs.Table.{HalfBytes, table_end, looked_byte, looked_u
 pub fn is_bad_spread(m: u64, spread: &[u64]) -> bool
     ensures { result ≡ bad_spread m spread.now }
 {
-    let mut seen = 0u64;
-    let mut none = false;
-    let mut c = 0;
-    while c < spread.len() {
-        let w = spread[c];
-        seen = seen | w;
-        none = none | (w == 0);
-        c += 1;
+    let mut seen = 0;
+    let mut has_zero = false;
+    for w in spread {
+        seen |= *w;
+        has_zero |= *w == 0;
     }
-    none | word::is_beyond(m, seen)
+    has_zero | word::is_beyond(m, seen)
 }
 
 // The word w where the digit is 1, and 0 where it is 0.
@@ -37,12 +34,9 @@ pub fn chosen_word(digit: u64, w: u64) -> u64
 pub fn driven_word(spread: &[u64], row: &[u8]) -> u64
     ensures { result ≡ driven spread.now (cell row.now) (length spread.now) }
 {
-    let mut drive = 0u64;
-    let mut i = 0;
-    while 64 * i < spread.len() {
-        let marks = numbers::read_word(row, 8 * i);
-        drive = drive ^ word::xor_marked(&spread[64 * i..], marks);
-        i += 1;
+    let mut drive = 0;
+    for (i, words) in spread.chunks(64).enumerate() {
+        drive ^= word::xor_marked(words, numbers::read_word(row, 8 * i));
     }
     drive
 }
@@ -54,34 +48,19 @@ pub fn all_words(words: [u64; 256]) -> [u64; 256]
     words
 }
 
-fn no_entries() -> [u64; 1024]
-    ensures { result ≡ replicate 1024 0 }
-{
-    [0u64; 1024]
-}
-
-// How many entries of the table of half bytes can differ from 0, for n chains.
-fn table_end(n: usize) -> usize
-    ensures { result ≡ table_end n }
-{
-    if n < 256 { 16 * ((n + 3) / 4) } else { 1024 }
-}
-
 // The table of half bytes: for each four chains of the first 256, the XORs of some of their spread words, by which of their
 // cells are 1. With it a slice costs one look for each half byte of its row.
 pub fn half_bytes(spread: &[u64]) -> [u64; 1024]
     ensures { HalfBytes spread.now result }
 {
-    let mut table = no_entries();
-    let end = table_end(spread.len());
-    let mut e = 0;
-    while e < end {
-        let c = e / 4;
+    let mut table = [0; 1024];
+    for g in 0..spread.len().min(256).div_ceil(4) {
+        let c = 4 * g;
+        let e = 16 * g;
         word::double_entries(&mut table[..], e, 1, word::word_at(spread, c));
         word::double_entries(&mut table[..], e, 2, word::word_at(spread, c + 1));
         word::double_entries(&mut table[..], e, 4, word::word_at(spread, c + 2));
         word::double_entries(&mut table[..], e, 8, word::word_at(spread, c + 3));
-        e += 16;
     }
     table
 }
@@ -91,7 +70,7 @@ fn looked_byte(table: &[u64; 1024], row: &[u8], i: usize) -> u64
     requires { (i < length row.now) × (i < 32) }
     ensures { result ≡ looked_byte table.now row.now i }
 {
-    let v = numbers::wide(row[i]) as usize;
+    let v = usize::from(row[i]);
     table[32 * i + v % 16] ^ table[32 * i + 16 + v / 16]
 }
 
@@ -115,11 +94,9 @@ fn looked_rest(table: &[u64; 1024], row: &[u8], from: usize, count: usize) -> u6
     requires { (from ≤ count) × (count ≤ length row.now) × (count ≤ 32) }
     ensures { bit_xor (looked_up table.now row.now from) result ≡ looked_up table.now row.now count }
 {
-    let mut drive = 0u64;
-    let mut i = from;
-    while i < count {
-        drive = drive ^ looked_byte(table, row, i);
-        i += 1;
+    let mut drive = 0;
+    for i in from..count {
+        drive ^= looked_byte(table, row, i);
     }
     drive
 }
@@ -128,12 +105,11 @@ fn looked_rest(table: &[u64; 1024], row: &[u8], from: usize, count: usize) -> u6
 pub fn looked_up(table: &[u64; 1024], row: &[u8]) -> u64
     ensures { result ≡ looked_up table.now row.now (min (length row.now) 32) }
 {
-    let count = numbers::moved(0, row.len(), 32);
-    let mut drive = 0u64;
-    let mut i = 0;
-    while i + 8 <= count {
-        drive = drive ^ looked_eight(table, row, i);
-        i += 8;
+    let count = row.len().min(32);
+    let eights = count / 8;
+    let mut drive = 0;
+    for i in 0..eights {
+        drive ^= looked_eight(table, row, 8 * i);
     }
-    drive ^ looked_rest(table, row, i, count)
+    drive ^ looked_rest(table, row, 8 * eights, count)
 }

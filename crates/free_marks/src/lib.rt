@@ -2,7 +2,7 @@
 // and ties; it knows no register and no file. Every function is total.
 #![tactic(auto)]
 
-ghost use Rattle.std.specs.Prelude.{◌≡◌, cond, ◌&&◌, ℕ, ◌<◌, ◌≤◌, eqb, get_or, replicate};
+ghost use Rattle.std.specs.Prelude.{◌≡◌, cond, ◌&&◌, ℕ, ◌<◌, ◌≤◌, eqb, get_or};
 ghost use Rattle.rows.specs.Row.{row_bytes, cell};
 ghost use Rattle.rows.specs.Lists.{list_row, cells_of};
 ghost use Rattle.ties.specs.Ties.{ties_in};
@@ -22,24 +22,15 @@ pub fn list_rows(n: u16) -> Rows
     }
 }
 
-// 512 rows of 32 bytes, all 0.
-fn no_rows() -> [u8; 16384]
-    ensures { result ≡ replicate 16384 0 }
-{
-    [0u8; 16384]
-}
-
 // The rows of s slices of n chains, one after the other.
 fn copy_rows(list: &[u8], marks: Rows, n: u16, s: u16) -> [u8; 16384]
     ensures { n ≤ 256 → s ≤ 512 → marks.bytes ≡ row_bytes n → (t c : ℕ) → t < s → cell (list_row n result t) c ≡ cells_of list.now marks t c }
 {
     let bytes = rows::row_bytes(n as usize);
-    let mut copy = no_rows();
-    let mut t: u16 = 0;
-    while t < s {
+    let mut copy = [0; 16384];
+    for t in 0..s {
         let row = rows::row_of(list, marks, t);
         written_numbers::write_bytes(&mut copy[..], bytes * (t as usize), row);
-        t += 1;
     }
     copy
 }
@@ -49,7 +40,7 @@ fn clear_cell(copy: &mut [u8], n: u16, t: u16, c: u16)
     ensures { (u d : ℕ) → cell (list_row n copy.new u) d ≡ cond (eqb t u && eqb c d) 0 (cell (list_row n copy.old u) d) }
 {
     let bytes = rows::row_bytes(n as usize);
-    let byte = (c as usize) / 8;
+    let byte = c as usize / 8;
     if bytes <= byte {
         return;
     }
@@ -57,7 +48,7 @@ fn clear_cell(copy: &mut [u8], n: u16, t: u16, c: u16)
     if copy.len() <= at {
         return;
     }
-    copy[at] = copy[at] & (255 - (1u8 << (c % 8)));
+    copy[at] &= !(1 << (c % 8));
 }
 
 // Clears the cell that entry i names, where its flag is 0; an entry past the flags' end has flag 0.
@@ -86,10 +77,8 @@ pub fn unmark(
     ensures { n ≤ 256 → s ≤ 512 → marks.bytes ≡ row_bytes n → (t c : ℕ) → t < s → cell (list_row n result t) c ≡ unmarked (cells_of list.now marks) (ties_in ties.now count) flags.now t c }
 {
     let mut copy = copy_rows(list, marks, n, s);
-    let mut i: u16 = 0;
-    while i < count {
+    for i in 0..count {
         clear_entry(&mut copy[..], n, ties, flags, i);
-        i += 1;
     }
     copy
 }

@@ -1,6 +1,7 @@
 pub mod CellLaws
 pub mod SpareLaws
 pub mod RowLaws
+pub mod PartLaws
 pub mod PairLaws
 pub mod ListLaws
 pub mod DigitLaws

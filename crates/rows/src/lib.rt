@@ -22,21 +22,21 @@ pub struct Rows {
 pub fn row_bytes(n: usize) -> usize
     ensures { result ≡ row_bytes n }
 {
-    n / 8 + (n % 8 + 7) / 8
+    n.div_ceil(8)
 }
 
 // The cell of chain c in a row: 0 or 1, and 0 past the row's end. It meets no number.
 pub fn cell_at(row: &[u8], c: usize) -> u64
     ensures { result ≡ cell row.now c }
 {
-    (numbers::wide(numbers::byte_at(row, c / 8)) >> (c % 8)) % 2
+    (u64::from(numbers::byte_at(row, c / 8)) >> (c % 8)) % 2
 }
 
 // Number 9: whether a row of n chains has a spare bit set. The spare bits are the high ones of one byte.
 pub fn has_spare_bit(n: usize, row: &[u8]) -> bool
     ensures { result ≡ spare_set n row.now }
 {
-    (n % 8 != 0) & (numbers::wide(numbers::byte_at(row, n / 8)) >> (n % 8) != 0)
+    (n % 8 != 0) & (numbers::byte_at(row, n / 8) >> (n % 8) != 0)
 }
 
 // Row t of the rows that stand in a list of bytes, as far as it is there: a part of the list itself.
@@ -45,29 +45,7 @@ pub fn row_of(list: &[u8], rows: Rows, t: u16) -> &[u8]
 {
     let at = rows.at as usize;
     let stride = rows.stride as usize;
-    let row = t as usize;
-    numbers::part(list, at + stride * row, rows.bytes as usize)
-}
-
-// The same as `has_spare_row`, by one byte of each row.
-fn finds_spare_row(n: usize, rows: &[u8], count: usize) -> bool
-    ensures { result ≡ spare_in n (list_row n rows.now) count }
-{
-    let bytes = row_bytes(n);
-    let mut at = 0;
-    let mut t = 0;
-    while t < count {
-        if rows.len() - at < bytes {
-            return false;
-        }
-        let end = at + bytes;
-        if has_spare_bit(n, &rows[at..end]) {
-            return true;
-        }
-        at = end;
-        t += 1;
-    }
-    false
+    numbers::part(list, at + stride * usize::from(t), rows.bytes as usize)
 }
 
 // Whether one of the first `count` rows of a list of rows of n chains has a spare bit set; a row past the end of the list is
@@ -78,21 +56,21 @@ pub fn has_spare_row(n: usize, rows: &[u8], count: usize) -> bool
     if n % 8 == 0 {
         return false;
     }
-    finds_spare_row(n, rows, count)
+    rows.chunks_exact(row_bytes(n))
+        .take(count)
+        .any(|row| has_spare_bit(n, row))
 }
 
-// Whether a byte of `values` and the byte of `marks` at the same place have a bit in common.
+// Whether a byte of `values` and the byte of `marks` at the same place have a bit in common. It looks at all of them: without a way out
+// the loop is done by many bytes at once.
 pub fn share_a_bit(values: &[u8], marks: &[u8]) -> bool
     ensures { result ≡ shares_bit values.now marks.now }
 {
-    let common = numbers::shorter(values.len(), marks.len());
-    let mut shared = 0u8;
-    let mut i = 0;
-    while i < common {
-        shared = shared | (values[i] & marks[i]);
-        i += 1;
-    }
-    shared != 0
+    values
+        .iter()
+        .zip(marks)
+        .fold(0, |shared, (v, k)| shared | (v & k))
+        != 0
 }
 
 // Of two rows of 32 bytes, the one from place `at` on and the other behind it: what the first words share, and the third ones. At 8 bytes
@@ -111,15 +89,12 @@ pub fn pairs_share_a_bit(list: &[u8], from: usize, count: u16) -> bool
     requires { from + 64 * count ≤ length list.now }
     ensures { result ≡ any_below count (λ t. shares_bit (take 32 (drop (from + 64 * t) list.now)) (take 32 (drop (from + 64 * t + 32) list.now))) }
 {
-    let mut at = from;
-    let mut even = 0u64;
-    let mut odd = 0u64;
-    let mut t: u16 = 0;
-    while t < count {
-        even = even | shared_words(list, at);
-        odd = odd | shared_words(list, at + 8);
-        at += 64;
-        t += 1;
+    let mut even = 0;
+    let mut odd = 0;
+    for t in 0..usize::from(count) {
+        let at = from + 64 * t;
+        even |= shared_words(list, at);
+        odd |= shared_words(list, at + 8);
     }
     (even | odd) != 0
 }

@@ -2,19 +2,20 @@
 --
 --   Made f l i        the first i places of l have what f gives, and the others 0
 --   made_starts, made_turns   the loop that makes it
---   any_starts, any_turns, any_ends   a loop that looks at all of a range
---   opening_by ns i    the flag of entry i by the list ns of symbol numbers
+--   any_list          a test over a list is one over its places
 --   numbers_any       a test over the first places of a list is one over the list
---   found_none, missing_one   the flag by the number found or missing; opening_made: over the first places of a list
+--   opening_by ns i    the flag of entry i by the list ns of symbol numbers
+--   opening_made      .. by whether one of the numbers before it is the same
 --   flags_opened      the flags made from the symbol numbers are those of the ties
 --   counted_starts, counted_turns, counted_ends   a loop that adds up
+--   counted_list      a sum over a list is one over its places
 --   flags_counted     the number of flags that aren't 0 is that of the named symbols
 -- Assumes nothing.
 use mathlib.Core.Path.{◌≡◌, refl, sym, ap, ap₂, ◌∙◌}
 use mathlib.Core.Bool.{Bool, true, false, not, cond, ◌||◌}
 use mathlib.Core.Logic.{dite}
-use mathlib.Core.List.{List}
-use Prim.Native.Nat.{ℕ, ◌+◌, ◌*◌, ◌≤◌, ◌<◌, min}
+use mathlib.Core.List.{List, [], ◌∷◌}
+use Prim.Native.Nat.{ℕ, suc, ◌+◌, ◌*◌, ◌≤◌, ◌<◌, min}
 use native.Mathlib.Numerals.{add-one}
 use native.Mathlib.Decide.{dec_lt, ℕ_discrete}
 use native.Mathlib.Omega.{arith}
@@ -23,9 +24,13 @@ use lib.ListN.{length, get_or, take, set, replicate, length-replicate, get_or-re
 use lib.Seq.{length-take-le, get_or-take, get_or-set_same, get_or-set_other}
 use Rattle.word.specs.Some.{any_below}
 use Rattle.word.proofs.SomeLaws.{any_below_ext}
+use Rattle.word.proofs.RangeLaws.{any_below_add}
+use Rattle.std.specs.List.{list_any, sum_by}
+use Rattle.std.proofs.lemmas.List.Sums.{sum_by-cons}
+use mir.Val.{bool_byte}
 use Rattle.numbers.specs.Bytes.{count_at}
 use Rattle.rows.specs.Marks.{total}
-use Rattle.rows.proofs.MarkLaws.{total_ext}
+use Rattle.rows.proofs.MarkLaws.{total_none, total_ext, total_front}
 use Rattle.ties.specs.Ties.{Ties, entry_bytes, ties_in}
 use Rattle.ties.specs.Symbols.{opens, flag, named_symbols}
 
@@ -59,16 +64,19 @@ made_turns f l i w m b e = record { done = done; rest = rest }
 
 -- ---- a number among others
 
-pub any_starts : (f : ℕ → Bool) → false ≡ any_below 0 f
+-- a test over a list
+pub any_list : (t : ℕ → Bool) (l : List ℕ) → list_any t l ≡ any_below (length l) (λ h. t (get_or l h 0))
 unfolding any_below
-any_starts f = refl
-
-pub any_turns : (f : ℕ → Bool) (h : ℕ) (b : Bool) → b ≡ any_below h f → (b || f h) ≡ any_below (h + 1) f
-unfolding any_below
-any_turns f h b e = ap (λ (x : Bool). x || f h) e ∙ ap (λ (k : ℕ). any_below k f) (sym (add-one h))
-
-pub any_ends : (f : ℕ → Bool) (h n : ℕ) (b : Bool) → b ≡ any_below h f → h ≡ n → b ≡ any_below n f
-any_ends f h n b e q = e ∙ ap (λ (k : ℕ). any_below k f) q
+any_list t [] = refl
+any_list t (x ∷ l) =
+    let all : 1 + length l ≡ suc (length l) = omega arith in
+    ap (λ (b : Bool). t x || b)
+    (any_list t l ∙ any_below_ext (length l) (λ h. t (get_or l h 0)) (λ h. t (get_or (x ∷ l) (1 + h) 0)) (λ h b. next h))
+    ∙ sym (any_below_add 1 (length l) (λ h. t (get_or (x ∷ l) h 0)))
+    ∙ ap (λ (n : ℕ). any_below n (λ h. t (get_or (x ∷ l) h 0))) all
+  where
+    next : (h : ℕ) → t (get_or l h 0) ≡ t (get_or (x ∷ l) (1 + h) 0)
+    next h = let e : suc h ≡ 1 + h = omega arith in ap (λ (k : ℕ). t (get_or (x ∷ l) k 0)) e
 
 -- among the first i places
 pub numbers_any : (ns : List ℕ) (i j : ℕ) → i ≤ length ns
@@ -79,19 +87,19 @@ numbers_any ns i j b =
 
 -- ---- flags
 
-pub found_none : (b x : Bool) → b ≡ x → b ≡ true → ◌≡◌ {A = ℕ} 0 (cond x 0 1)
-found_none b x e t = ap (λ (y : Bool). cond {A = ℕ} y 0 1) (sym t ∙ e)
-
-pub missing_one : (b x : Bool) → b ≡ x → b ≡ false → ◌≡◌ {A = ℕ} 1 (cond x 0 1)
-missing_one b x e t = ap (λ (y : Bool). cond {A = ℕ} y 0 1) (sym t ∙ e)
-
 pub opening_by : List ℕ → ℕ → ℕ
 opening_by ns i = cond (any_below i (λ h. eqb (get_or ns h 0) (get_or ns i 0))) 0 1
 
-pub opening_made : (ns : List ℕ) (i w : ℕ) → i ≤ length ns
-    → w ≡ cond (any_below (length (take i ns)) (λ h. eqb (get_or (take i ns) h 0) (get_or ns i 0))) 0 1 → w ≡ opening_by ns i
+-- what a test turned round gives as a number
+not_as_number : (b : Bool) → bool_byte (not b) ≡ cond b 0 1
+not_as_number true = refl
+not_as_number false = refl
+
+pub opening_made : (ns : List ℕ) (i w : ℕ) (b : Bool) → i ≤ length ns
+    → b ≡ any_below (length (take i ns)) (λ h. eqb (get_or (take i ns) h 0) (get_or ns i 0)) → w ≡ bool_byte (not b) → w ≡ opening_by ns i
 unfolding opening_by
-opening_made ns i w b e = e ∙ ap (λ (x : Bool). cond {A = ℕ} x 0 1) (numbers_any ns i (get_or ns i 0) b)
+opening_made ns i w b h e ew =
+    ew ∙ not_as_number b ∙ ap (λ (x : Bool). cond {A = ℕ} x 0 1) (e ∙ numbers_any ns i (get_or ns i 0) h)
 
 turned : (b : Bool) → cond {A = ℕ} b 0 1 ≡ cond (not b) 1 0
 turned true = refl
@@ -123,6 +131,12 @@ counted_turns f i found w e ew = ap₂ ◌+◌ e ew ∙ ap (λ (k : ℕ). total 
 
 pub counted_ends : (f : ℕ → ℕ) (i n found : ℕ) → found ≡ total i f → i ≡ n → found ≡ total n f
 counted_ends f i n found e q = e ∙ ap (λ (k : ℕ). total k f) q
+
+-- a sum over a list
+pub counted_list : (f : ℕ → ℕ) (l : List ℕ) → sum_by f l ≡ total (length l) (λ i. f (get_or l i 0))
+counted_list f [] = sym (total_none (λ i. f (get_or [] i 0)))
+counted_list f (x ∷ l) =
+    sum_by-cons f x l ∙ ap (λ (n : ℕ). f x + n) (counted_list f l) ∙ sym (total_front (length l) (λ i. f (get_or (x ∷ l) i 0)))
 
 flag_one : (b : Bool) → cond {A = ℕ} (eqb (cond b 1 0) 0) 0 1 ≡ cond b 1 0
 flag_one true = refl

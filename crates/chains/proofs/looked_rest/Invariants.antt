@@ -1,12 +1,8 @@
 -- `looked_rest` meets its contract. The loop's invariant: with what the bytes before `from` drive, `drive` is what those before `i` do.
 use mathlib.Core.Path.{◌≡◌}
-use Prim.Native.Nat.{◌≤◌, ◌-◌}
 use lib.Bits.{bit_xor}
 use Rattle.chains.specs.Table.{looked_up}
 use Rattle.chains.proofs.looked_rest.Given as goal
 
 abbrev pub invariant-loop-i : goal.invariant-loop-i
-invariant-loop-i l = (l.i ≤ l.count) × (bit_xor (looked_up l.table l.row l.from) l.drive ≡ looked_up l.table l.row l.i)
-
-abbrev pub decreases-loop-i : goal.decreases-loop-i
-decreases-loop-i l = l.count - l.i
+invariant-loop-i l = bit_xor (looked_up l.table l.row l.from) l.drive ≡ looked_up l.table l.row l.i

@@ -2,7 +2,7 @@
 -- they were copied.
 use mathlib.Core.Path.{◌≡◌}
 use mathlib.Core.Bool.{cond, ◌&&◌}
-use Prim.Native.Nat.{ℕ, ◌≤◌, ◌-◌}
+use Prim.Native.Nat.{ℕ}
 use lib.Dec.{eqb}
 use lib.ListN.{length, get_or}
 use Rattle.word.specs.Some.{any_below}
@@ -14,9 +14,5 @@ use Rattle.free_marks.proofs.unmark.Given as goal
 
 abbrev pub invariant-loop-i : goal.invariant-loop-i
 invariant-loop-i l =
-    (l.i ≤ l.count)
-    × (length l.copy ≡ 16384)
+    (length l.copy ≡ 16384)
     × ((t c : ℕ) → cell (list_row l.n l.copy t) c ≡ cond (any_below l.i (λ h. names (ties_in l.ties l.count) h t c && eqb (get_or l.flags h 0) 0)) 0 (cell (list_row l.n l.initial.copy t) c))
-
-abbrev pub decreases-loop-i : goal.decreases-loop-i
-decreases-loop-i l = l.count - l.i

@@ -6,5 +6,5 @@ use Rattle.rows.proofs.has_spare_bit.Goals as goal
 
 pub returns : goal.returns
 returns c =
-    rw (c.wide.ensures.0, c.byte_at.ensures)
+    rw c.byte_at.ensures
     (sym (spare_set_byte c.args.n c.args.row.now (search rules)))

@@ -4,7 +4,7 @@ use Rattle.rows.proofs.CellLaws.{place_small}
 use Rattle.rows.proofs.row_of.Goals as goal
 
 pub overflow_mul-stride : goal.overflow_mul-stride
-overflow_mul-stride c = record { fits = omega (arith, place_small c.args.rows.stride c.args.t (omega arith) (omega arith)) }
+overflow_mul-stride c = record { fits = omega (arith, place_small c.args.rows.stride c.from.result (omega arith) (omega arith)) }
 
 pub overflow_add-at : goal.overflow_add-at
-overflow_add-at c = record { fits = omega (arith, place_small c.args.rows.stride c.args.t (omega arith) (omega arith)) }
+overflow_add-at c = record { fits = omega (arith, place_small c.args.rows.stride c.from.result (omega arith) (omega arith)) }

@@ -1,12 +1,17 @@
-use Rattle.rows.proofs.RowLaws.{shared_start, shared_turn, shared_end}
-use borrow.Author.Rules.{rules}
+-- `share_a_bit` meets its contract: the OR of what the bytes at the same places share.
+use Prim.Native.Nat.{ℕ}
+use lib.Bits.{bit_and, bit_or}
+use Rattle.std.proofs.Common.{rules}
+use borrow.Author.Tests.{tests}
+use Rattle.std.proofs.lemmas.Iterator.{YieldsList-from_slice, YieldsList-from_zip}
+use Rattle.std.proofs.lemmas.Iterator.Consumers.{fold_from_yields_List}
+use Rattle.rows.proofs.RowLaws.{shared_bytes}
 use Rattle.rows.proofs.share_a_bit.Goals as goal
 
-pub loop-i-init : goal.loop-i-init
-loop-i-init c = (search rules, shared_start _ _)
-
-pub loop-i-preserved : goal.loop-i-preserved
-loop-i-preserved c = (search rules, shared_turn _ _ _ _ c.loop-i.invariant.1)
-
 pub returns : goal.returns
-returns c = shared_end _ _ _ _ _ c.shorter-common.ensures c.loop-i.invariant.1 (search rules)
+returns c =
+    let v = c.args.values.now in
+    let k = c.args.marks.now in
+    let e = fold_from_yields_List _ (λ (a : ℕ) (p : ℕ × ℕ). bit_or a (bit_and p.0 p.1)) 0 c.fold.result c.fold.ensures.ran
+    (YieldsList-from_zip (YieldsList-from_slice v cc) (YieldsList-from_slice k cc)) (λ a x b q r. search (rules, tests)) in
+    rw e (shared_bytes v k)

@@ -1,13 +1,8 @@
-use native.Mathlib.Omega.{arith}
-use borrow.Author.Rules.{rules}
-use Rattle.symbol_flags.proofs.FlagLaws.{any_starts, any_turns, any_ends}
+-- `has_number` meets its contract: a test over a list is one over its places.
+use mathlib.Core.Path.{◌∙◌}
+use lib.Dec.{eqb}
+use Rattle.symbol_flags.proofs.FlagLaws.{any_list}
 use Rattle.symbol_flags.proofs.has_number.Goals as goal
 
-pub loop-h-init : goal.loop-h-init
-loop-h-init c = (search rules, any_starts _)
-
-pub loop-h-preserved : goal.loop-h-preserved
-loop-h-preserved c = (search rules, any_turns _ _ _ c.loop-h.invariant.1)
-
 pub returns : goal.returns
-returns c = any_ends _ _ _ _ c.loop-h.invariant.1 (omega arith)
+returns c = c.contains.ensures.value ∙ any_list (λ x. eqb x c.args.j) c.args.numbers.now
