@@ -12,7 +12,7 @@ use borrow.Author.Tests.{eqb-true, not-false}
 use lib.Dec.{eqb}
 use Rattle.word.specs.Some.{any_below}
 use Rattle.word.proofs.SomeLaws.{any_below_false}
-use lib.Bits.{bit_xor, bit_and, and_shr, and_step, bit_or, or_step, or_shr, or_zero_r}
+use lib.Bits.{bit_xor, bit_and, and_mask, xor_add_and, and_shr, and_step, bit_or, or_step, or_shr}
 use lib.ListN.{length, get_or, take, drop, set, length-set, replicate, get_or-replicate, get_or-eq_default}
 use lib.Seq.{sets, get_or-drop, get_or-set_same, get_or-set_other}
 use Rattle.word.specs.Word.{digit}
@@ -60,10 +60,6 @@ module _ (g : ℕ → ℕ → ℕ) (f : ℕ → ℕ) (l : List ℕ) where
     rest = λ j b. get_or-set_other l' i j (g (get_or l' i 0) v) 0 (λ (e : j ≡ i). omega arith) ∙ a.rest j (omega arith);
   }
 
-  pub adding_end : (l' : List ℕ) (i count : ℕ) → Adding g f l l' i → i ≤ count → count ≤ i
-      → ((j : ℕ) → j < count → get_or l' j 0 ≡ g (get_or l j 0) (f j)) × ((j : ℕ) → count ≤ j → get_or l' j 0 ≡ get_or l j 0)
-  adding_end l' i count a b e = ((λ j h. a.done j (omega arith)), (λ j h. a.rest j (omega arith)))
-
 -- ---- the marks of the rows together
 
 -- `all` has the marks of the rows before j
@@ -78,20 +74,14 @@ gathered_start l r all e c b =
     none : (i : ℕ) → digit i 0 ≡ 0
     none i = digit_past 0 0 i (omega arith) (omega arith)
 
--- row j put to them: its bytes before `count` were, and those from there on are 0 or past the 256 cells
-pub gathered_turn : (l : List ℕ) (r : Rows) (j count : ℕ) (all row all' : List ℕ) → Gathered l r j all → row ≡ row_of l r j → count ≡ min 32 (length row)
-    → ((i : ℕ) → i < count → get_or all' i 0 ≡ bit_or (get_or all i 0) (get_or row i 0)) → ((i : ℕ) → count ≤ i → get_or all' i 0 ≡ get_or all i 0) → Gathered l r (j + 1) all'
+-- row j put to them
+pub gathered_turn : (l : List ℕ) (r : Rows) (j : ℕ) (all row all' : List ℕ) → Gathered l r j all → row ≡ row_of l r j
+    → ((i : ℕ) → i < 32 → get_or all' i 0 ≡ bit_or (get_or all i 0) (get_or row i 0)) → Gathered l r (j + 1) all'
 unfolding joint_marks
-gathered_turn l r j count all row all' so_far er ec done rest c b =
+gathered_turn l r j all row all' so_far er both c b =
     ap (digit (c % 8)) (both (c / 8) (omega arith)) ∙ digit_or (c % 8) (get_or all (c / 8) 0) (get_or row (c / 8) 0)
     ∙ ap (λ (x : ℕ). max x (cell row c)) (so_far c b) ∙ ap (λ (x : List ℕ). max (joint_marks l r j c) (cell x c)) er
     ∙ ap (λ (k : ℕ). joint_marks l r k c) (sym (add-one j))
-  where
-    both : (i : ℕ) → i < 32 → get_or all' i 0 ≡ bit_or (get_or all i 0) (get_or row i 0)
-    both i h =
-        dite (dec_lt i count) (done i)
-        (λ (n : i < count → ⊥).
-        rest i (omega arith) ∙ sym (or_zero_r (get_or all i 0)) ∙ ap (bit_or (get_or all i 0)) (sym (get_or-eq_default row 0 (omega arith))))
 
 pub gathered_end : (l : List ℕ) (r : Rows) (j t : ℕ) (all : List ℕ) → Gathered l r j all → j ≡ t → Gathered l r t all
 gathered_end l r j t all h e c b = h c b ∙ ap (λ (k : ℕ). joint_marks l r k c) e
@@ -112,7 +102,11 @@ digit_all i l =
 digit_and : (i a b : ℕ) → digit i (bit_and a b) ≡ min (digit i a) (digit i b)
 digit_and i a b = ap (λ (x : ℕ). x % 2) (and_shr a b i) ∙ omega (arith, and_step (a / 2 ^ i) (b / 2 ^ i))
 
--- the other cells of a word
+-- the other cells of a word, which Rattle's `!` subtracts from all
+pub all_flipped : (w : ℕ) → w < 2 ^ 64 → 18446744073709551615 - w ≡ bit_xor w 18446744073709551615
+all_flipped w h = omega (arith, xor_add_and w 18446744073709551615, and_mask w 64)
+
+-- .. digit by digit
 digit_other : (k w : ℕ) → k < 64 → digit k (bit_xor w 18446744073709551615) ≡ 1 - digit k w
 digit_other k w h =
     digit_xor k w 18446744073709551615 ∙ ap (λ (x : ℕ). (digit k w + x) % 2) (digit_all k h) ∙ turned (digit k w) (mod2_lt (w / 2 ^ k))
@@ -159,10 +153,10 @@ pub words_end : (l : List ℕ) (r : Rows) (j t : ℕ) (ws : List ℕ) → Unmark
 words_end l r j t ws h e i k hi hk = h i k hi hk ∙ ap (λ (x : ℕ). 1 - joint_marks l r x (64 * i + k)) e
 
 -- the other cells are the marked ones
-pub words_over : (l : List ℕ) (r : Rows) (t : ℕ) (ws ws' : List ℕ) → length ws ≡ 4 → UnmarkedWords l r t ws
-    → ((i : ℕ) → i < length ws → get_or ws' i 0 ≡ bit_xor (get_or ws i 0) 18446744073709551615) → JointWords l r t ws'
-words_over l r t ws ws' long h e i k hi hk =
-    ap (digit k) (e i (omega (arith, long))) ∙ digit_other k (get_or ws i 0) hk ∙ ap (λ (x : ℕ). 1 - x) (h i k hi hk)
+pub words_over : (l : List ℕ) (r : Rows) (t : ℕ) (ws ws' : List ℕ) → UnmarkedWords l r t ws
+    → ((i : ℕ) → i < 4 → get_or ws' i 0 ≡ bit_xor (get_or ws i 0) 18446744073709551615) → JointWords l r t ws'
+words_over l r t ws ws' h e i k hi hk =
+    ap (digit k) (e i hi) ∙ digit_other k (get_or ws i 0) hk ∙ ap (λ (x : ℕ). 1 - x) (h i k hi hk)
     ∙ twice (joint_marks l r t (64 * i + k)) (joint_le l r t (64 * i + k))
   where
     twice : (a : ℕ) → a ≤ 1 → 1 - (1 - a) ≡ a

@@ -2,10 +2,11 @@
 // file. Every function is total.
 #![tactic(auto)]
 
-ghost use Rattle.std.specs.Prelude.{◌≡◌, true, ◌+◌, ◌-◌, ◌*◌, ◌≤◌, length, take, drop};
+ghost use Rattle.std.specs.Prelude.{◌≡◌, true, List, ℕ, ◌+◌, ◌-◌, ◌*◌, ◌≤◌, ◌<◌, length, take, drop};
 ghost use Rattle.std.specs.Int.Count.{ones};
 ghost use Rattle.rows.specs.Row.{cell};
 ghost use Rattle.rows.specs.Lists.{cells_of};
+ghost use Rattle.rows.specs.declared.Rows.{Rows};
 ghost use Rattle.rows.specs.Marks.{total};
 ghost use Rattle.marked_rows.specs.Last.{last_marked, last_count};
 ghost use Rattle.marked_rows.specs.Estimate.{estimate};
@@ -19,29 +20,22 @@ pub struct Marked {
     pub count: u64,
 }
 
-// How many bits are 1.
-fn ones_in(marks: u64) -> u64
-    ensures value { result ≡ ones marks }
-    ensures upper_bound { result ≤ 64 }
-{
-    u64::count_ones(marks) as u64
-}
-
 // How many bits of four words are 1; where none is, it is known by one test.
 fn count_words(a: u64, b: u64, c: u64, d: u64) -> u64
     ensures { result ≡ ones a + ones b + ones c + ones d }
 {
     let is_marked = (0 < a) | (0 < b) | (0 < c) | (0 < d);
     if is_marked {
-        return ones_in(a) + ones_in(b) + ones_in(c) + ones_in(d);
+        return u64::from(a.count_ones() + b.count_ones() + c.count_ones() + d.count_ones());
     }
     0
 }
 
-// The number of cells among the first 256 of a row that are 1, by words of 64 cells.
-fn count_row(row: &[u8]) -> u64
-    ensures { result ≡ total 256 (cell row.now) }
+// The number of marked cells of row t, by words of 64 cells.
+fn count_row(list: &[u8], rows: Rows, t: u16) -> u64
+    ensures { result ≡ total 256 (cells_of list.now rows t) }
 {
+    let row = rows::row_of(list, rows, t);
     let a = numbers::read_word(row, 0);
     let b = numbers::read_word(row, 8);
     let c = numbers::read_word(row, 16);
@@ -49,11 +43,12 @@ fn count_row(row: &[u8]) -> u64
     count_words(a, b, c, d)
 }
 
-// The same of a row of 32 bytes at place `at`, all of which are there.
-fn count_32(list: &[u8], at: usize) -> u64
-    requires { at + 32 ≤ length list.now }
-    ensures { result ≡ total 256 (cell (take 32 (drop at list.now))) }
+// The same where row t is of 32 bytes and all there.
+fn count_32(list: &[u8], rows: Rows, t: u16) -> u64
+    requires { (rows.bytes ≡ 32) × (rows.at + rows.stride * t + 32 ≤ length list.now) }
+    ensures { result ≡ total 256 (cells_of list.now rows t) }
 {
+    let at = rows.at as usize + (rows.stride as usize) * (t as usize);
     let a = numbers::eight_bytes(list, at);
     let b = numbers::eight_bytes(list, at + 8);
     let c = numbers::eight_bytes(list, at + 16);
@@ -61,37 +56,16 @@ fn count_32(list: &[u8], at: usize) -> u64
     count_words(a, b, c, d)
 }
 
-// The last marked row among the first t, by each row's part of the list.
-fn last_of_any(list: &[u8], rows: Rows, t: u16) -> Marked
-    ensures { (result.t ≡ last_marked list.now rows t) × (result.count ≡ last_count list.now rows t) }
+// The last marked row among the first t, where `count_of` gives the number of a row's marked cells.
+fn last_by<F: Fn(u16) -> u64>(t: u16, count_of: F) -> Marked
+    requires { (row : ℕ) → row < t → F.pre count_of row }
+    ensures { (l : List ℕ) (r : Rows) → ((row n : ℕ) → row < t → F.post count_of row n → n ≡ total 256 (cells_of l r row)) → (result.t ≡ last_marked l r t) × (result.count ≡ last_count l r t) }
 {
-    let mut left = t;
-    while 0 < left {
-        let next = left - 1;
-        let count = count_row(rows::row_of(list, rows, next));
+    for row in (0..t).rev() {
+        let count = count_of(row);
         if count != 0 {
-            return Marked { t: left, count };
+            return Marked { t: row + 1, count };
         }
-        left = next;
-    }
-    Marked { t: 0, count: 0 }
-}
-
-// The same for rows of 32 bytes that are all there.
-fn last_of_32(list: &[u8], rows: Rows, t: u16) -> Marked
-    requires { (rows.bytes ≡ 32) × (rows.at + rows.stride * t + 32 ≤ length list.now + rows.stride) }
-    ensures { (result.t ≡ last_marked list.now rows t) × (result.count ≡ last_count list.now rows t) }
-{
-    let stride = rows.stride as usize;
-    let mut at = rows.at as usize + stride * (t as usize);
-    let mut left = t;
-    while 0 < left {
-        at -= stride;
-        let count = count_32(list, at);
-        if count != 0 {
-            return Marked { t: left, count };
-        }
-        left -= 1;
     }
     Marked { t: 0, count: 0 }
 }
@@ -110,9 +84,9 @@ pub fn last_marked(list: &[u8], rows: Rows, t: u16) -> Marked
     ensures { (result.t ≡ last_marked list.now rows t) × (result.count ≡ last_count list.now rows t) }
 {
     if are_whole_32(list, rows, t) {
-        return last_of_32(list, rows, t);
+        return last_by(t, |row| count_32(list, rows, row));
     }
-    last_of_any(list, rows, t)
+    last_by(t, |row| count_row(list, rows, row))
 }
 
 // How many of the first t rows there are up to the last marked one; 0 where none is marked.
@@ -123,44 +97,14 @@ pub fn marked_end(list: &[u8], rows: Rows, t: u16) -> u16
     last.t
 }
 
-// The number of marked cells among the first 256 of each of s rows, by each row's part of the list.
-fn count_of_any(list: &[u8], rows: Rows, s: u16) -> u64
-    ensures { result ≡ total s (λ t. total 256 (cells_of list.now rows t)) }
-{
-    let mut found = 0u64;
-    let mut t: u16 = 0;
-    while t < s {
-        found += count_row(rows::row_of(list, rows, t));
-        t += 1;
-    }
-    found
-}
-
-// The same for rows of 32 bytes that are all there, from the last row to the first.
-fn count_of_32(list: &[u8], rows: Rows, s: u16) -> u64
-    requires { (rows.bytes ≡ 32) × (rows.at + rows.stride * s + 32 ≤ length list.now + rows.stride) }
-    ensures { result ≡ total s (λ t. total 256 (cells_of list.now rows t)) }
-{
-    let stride = rows.stride as usize;
-    let mut at = rows.at as usize + stride * (s as usize);
-    let mut found = 0u64;
-    let mut left = s;
-    while 0 < left {
-        at -= stride;
-        found += count_32(list, at);
-        left -= 1;
-    }
-    found
-}
-
 // The number of marked cells among the first 256 of each of s rows. It meets no number: a row past the end has no mark.
 pub fn count_marks(list: &[u8], rows: Rows, s: u16) -> u64
     ensures { result ≡ total s (λ t. total 256 (cells_of list.now rows t)) }
 {
     if are_whole_32(list, rows, s) {
-        return count_of_32(list, rows, s);
+        return (0..s).map(|row| count_32(list, rows, row)).sum();
     }
-    count_of_any(list, rows, s)
+    (0..s).map(|row| count_row(list, rows, row)).sum()
 }
 
 // About how many cells among the first 256 of each of s rows are marked: from 64 rows on every eighth row is counted for eight. It is for

@@ -2,8 +2,11 @@
 // register and no file. The public functions are total; the private ones that ask for something are those without a test in their loops.
 #![tactic(auto)]
 
-ghost use Rattle.std.specs.Prelude.{◌≡◌, [], ◌∷◌, ◌-◌, ◌^◌, ◌≤◌, ◌<◌, min, ltb, length, take};
+ghost use Rattle.std.specs.Prelude.{◌≡◌, [], ◌∷◌, ◌-◌, ◌*◌, ◌^◌, ◌≤◌, ◌<◌, ltb, length, take};
 ghost use Rattle.std.specs.Int.Count.{ones};
+ghost use Rattle.std.specs.Int.Bits.{bit_and};
+ghost use Rattle.word.specs.Word.{low_mask};
+ghost use Rattle.numbers.specs.Bytes.{word_at};
 ghost use Rattle.rows.specs.Row.{cell};
 ghost use Rattle.rows.specs.Marks.{marked_words, bits};
 ghost use Rattle.marked_words.specs.Back.{back};
@@ -53,19 +56,17 @@ fn list_from_first(columns: &mut [u64], words: &[u64], marks: u64) -> usize
     ensures value { result ≡ length columns.old - length (marked_words words.now (bits marks) 64) }
     ensures columns_after { columns.new ≡ back (marked_words words.now (bits marks) 64) columns.old }
 {
-    let start = columns.len() - u64::count_ones(marks) as usize;
-    let mut place = start;
+    let start = columns.len() - marks.count_ones() as usize;
     let mut left = marks;
-    while left != 0 {
-        let low = u64::trailing_zeros(left) as usize;
+    for place in start..columns.len() {
+        let low = left.trailing_zeros() as usize;
         columns[place] = words[low];
-        left = left & (left - 1);
-        place += 1;
+        left &= left - 1;
     }
     start
 }
 
-// The same where 64 chains are all marked: the first 64 words, in a loop of that many turns, which is compiled to moves of several words.
+// The same where 64 chains are all marked: the first 64 words.
 fn list_whole(columns: &mut [u64], words: &[u64]) -> usize
     requires in_bounds { 64 ≤ length columns.old }
     requires in_bounds_2 { 64 ≤ length words.now }
@@ -73,11 +74,7 @@ fn list_whole(columns: &mut [u64], words: &[u64]) -> usize
     ensures columns_after { columns.new ≡ back (take 64 words.now) columns.old }
 {
     let start = columns.len() - 64;
-    let mut c: usize = 0;
-    while c < 64 {
-        columns[start + c] = words[c];
-        c += 1;
-    }
+    columns[start..].copy_from_slice(&words[..64]);
     start
 }
 
@@ -91,10 +88,10 @@ fn list_word(columns: &mut [u64], words: &[u64], marks: u64) -> usize
     if marks == 0 {
         return columns.len();
     }
-    if columns.len() < u64::count_ones(marks) as usize {
+    if columns.len() < marks.count_ones() as usize {
         return list_from_last(columns, words, marks);
     }
-    if marks == 0xffff_ffff_ffff_ffff {
+    if marks == u64::MAX {
         return list_whole(columns, words);
     }
     list_from_first(columns, words, marks)
@@ -109,13 +106,19 @@ fn list_256(columns: &mut [u64], words: &[u64], row: &[u8]) -> usize
     ensures columns_after { columns.new ≡ back (marked_words words.now (cell row.now) (length words.now)) columns.old }
 {
     let mut place = columns.len();
-    let mut i: usize = 4;
-    while 0 < i {
-        i -= 1;
+    for i in (0..4).rev() {
         let marks = numbers::eight_bytes(row, 8 * i);
         place = list_word(&mut columns[..place], &words[64 * i..], marks);
     }
     place
+}
+
+// The marks of the 64 chains from 64 times i on, as far as there are chains. The row may be short.
+fn marks_at(row: &[u8], chains: usize, i: usize) -> u64
+    requires { 64 * i ≤ chains }
+    ensures { result ≡ bit_and (word_at row.now (8 * i)) (low_mask (chains - 64 * i)) }
+{
+    numbers::read_word(row, 8 * i) & word::low_mask((chains - 64 * i) as u64)
 }
 
 // Writes the words of the chains whose cell in the row is 1 over the list's end, and answers with how many places stand before
@@ -129,21 +132,11 @@ pub fn list_row(columns: &mut [u64], words: &[u64], row: &[u8]) -> usize
         return list_256(columns, words, row);
     }
     let mut place = columns.len();
-    let mut i = chains / 64 + (chains % 64 + 63) / 64;
-    while 0 < i {
-        i -= 1;
-        let first = 64 * i;
-        let mask = word::low_mask((chains - first) as u64);
-        let marks = numbers::read_word(row, 8 * i) & mask;
-        place = list_word(&mut columns[..place], &words[first..], marks);
+    for i in (0..chains.div_ceil(64)).rev() {
+        let marks = marks_at(row, chains, i);
+        place = list_word(&mut columns[..place], &words[64 * i..], marks);
     }
     place
-}
-
-fn least(a: usize, b: usize) -> usize
-    ensures { result ≡ min a b }
-{
-    if a < b { a } else { b }
 }
 
 // Whether more than `room` bits are 1.
@@ -153,7 +146,7 @@ fn is_too_many(marks: u64, room: usize) -> bool
     if marks == 0 {
         return false;
     }
-    room < u64::count_ones(marks) as usize
+    room < marks.count_ones() as usize
 }
 
 // The same as far as there is room: from the last chain on, by words of 64 cells, up to the first whose marked cells don't fit. 64 places
@@ -163,19 +156,15 @@ pub fn list_fitting(columns: &mut [u64], words: &[u64], row: &[u8]) -> Fitted
 {
     let chains = words.len();
     let mut place = columns.len();
-    let mut i = chains / 64 + (chains % 64 + 63) / 64;
-    while 0 < i {
-        let first = 64 * (i - 1);
-        let mask = word::low_mask((chains - first) as u64);
-        let marks = numbers::read_word(row, 8 * (i - 1)) & mask;
+    for i in (0..chains.div_ceil(64)).rev() {
+        let marks = marks_at(row, chains, i);
         if is_too_many(marks, place) {
             return Fitted {
                 place,
-                chains: least(64 * i, chains),
+                chains: chains.min(64 * (i + 1)),
             };
         }
-        place = list_word(&mut columns[..place], &words[first..], marks);
-        i -= 1;
+        place = list_word(&mut columns[..place], &words[64 * i..], marks);
     }
     Fitted { place, chains: 0 }
 }

@@ -350,7 +350,7 @@ pub columns_at : (k : Circuit) (s s' : ℕ) (u : Response) (t c n : ℕ) (vs : L
 columns_at k s s' u t c n vs e h = subst (λ (x : ℕ). slice_columns k x u t c ≡ slice_columns k x u t n ++ vs) e h
 
 -- the chains that are left are no more than there are words
-pub chains_same : (k : Circuit) (s t : ℕ) (ps ws : List ℕ) (n c : ℕ) → Ready k s t ps ws → n ≤ chains k → c ≡ min (n + 0) (length ws) → n ≡ c
+pub chains_same : (k : Circuit) (s t : ℕ) (ps ws : List ℕ) (n c : ℕ) → Ready k s t ps ws → n ≤ chains k → c ≡ min n (length ws) → n ≡ c
 chains_same k s t ps ws n c r h e = omega (arith, way_length k (s - t) ps ws r.way)
 
 -- ---- something is done in every portion

@@ -32,17 +32,6 @@ pub struct Portion {
 // The entries of the table of 8 clocks (`eight_clocks::eight_on`). A list of so many is that table, a longer one the register's powers.
 const TABLE_ENTRIES: usize = 256;
 
-// How many of the slices come after the first t.
-fn later_slices(slices: u16, t: u16) -> usize
-    ensures { result ≡ slices - t }
-{
-    let is_past = slices < t;
-    if is_past {
-        return 0;
-    }
-    (slices - t) as usize
-}
-
 // The chains' words for the slice before one of which so many clocks are left: where these are one short of whole eights, the words are
 // advanced 8 clocks, by the table.
 fn pass_slice(m: u64, table: &[u64], clocks: usize, words: &mut [u64])
@@ -71,8 +60,7 @@ fn go_down(source: Source, list: &[u8], powers: &[u64], words: &mut [u64], t: u1
         powers::advance_words(register, words);
         return t - 1;
     }
-    let slices = register::slice_limit(source.s);
-    let clocks = later_slices(slices, t);
+    let clocks = register::slice_limit(source.s).saturating_sub(t) as usize;
     pass_slice(register.m, powers, clocks, words);
     t - 1
 }
@@ -118,12 +106,11 @@ fn fill_row(
     let register = source.register;
     let marks = source.marks;
     let m = register.m;
-    let slices = register::slice_limit(source.s);
     let row = rows::row_of(list, marks, t - 1);
     let fitted = marked_words::list_fitting(columns, words, row);
-    let start = fitted.place;
-    let clocks = later_slices(slices, t);
-    put_later(powers, clocks, m, &mut columns[start..]);
+    let slices = register::slice_limit(source.s);
+    let later = slices.saturating_sub(t);
+    put_later(powers, later as usize, m, &mut columns[fitted.place..]);
     fitted
 }
 
@@ -143,7 +130,7 @@ pub fn fill_portion(
     ensures { PortionFrom source list.now powers.now from words.old words.new columns.old columns.new result }
 {
     let all = words.len();
-    let limit = numbers::moved(from.chains, 0, all);
+    let limit = from.chains.min(all);
     if from.t == 0 {
         return Portion {
             t: 0,
@@ -155,6 +142,7 @@ pub fn fill_portion(
     let mut t = from.t;
     let mut place = first.place;
     let mut chains = first.chains;
+    // no plainer: it steps by what the row before leaves
     while chains == 0 {
         t = go_down(source, list, powers, words, t);
         chains = all;

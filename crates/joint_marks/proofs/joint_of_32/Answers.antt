@@ -1,17 +1,17 @@
--- `joint_of_32` meets its contract.
-use mathlib.Core.Path.{sym, ◌∙◌}
-use Rattle.joint_marks.proofs.JointLaws.{words_over}
+-- `joint_of_32` meets its contract: the bytes of the turned words have their marks.
+use mathlib.Core.Path.{◌≡◌, ◌∙◌}
+use Prim.Native.Nat.{ℕ, ◌<◌, ◌-◌}
+use lib.ListN.{get_or}
+use borrow.Author.Rules.{rules}
+use Rattle.joint_marks.proofs.JointLaws.{all_flipped, words_over, words_row}
 use Rattle.joint_marks.proofs.joint_of_32.Goals as goal
-
-pub slice_bounds-turn_over-end : goal.slice_bounds-turn_over-end
-slice_bounds-turn_over-end c = sym c.unmarked_words-words.ensures.0
-
-pub slice_bounds-word_row-end : goal.slice_bounds-word_row-end
-slice_bounds-word_row-end c = sym (c.turn_over.auto.words ∙ c.unmarked_words-words.ensures.0)
 
 pub returns : goal.returns
 returns c =
-    let unmarked = c.unmarked_words-words in
-    let turned = c.turn_over in
-    c.word_row.ensures _ _ _ (turned.auto.words ∙ unmarked.ensures.0)
-    (words_over _ _ _ unmarked.result turned.new.words unmarked.ensures.0 unmarked.ensures.1 turned.ensures)
+    let words = c.unmarked_words.result in
+    let marked = c.map-marked.result in
+    let items = c.map-marked.ensures.items in
+    let small : (i : ℕ) → i < 4 → get_or words i 0 < 18446744073709551616 = λ i h. search rules in
+    let turned : (i : ℕ) → i < 4 → get_or marked i 0 ≡ 18446744073709551615 - get_or words i 0 = λ i h. let k = items.at i 0 0 h in search rules in
+    words_row _ _ _ marked _ items.long (λ i. search rules)
+    (words_over _ _ _ words marked c.unmarked_words.ensures (λ i h. turned i h ∙ all_flipped (get_or words i 0) (small i h))) c.write_words.ensures

@@ -9,7 +9,7 @@ use borrow.Author.Rules.{rules}
 use Rattle.marked_words.proofs.list_256.Goals as goal
 
 pub loop-i-init : goal.loop-i-init
-loop-i-init c = (omega arith, search rules, listing_starts _ _ _ _ (omega (arith, c.requires.words_len)))
+loop-i-init c = (search rules, listing_starts _ _ _ _ (omega (arith, c.requires.words_len)))
 
 pub eight_bytes-marks-requires : goal.eight_bytes-marks-requires
 eight_bytes-marks-requires c = omega (arith, c.requires.row_len)
@@ -30,12 +30,12 @@ loop-i-preserved c =
     let listed = c.list_word-place in
     let small : read.result < 2 ^ 64 = search rules in
     let k =
-    listing_turns_whole c.args.words.now c.args.row.now (λ i. (c.shared_slice_known-2-1.given i).fits) _ _ _ _ _ _ at.i read.result at.invariant.2 c.loop-i-test.true (omega (arith, c.requires.words_len)) small read.ensures refl listed.ensures.value
+    listing_turns_whole c.args.words.now c.args.row.now (λ i. (c.type_inv.row i).fits) _ _ _ _ _ _ at.i read.result at.invariant.1 (omega arith) (omega (arith, c.requires.words_len)) small read.ensures refl listed.ensures.value
     (ap (λ (x : List ℕ). x ++ drop at.place at.columns) listed.ensures.columns_after) in
-    (omega arith, (listing_room _ _ _ _ _ _ k).1, k)
+    ((listing_room _ _ _ _ _ _ k).1, k)
 
 pub shape_of-columns : goal.shape_of-columns
-shape_of-columns c = (listing_room _ _ _ _ _ _ c.loop-i.invariant.2).0
+shape_of-columns c = (listing_room _ _ _ _ _ _ c.loop-i.invariant.1).0
 
 pub returns : goal.returns
-returns c = record { value = (listing_ends _ _ _ _ _ _ c.loop-i.invariant.2 (omega arith)).0; columns_after = (listing_ends _ _ _ _ _ _ c.loop-i.invariant.2 (omega arith)).1 }
+returns c = let ends = listing_ends _ _ _ _ _ _ c.loop-i.invariant.1 (omega arith) in record { value = ends.0; columns_after = ends.1 }

@@ -5,7 +5,4 @@ use Rattle.marked_words.proofs.ListLaws.{Listing}
 use Rattle.marked_words.proofs.list_256.Given as goal
 
 abbrev pub invariant-loop-i : goal.invariant-loop-i
-invariant-loop-i l = (l.i ≤ 4) × (l.place ≤ length l.columns) × Listing l.words l.row l.initial.columns l.columns l.place (64 * l.i)
-
-abbrev pub decreases-loop-i : goal.decreases-loop-i
-decreases-loop-i l = l.i
+invariant-loop-i l = (l.place ≤ length l.columns) × Listing l.words l.row l.initial.columns l.columns l.place (64 * l.i)

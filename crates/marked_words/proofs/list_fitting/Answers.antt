@@ -3,7 +3,6 @@ use mathlib.Core.List.{List, ◌++◌}
 use Prim.Native.Nat.{ℕ, ◌-◌, ◌*◌}
 use native.Mathlib.Omega.{arith}
 use borrow.Author.Tests.{ltb-true, ltb-false}
-use lib.Bits.{bit_and}
 use lib.Count.{ones-le}
 use lib.ListN.{drop}
 use lib.Seq.{length-take-le}
@@ -13,44 +12,39 @@ use borrow.Author.Rules.{rules}
 use Rattle.marked_words.proofs.list_fitting.Goals as goal
 
 pub loop-i-init : goal.loop-i-init
-loop-i-init c = (omega arith, search rules, fitting_starts _ _ _ _ (omega arith))
+loop-i-init c = (search rules, fitting_starts _ _ _ _ (omega arith))
 
 pub shape_of-columns-then-is_too_many : goal.shape_of-columns-then-is_too_many
-shape_of-columns-then-is_too_many c = (fitting_room _ _ _ _ _ _ c.loop-i.invariant.2).0
+shape_of-columns-then-is_too_many c = (fitting_room _ _ _ _ _ _ c.loop-i.invariant.1).0
 
 pub returns-then-is_too_many : goal.returns-then-is_too_many
 returns-then-is_too_many c =
     let at = c.loop-i in
     let args = c.args in
-    let mask = c.low_mask-mask in
-    let small =
-    marks_small args.words.now args.row.now (λ i. (c.shared_slice_known-2-1.given i).fits) (at.i - 1) mask.result _ (omega arith) mask.ensures
-    (ap (λ (x : ℕ). bit_and x mask.result) c.read_word.ensures) in
-    fitting_stops args.words.now args.row.now _ _ _ at.i _ _ at.invariant.2 (ones-le 64 _ small)
-    (ltb-true _ _ (sym c.is_too_many.ensures ∙ c.if-is_too_many.true)) c.least.ensures
+    let small = marks_small args.words.now args.row.now (λ i. (c.type_inv.row i).fits) (at.i - 1) _ _ (omega arith) refl c.marks_at-marks.ensures in
+    fitting_stops args.words.now args.row.now _ _ _ at.i _ _ at.invariant.1 (ones-le 64 _ small)
+    (ltb-true _ _ (sym c.is_too_many.ensures ∙ c.if-is_too_many.true)) (omega arith)
 
 pub slice_bounds-list_word-end-in-loop-i : goal.slice_bounds-list_word-end-in-loop-i
 slice_bounds-list_word-end-in-loop-i c = sym (length-take-le _ _ (search rules))
 
 pub list_word-place-requires : goal.list_word-place-requires
 list_word-place-requires c =
-    marks_inside c.args.words.now (64 * (c.loop-i.i - 1)) c.read_word.result _ c.low_mask-mask.ensures
+    rw c.marks_at-marks.ensures (marks_inside c.args.words.now (64 * (c.loop-i.i - 1)) _ _ refl)
 
 pub loop-i-preserved : goal.loop-i-preserved
 loop-i-preserved c =
     let at = c.loop-i in
     let args = c.args in
-    let mask = c.low_mask-mask in
     let listed = c.list_word-place in
     let k =
-    fitting_turns args.words.now args.row.now (λ i. (c.shared_slice_known-2-1.given i).fits) _ _ mask.result _ c.loop-i-test.true (omega arith) mask.ensures
-    (ap (λ (x : ℕ). bit_and x mask.result) c.read_word.ensures) refl _ _ _ _ _ at.invariant.2
+    fitting_turns args.words.now args.row.now (λ i. (c.type_inv.row i).fits) _ _ _ _ (omega arith) (omega arith) refl c.marks_at-marks.ensures refl _ _ _ _ _ at.invariant.1
     (ltb-false _ _ (sym c.is_too_many.ensures ∙ c.if-is_too_many.false)) listed.ensures.value
     (ap (λ (x : List ℕ). x ++ drop at.place at.columns) listed.ensures.columns_after) in
-    (omega arith, (fitting_room _ _ _ _ _ _ k).1, k)
+    ((fitting_room _ _ _ _ _ _ k).1, k)
 
 pub shape_of-columns : goal.shape_of-columns
-shape_of-columns c = (fitting_room _ _ _ _ _ _ c.loop-i.invariant.2).0
+shape_of-columns c = (fitting_room _ _ _ _ _ _ c.loop-i.invariant.1).0
 
 pub returns : goal.returns
-returns c = fitting_ends _ _ _ _ _ _ c.loop-i.invariant.2 (omega arith)
+returns c = fitting_ends _ _ _ _ _ _ c.loop-i.invariant.1 (omega arith)

@@ -1,11 +1,8 @@
 -- `list_fitting` meets its contract. The loop's invariant: the words of the chains from 64 times `i` on stand at the list's end.
-use Prim.Native.Nat.{◌+◌, ◌*◌, ◌≤◌, ◌<◌}
+use Prim.Native.Nat.{◌*◌, ◌≤◌}
 use lib.ListN.{length}
 use Rattle.marked_words.proofs.FitLaws.{Fitting}
 use Rattle.marked_words.proofs.list_fitting.Given as goal
 
 abbrev pub invariant-loop-i : goal.invariant-loop-i
-invariant-loop-i l = (64 * l.i < length l.words + 64) × (l.place ≤ length l.columns) × Fitting l.words l.row l.initial.columns l.columns l.place (64 * l.i)
-
-abbrev pub decreases-loop-i : goal.decreases-loop-i
-decreases-loop-i l = l.i
+invariant-loop-i l = (l.place ≤ length l.columns) × Fitting l.words l.row l.initial.columns l.columns l.place (64 * l.i)

@@ -47,4 +47,4 @@ pub shape_of-columns : goal.shape_of-columns
 shape_of-columns c = (taking_room _ _ _ _ _ _ c.loop-left.invariant.2).0
 
 pub returns : goal.returns
-returns c = record { value = (taking_ends _ _ _ _ _ _ c.loop-left.invariant.2 (omega arith)).0; columns_after = (taking_ends _ _ _ _ _ _ c.loop-left.invariant.2 (omega arith)).1 }
+returns c = let ends = taking_ends _ _ _ _ _ _ c.loop-left.invariant.2 (omega arith) in record { value = ends.0; columns_after = ends.1 }

@@ -2,7 +2,6 @@ use mathlib.Core.Path.{refl, sym, ap}
 use mathlib.Core.List.{List, ◌++◌}
 use Prim.Native.Nat.{ℕ, ◌-◌, ◌*◌}
 use native.Mathlib.Omega.{arith}
-use lib.Bits.{bit_and}
 use lib.Dec.{eqb}
 use lib.ListN.{length, drop}
 use lib.Seq.{length-take-le}
@@ -19,26 +18,26 @@ list_256-requires c =
     record { words_len = eqb-true _ _ (and_left _ _ both); row_len = eqb-true _ _ (and_right (eqb (length words) 256) _ both) }
 
 pub loop-i-init : goal.loop-i-init
-loop-i-init c = (omega arith, search rules, listing_starts _ _ _ _ (omega arith))
+loop-i-init c = (search rules, listing_starts _ _ _ _ (omega arith))
 
 pub slice_bounds-list_word-end-in-loop-i : goal.slice_bounds-list_word-end-in-loop-i
 slice_bounds-list_word-end-in-loop-i c = sym (length-take-le _ _ (search rules))
 
 pub list_word-place-requires : goal.list_word-place-requires
 list_word-place-requires c =
-    marks_inside c.args.words.now (64 * (c.loop-i.i - 1)) c.read_word.result _ c.low_mask-mask.ensures
+    rw c.marks_at-marks.ensures (marks_inside c.args.words.now (64 * (c.loop-i.i - 1)) _ _ refl)
 
 pub loop-i-preserved : goal.loop-i-preserved
 loop-i-preserved c =
     let at = c.loop-i in
     let args = c.args in
     let k =
-    listing_turns args.words.now args.row.now (λ i. (c.shared_slice_known-2-1.given i).fits) _ _ _ _ _ _ _ _ _ at.invariant.2 c.loop-i-test.true (omega arith) c.low_mask-mask.ensures (ap (λ (x : ℕ). bit_and x c.low_mask-mask.result) c.read_word.ensures) refl c.list_word-place.ensures.value
+    listing_turns args.words.now args.row.now (λ i. (c.type_inv.row i).fits) _ _ _ _ _ _ _ _ _ at.invariant.1 (omega arith) (omega arith) refl c.marks_at-marks.ensures refl c.list_word-place.ensures.value
     (ap (λ (x : List ℕ). x ++ drop at.place at.columns) c.list_word-place.ensures.columns_after) in
-    (omega arith, (listing_room _ _ _ _ _ _ k).1, k)
+    ((listing_room _ _ _ _ _ _ k).1, k)
 
 pub shape_of-columns : goal.shape_of-columns
-shape_of-columns c = (listing_room _ _ _ _ _ _ c.loop-i.invariant.2).0
+shape_of-columns c = (listing_room _ _ _ _ _ _ c.loop-i.invariant.1).0
 
 pub returns : goal.returns
-returns c = record { value = (listing_ends _ _ _ _ _ _ c.loop-i.invariant.2 (omega arith)).0; columns_after = (listing_ends _ _ _ _ _ _ c.loop-i.invariant.2 (omega arith)).1 }
+returns c = let ends = listing_ends _ _ _ _ _ _ c.loop-i.invariant.1 (omega arith) in record { value = ends.0; columns_after = ends.1 }

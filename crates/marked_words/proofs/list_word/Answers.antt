@@ -11,7 +11,8 @@ use Rattle.marked_words.proofs.list_word.Goals.{Then-marks-eq1844674407370955161
 pub returns-then-marks-eq0 : goal.returns-then-marks-eq0
 returns-then-marks-eq0 c =
     let args = c.args in
-    record { value = (taking_ends args.words.now args.marks _ _ _ _ (taking_starts _ _ args.columns.now) c.if-marks-eq0.true).0; columns_after = (taking_ends args.words.now args.marks _ _ _ _ (taking_starts _ _ args.columns.now) c.if-marks-eq0.true).1 }
+    let ends = taking_ends args.words.now args.marks _ _ _ _ (taking_starts _ _ args.columns.now) c.if-marks-eq0.true in
+    record { value = ends.0; columns_after = ends.1 }
 
 pub overflow_cast-marks : goal.overflow_cast-marks
 overflow_cast-marks c = omega (arith, ones-le 64 _ c.ranges.marks.fits)
@@ -22,9 +23,11 @@ fits c =
     whole_fits c.args.words.now c.args.columns.now c.args.marks c.if-marks-eq18446744073709551615.true c.ranges.marks.fits c.requires c.if-columns-marks.false
 
 pub list_whole-requires : goal.list_whole-requires
-list_whole-requires c = record { in_bounds = (fits (goal.at.list_whole-requires c).Then-marks-eq18446744073709551615).0; in_bounds_2 = (fits (goal.at.list_whole-requires c).Then-marks-eq18446744073709551615).1 }
+list_whole-requires c = let both = fits (goal.at.list_whole-requires c).Then-marks-eq18446744073709551615 in record { in_bounds = both.0; in_bounds_2 = both.1 }
 
 pub returns-then-marks-eq18446744073709551615 : goal.returns-then-marks-eq18446744073709551615
 returns-then-marks-eq18446744073709551615 c =
     let args = c.args in
-    record { value = (whole_listed args.words.now args.columns.now _ _ args.marks c.if-marks-eq18446744073709551615.true (fits (goal.at.returns-then-marks-eq18446744073709551615 c).Then-marks-eq18446744073709551615).1 c.list_whole.ensures.value c.list_whole.ensures.columns_after).0; columns_after = (whole_listed args.words.now args.columns.now _ _ args.marks c.if-marks-eq18446744073709551615.true (fits (goal.at.returns-then-marks-eq18446744073709551615 c).Then-marks-eq18446744073709551615).1 c.list_whole.ensures.value c.list_whole.ensures.columns_after).1 }
+    let long = (fits (goal.at.returns-then-marks-eq18446744073709551615 c).Then-marks-eq18446744073709551615).1 in
+    let listed = whole_listed args.words.now args.columns.now _ _ args.marks c.if-marks-eq18446744073709551615.true long c.list_whole.ensures.value c.list_whole.ensures.columns_after in
+    record { value = listed.0; columns_after = listed.1 }

@@ -7,22 +7,21 @@ use lib.Seq.{length-take-le, length_front, take-length}
 use Rattle.rows.specs.Lists.{cells_of}
 use Rattle.portions.specs.Portions.{wiring, slices_in, Ready}
 use Rattle.portions.proofs.PortionLaws.{Filling, filling_none, filling_first, filling_row, filling_gone, filling_gives, chains_same, way_length, Moved, moved_first, moved_down, moved_next, moved_less}
-use borrow.Author.Rules.{rules}
 use Rattle.portions.proofs.fill_portion.Goals as goal
-use Rattle.portions.proofs.fill_portion.Goals.{After-fill_row-first, After-moved-limit}
+use Rattle.portions.proofs.fill_portion.Goals.{After-fill_row-first, After-min-limit}
 
 -- the chains that are left are no more than there are words
-limited : (c : After-moved-limit) → length (take c.moved-limit.result c.args.words.now) ≡ c.moved-limit.result
-limited c = length-take-le c.moved-limit.result c.args.words.now (omega (arith, c.moved-limit.ensures))
+limited : (c : After-min-limit) → length (take c.min-limit.result c.args.words.now) ≡ c.min-limit.result
+limited c = length-take-le c.min-limit.result c.args.words.now (omega (arith, c.min-limit.ensures))
 
 -- the first row is listed
 started : (c : After-fill_row-first) (spread : List ℕ) → Ready (wiring c.args.source spread) (slices_in c.args.source) c.args.from.t c.args.powers.now c.args.words.now
-    → Filling (wiring c.args.source spread) (slices_in c.args.source) (cells_of c.args.list.now c.args.source.marks) c.args.powers.now c.args.columns.now c.args.from.t c.moved-limit.result c.args.words.now c.fill_row-first.new.columns c.fill_row-first.result.place c.args.from.t c.fill_row-first.result.chains
+    → Filling (wiring c.args.source spread) (slices_in c.args.source) (cells_of c.args.list.now c.args.source.marks) c.args.powers.now c.args.columns.now c.args.from.t c.min-limit.result c.args.words.now c.fill_row-first.new.columns c.fill_row-first.result.place c.args.from.t c.fill_row-first.result.chains
 started c spread ready =
-    let limited : length (take c.moved-limit.result c.args.words.now) ≡ c.moved-limit.result = (length-take-le c.moved-limit.result c.args.words.now (omega (arith, c.moved-limit.ensures))) in
+    let limited : length (take c.min-limit.result c.args.words.now) ≡ c.min-limit.result = (length-take-le c.min-limit.result c.args.words.now (omega (arith, c.min-limit.ensures))) in
     let args = c.args in
-    let limit = c.moved-limit.result in
-    let few : length (take limit args.words.now) ≤ length spread = omega (arith, limited, c.moved-limit.ensures, way_length _ _ _ _ ready.way) in
+    let limit = c.min-limit.result in
+    let few : length (take limit args.words.now) ≤ length spread = omega (arith, limited, c.min-limit.ensures, way_length _ _ _ _ ready.way) in
     filling_first _ _ _ _ _ _ _ _ _ _ _ (limited) (omega (arith, c.if-from-eq0.false)) ready few c.fill_row-first.ensures.fits c.fill_row-first.auto.columns
     (c.fill_row-first.ensures.row spread args.words.now few (ap (λ (i : ℕ). take i args.words.now) (sym (limited))) ready)
 
@@ -31,12 +30,12 @@ loop-chains-init c =
     let row = c.fill_row-first in
     let long = row.auto.columns in (
       omega (arith, c.if-from-eq0.false),
-      omega (arith, row.ensures.fits.chains, limited (goal.at.loop-chains-init c).After-moved-limit, c.moved-limit.ensures),
+      omega (arith, row.ensures.fits.chains, limited (goal.at.loop-chains-init c).After-min-limit, c.min-limit.ensures),
       omega (arith, row.ensures.fits.place, long),
       refl,
       refl,
-      subst (λ (i : ℕ). Moved (length c.args.words.now) i c.args.from.t c.moved-limit.result c.args.from.t row.result.chains) (sym long)
-          (moved_first _ _ _ _ _ _ _ (limited (goal.at.loop-chains-init c).After-moved-limit) row.ensures.fits),
+      subst (λ (i : ℕ). Moved (length c.args.words.now) i c.args.from.t c.min-limit.result c.args.from.t row.result.chains) (sym long)
+          (moved_first _ _ _ _ _ _ _ (limited (goal.at.loop-chains-init c).After-min-limit) row.ensures.fits),
       (λ spread l₀ so_far. so_far),
     )
 
@@ -46,21 +45,9 @@ returns-then-from-eq0 c =
       place = omega arith;
       less = (λ wide few some. let no : ⊥ = omega (arith, c.if-from-eq0.true) in absurd no);
       portion = (λ spread few ready.
-          filling_gives _ _ _ _ _ _ _ args.from _ _ _ _ _ refl (chains_same _ _ _ _ _ _ _ ready few c.moved-limit.ensures)
-          (filling_none _ _ _ _ _ _ _ _ c.if-from-eq0.true ready (omega (arith, c.moved-limit.ensures, way_length _ _ _ _ ready.way))));
+          filling_gives _ _ _ _ _ _ _ args.from _ _ _ _ _ refl (chains_same _ _ _ _ _ _ _ ready few c.min-limit.ensures)
+          (filling_none _ _ _ _ _ _ _ _ c.if-from-eq0.true ready (omega (arith, c.min-limit.ensures, way_length _ _ _ _ ready.way))));
     }
-
-pub slice_bounds-fill_row-end-2 : goal.slice_bounds-fill_row-end-2
-slice_bounds-fill_row-end-2 c = sym (limited (goal.at.slice_bounds-fill_row-end-2 c).After-moved-limit)
-
-pub fill_row-first-requires : goal.fill_row-first-requires
-fill_row-first-requires c = omega (arith, c.if-from-eq0.false)
-
-pub shape_of-words-then-t-eq0 : goal.shape_of-words-then-t-eq0
-shape_of-words-then-t-eq0 c = c.go_down-t.auto.words ∙ c.loop-chains.invariant.4
-
-pub shape_of-columns-then-t-eq0 : goal.shape_of-columns-then-t-eq0
-shape_of-columns-then-t-eq0 c = c.loop-chains.invariant.3 ∙ c.fill_row-first.auto.columns
 
 pub returns-then-t-eq0 : goal.returns-then-t-eq0
 returns-then-t-eq0 c =
@@ -68,17 +55,11 @@ returns-then-t-eq0 c =
     let at = c.loop-chains in
     let advanced = c.go_down-t in record {
       place = omega (arith, at.invariant.2, at.invariant.3, c.fill_row-first.auto.columns);
-      less = (λ wide few some. omega (arith, advanced.ensures.down, moved_down _ _ _ _ _ _ at.invariant.5 at.invariant.0 few, c.moved-limit.ensures));
+      less = (λ wide few some. omega (arith, advanced.ensures.down, moved_down _ _ _ _ _ _ at.invariant.5 at.invariant.0 few, c.min-limit.ensures));
       portion = (λ spread few ready.
-          filling_gives _ _ _ _ _ _ _ args.from _ _ _ _ _ refl (chains_same _ _ _ _ _ _ _ ready few c.moved-limit.ensures)
+          filling_gives _ _ _ _ _ _ _ args.from _ _ _ _ _ refl (chains_same _ _ _ _ _ _ _ ready few c.min-limit.ensures)
           (filling_gone _ _ _ _ _ _ _ args.list.now args.source.marks _ _ _ _ _ _ _ _ refl at.invariant.0 c.loop-chains-test.true (way_length _ _ _ _ ready.way) advanced.ensures (at.invariant.6 spread args.columns.now (started (goal.at.returns-then-t-eq0 c).After-fill_row-first spread ready))));
     }
-
-pub slice_bounds-fill_row-end-in-loop-chains-2 : goal.slice_bounds-fill_row-end-in-loop-chains-2
-slice_bounds-fill_row-end-in-loop-chains-2 c = sym (length-take-le _ _ (search rules))
-
-pub fill_row-next-requires : goal.fill_row-next-requires
-fill_row-next-requires c = omega (arith, c.if-t-eq0.false)
 
 pub loop-chains-preserved : goal.loop-chains-preserved
 loop-chains-preserved c =
@@ -115,11 +96,8 @@ returns c =
     let args = c.args in
     let at = c.loop-chains in record {
       place = omega (arith, at.invariant.2, at.invariant.3, c.fill_row-first.auto.columns);
-      less = (λ wide few some. omega (arith, moved_less _ _ _ _ _ _ at.invariant.5 few (omega (arith, wide, c.fill_row-first.auto.columns)) c.loop-chains-test.false, c.moved-limit.ensures));
+      less = (λ wide few some. omega (arith, moved_less _ _ _ _ _ _ at.invariant.5 few (omega (arith, wide, c.fill_row-first.auto.columns)) c.loop-chains-test.false, c.min-limit.ensures));
       portion = (λ spread few ready.
-          filling_gives _ _ _ _ _ _ _ args.from _ _ _ _ _ refl (chains_same _ _ _ _ _ _ _ ready few c.moved-limit.ensures)
+          filling_gives _ _ _ _ _ _ _ args.from _ _ _ _ _ refl (chains_same _ _ _ _ _ _ _ ready few c.min-limit.ensures)
           (at.invariant.6 spread args.columns.now (started (goal.at.returns c).After-fill_row-first spread ready)));
     }
-
-pub slice_bounds-fill_row-end : goal.slice_bounds-fill_row-end
-slice_bounds-fill_row-end c = omega (arith, c.moved-limit.ensures)

@@ -28,6 +28,6 @@ returns c =
     let args = c.args in record {
       down = omega arith;
       advances = (λ z. let no : ⊥ = omega (arith, z, c.if-count-lt-TABLE_ENTRIES.false) in absurd no);
-      passes = (λ z. (refl, words_passed (min args.source.register.m 64) _ args.t _ _ args.powers.now args.words.now _ c.slice_limit-slices.ensures c.later_slices-clocks.ensures c.pass_slice.ensures z));
+      passes = (λ z. (refl, words_passed (min args.source.register.m 64) _ args.t _ _ args.powers.now args.words.now _ c.slice_limit.ensures c.saturating_sub-clocks.ensures c.pass_slice.ensures z));
       skips = (λ z. let no : ⊥ = omega (arith, z, c.if-is_over.false) in absurd no);
     }
