@@ -2,45 +2,25 @@
 // the bits that leave the register give back. It sees the register and its powers; it knows no file. Every function is total.
 #![tactic(auto)]
 
-ghost use Rattle.std.specs.Prelude.{◌≡◌, [], map, min, ◌≤◌, ◌-◌, ◌%◌, length};
-ghost use Rattle.word.specs.Zeros.{zeros};
+ghost use Rattle.std.specs.Prelude.{◌≡◌, [], map, min, ◌≤◌, ◌%◌, length};
 ghost use Rattle.register.specs.Circuit.{Circuit, circuit};
 ghost use Rattle.signatures.specs.Later.{later};
 ghost use Rattle.eight_clocks.specs.Eight.{EightOn, looked_on};
 
 use register::Register;
 
-fn no_entries() -> [u64; 256]
-    ensures { result ≡ zeros 256 }
-{
-    [0u64; 256]
-}
-
 // For each byte what it is 8 clocks later, where it stands at the top of the register. Bit i of the byte leaves the register with the clock
 // 8 - i, and the tap word that it gives back is clocked i times; each bit doubles the entries.
 pub fn eight_on(register: Register) -> [u64; 256]
     ensures { 8 ≤ min register.m 64 → EightOn (circuit (min register.m 64) register.taps 0 []) result }
 {
-    let mut table = no_entries();
+    let mut table = [0; 256];
     let mut bit = register.taps;
-    let mut i: usize = 0;
-    while i < 8 {
-        word::double_entries(&mut table[..], 0, 1usize << i, bit);
+    for i in 0..8usize {
+        word::double_entries(&mut table[..], 0, 1 << i, bit);
         bit = powers::next_state(register, bit);
-        i += 1;
     }
     table
-}
-
-// How far the highest `bits` bits of a register of width m stand above bit 0; 0 where it has no more than these.
-fn below_top(m: u64, bits: u64) -> u64
-    ensures { result ≡ min m 64 - bits }
-{
-    let width = register::width_limit(m);
-    if width < bits {
-        return 0;
-    }
-    width - bits
 }
 
 // Looks each word up for 8 clocks in a table of a register of width m, which counts as at most 64. With fewer than 256 entries it does nothing.
@@ -51,12 +31,11 @@ pub fn look_eight(m: u64, table: &[u64], words: &mut [u64])
         return;
     }
     let mask = word::low_mask(m);
-    let down = below_top(m, 8);
-    let mut c = 0;
-    while c < words.len() {
-        let w = words[c];
-        words[c] = ((w << 8) & mask) ^ table[((w >> down) % 256) as usize];
-        c += 1;
+    // How far the bits that leave the register stand above bit 0.
+    let down = register::width_limit(m).saturating_sub(8);
+    for word in words.iter_mut() {
+        let w = *word;
+        *word = ((w << 8) & mask) ^ table[((w >> down) % 256) as usize];
     }
 }
 
@@ -73,12 +52,11 @@ pub fn look_few(m: u64, clocks: usize, table: &[u64], words: &mut [u64])
     }
     let mask = word::low_mask(m);
     let out = word::low_mask(few);
-    let down = below_top(m, few);
-    let mut c = 0;
-    while c < words.len() {
-        let w = words[c];
-        words[c] = ((w << few) & mask) ^ table[((w >> down) & out) as usize];
-        c += 1;
+    // How far the bits that leave the register stand above bit 0.
+    let down = register::width_limit(m).saturating_sub(few);
+    for word in words.iter_mut() {
+        let w = *word;
+        *word = ((w << few) & mask) ^ table[((w >> down) & out) as usize];
     }
 }
 

@@ -5,8 +5,7 @@ use mathlib.Core.List.{List, ◌++◌, map}
 use Prim.Native.Nat.{ℕ, suc, ◌+◌, ◌-◌, ◌*◌, ◌/◌, ◌%◌, ◌≤◌, ◌<◌, min}
 use native.Mathlib.Omega.{arith}
 use lib.Dec.{eqb}
-use lib.ListN.{length, take, drop, get_or, length-map, length-append, length-drop}
-use lib.Seq.{take_at, length-take-le}
+use lib.ListN.{length, take, drop, get_or, length-map}
 use Rattle.rows.specs.Row.{cell}
 use Rattle.rows.specs.Marks.{marked_words}
 use Rattle.register.specs.Circuit.{Circuit, circuit}
@@ -77,19 +76,19 @@ module _ (k : Circuit) (s : ℕ) (u : Response) where
         ∙ sym (later_words_get k n k.spread c))
         ∙ ap (marked_words (later_words k n k.spread) x) long
 
-    pub eighth_turns : (l₀ l l' ws ws' row : List ℕ) (place place' t : ℕ) → 0 < t → Eighth l₀ l place t ws → cell row ≡ u (t - 1)
+    pub eighth_turns : (l₀ l l' ws ws' row : List ℕ) (place place' t clocks : ℕ) → 0 < t → clocks ≡ s - t → Eighth l₀ l place t ws → cell row ≡ u (t - 1)
         → place' ≡ length (take place l) - length (marked_words ws (cell row) (length ws))
-        → l' ≡ back (map (looked_on k.width table ((s - t) % 8)) (marked_words ws (cell row) (length ws))) (take place l) ++ drop place l
-        → ws' ≡ cond (eqb ((s - t) % 8) 7) (map (looked_on k.width table 8) ws) ws → Eighth l₀ l' place' (t - 1) ws'
+        → l' ≡ back (map (looked_on k.width table (clocks % 8)) (marked_words ws (cell row) (length ws))) (take place l) ++ drop place l
+        → ws' ≡ cond (eqb (clocks % 8) 7) (map (looked_on k.width table 8) ws) ws → Eighth l₀ l' place' (t - 1) ws'
     unfolding Eighth
-    eighth_turns l₀ l l' ws ws' row place place' t h f er ep el ew = (
+    eighth_turns l₀ l l' ws ws' row place place' t clocks h ec f er ep el ew = (
       filled_down k s u l₀ l l' (later_words k (s - t) k.spread) (later_words k (s - (t - 1)) k.spread) row place place' t h f.0 er
           (ep
           ∙ ap (λ (x : ℕ). length (take place l) - x)
           (sym (length-map (marked_words ws (cell row) (length ws)) (looked_on k.width table ((s - t) % 8))) ∙ ap length same))
-          (el ∙ ap (λ (x : List ℕ). back x (take place l) ++ drop place l) same)
+          (rw ec at el ∙ ap (λ (x : List ℕ). back x (take place l) ++ drop place l) same)
           (ap (λ (i : ℕ). later_words k i k.spread) more ∙ sym (later_words_suc k (s - t) k.spread)),
-      passed (s - t) ws ws' f.1 ew ∙ ap (λ (i : ℕ). later_words k (eights i) k.spread) (sym more),
+      passed (s - t) ws ws' f.1 (rw ec at ew) ∙ ap (λ (i : ℕ). later_words k (eights i) k.spread) (sym more),
     )
       where
         more : s - (t - 1) ≡ suc (s - t)
@@ -99,18 +98,8 @@ module _ (k : Circuit) (s : ℕ) (u : Response) where
             ≡ marked_words (later_words k (s - t) k.spread) (cell row) (length (later_words k (s - t) k.spread))
         same = between (s - t) ws (cell row) f.1
 
--- the first n words of a list, changed in place
-module _ (vs ws : List ℕ) (n : ℕ) (h : n ≤ length ws) (e : length vs ≡ length (take n ws)) where
-  pub first_changed : take n (vs ++ drop n ws) ≡ vs
-  first_changed = take_at vs (drop n ws) n (e ∙ length-take-le n ws h)
-
-  pub first_changed_length : length (vs ++ drop n ws) ≡ length ws
-  first_changed_length = length-append vs (drop n ws) ∙ omega (arith, e, length-take-le n ws h, length-drop n ws)
-
--- the limits on chains and slices, where the words are 256
-pub limited_columns : (m taps inversion n s chains slices : ℕ) (spread words : List ℕ) (u : Response) → chains ≡ min n 256 → slices ≡ min s 512
-    → (words ≡ spread) × (length words ≡ 256)
-    → columns_below (circuit m taps inversion (take chains words)) slices u slices ≡ columns_below (circuit m taps inversion (take n spread)) (min s 512) u (min s 512)
-limited_columns m taps inversion n s chains slices spread words u ec es ew =
-    ap₂ (λ (x : List ℕ) (y : ℕ). columns_below (circuit m taps inversion x) y u y)
-    (take_limit words n chains (ec ∙ ap (min n) (sym ew.1)) ∙ ap (take n) ew.0) es
+-- the limits on chains and slices, where the spread words are 256
+pub limited_columns : (m taps inversion n s chains slices : ℕ) (spread : List ℕ) (u : Response) → chains ≡ min n 256 → slices ≡ min s 512 → length spread ≡ 256
+    → columns_below (circuit m taps inversion (take chains spread)) slices u slices ≡ columns_below (circuit m taps inversion (take n spread)) (min s 512) u (min s 512)
+limited_columns m taps inversion n s chains slices spread u ec es long =
+    ap₂ (λ (x : List ℕ) (y : ℕ). columns_below (circuit m taps inversion x) y u y) (take_limit spread n chains (ec ∙ ap (min n) (sym long))) es

@@ -55,41 +55,28 @@ fn fill_wide(taken: Taken, list: &[u8], marks: Rows, columns: &mut [u64]) -> usi
     ensures list { columns.new ≡ back (columns_below (taken_circuit taken) (min taken.s 512) (cells_of list.now marks) (min taken.s 512)) columns.old }
 {
     let register = taken.register;
-    let chains = register::chain_limit(taken.n);
-    let spread = taken.spread;
-    let mut words = chains::all_words(spread);
+    let mut spread = taken.spread;
+    let words = &mut spread[..register::chain_limit(taken.n)];
     let table = eight_clocks::eight_on(register);
     let slices = register::slice_limit(taken.s);
     let mut place = columns.len();
-    let mut t = slices;
-    while 0 < t {
-        let clocks = slices - t;
-        t -= 1;
-        place = list_slice(
-            register,
-            &table,
-            rows::row_of(list, marks, t),
-            clocks,
-            &words[..chains],
-            &mut columns[..place],
-        );
-        pass_slice(register, &table, clocks, &mut words[..chains]);
+    for t in (0..slices).rev() {
+        let clocks = slices - 1 - t;
+        let row = rows::row_of(list, marks, t);
+        place = list_slice(register, &table, row, clocks, words, &mut columns[..place]);
+        pass_slice(register, &table, clocks, words);
     }
     place
 }
 
-// The words moved up by so many places.
-fn raise_words(shift: u64, words: [u64; 256]) -> [u64; 256]
+// Moves the words up by so many places.
+fn raise_words(shift: u64, words: &mut [u64])
     requires { shift < 64 }
-    ensures { result ≡ map (λ w. w * 2 ^ shift % 2 ^ 64) words }
+    ensures { words.new ≡ map (λ w. w * 2 ^ shift % 2 ^ 64) words.old }
 {
-    let mut raised = chains::all_words(words);
-    let mut c: usize = 0;
-    while c < 256 {
-        raised[c] = raised[c] << shift;
-        c += 1;
+    for word in words.iter_mut() {
+        *word <<= shift;
     }
-    raised
 }
 
 // Moves the words down by so many places.
@@ -97,10 +84,8 @@ fn lower_words(shift: u64, words: &mut [u64])
     requires { shift < 64 }
     ensures { words.new ≡ map (λ w. w / 2 ^ shift) words.old }
 {
-    let mut c = 0;
-    while c < words.len() {
-        words[c] = words[c] >> shift;
-        c += 1;
+    for word in words.iter_mut() {
+        *word >>= shift;
     }
 }
 
@@ -114,16 +99,13 @@ fn fill_raised(taken: Taken, list: &[u8], marks: Rows, columns: &mut [u64])
     ensures { columns.new ≡ back (columns_below (taken_circuit taken) (min taken.s 512) (cells_of list.now marks) (min taken.s 512)) columns.old }
 {
     let shift = 64 - register::width_limit(taken.register.m);
-    let words = taken.spread;
-    let spread = raise_words(shift, words);
+    let mut spread = taken.spread;
+    raise_words(shift, &mut spread);
     let register = Register::fresh(64, taken.register.taps << shift, 0);
-    let n = taken.n;
-    let s = taken.s;
     let raised = Taken {
         register,
-        n,
-        s,
         spread,
+        ..taken
     };
     let place = fill_wide(raised, list, marks, columns);
     lower_words(shift, &mut columns[place..]);

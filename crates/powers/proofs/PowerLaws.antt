@@ -1,17 +1,15 @@
 -- A word after some clocks from the powers of the register: bit i of a word, j clocks later, is bit 0 after i + j clocks, and a clock
 -- with all cells 0 is linear. Assumes nothing.
 use mathlib.Core.Path.{◌≡◌, refl, sym, ap, ap₂, ◌∙◌}
-use mathlib.Core.Logic.{dite}
 use mathlib.Core.List.{List, []}
 use Prim.Native.Nat.{ℕ, zero, suc, ◌+◌, ◌-◌, ◌*◌, ◌/◌, ◌%◌, ◌^◌, ◌≤◌, ◌<◌, min}
 use native.Mathlib.Nat.{add-zero, add-suc, pow-suc, mod-one, mod-lt, mod-eq_of_lt, one-mul, zero-mul}
 use native.Mathlib.Numerals.{add-one, one-add}
-use native.Mathlib.Decide.{ℕ_discrete}
 use native.Mathlib.Omega.{arith}
 use lib.Bits.{bit_xor, xor_comm, xor_shifted, xor_zero_r}
-use lib.ListN.{length, take, drop, get_or, set, length-set, length-drop}
+use lib.ListN.{length, take, drop, get_or, length-drop}
 use lib.Pow.{pow_pos, pow-lt, mod-pow-add}
-use lib.Seq.{get_or-set_same, get_or-set_other, get_or-take, get_or-drop, length-take-le}
+use lib.Seq.{get_or-take, get_or-drop, length-take-le}
 use Rattle.word.specs.Word.{digit}
 use Rattle.word.proofs.Laws.{mod2_lt}
 use Rattle.register.specs.Circuit.{Circuit, circuit, advanced}
@@ -95,26 +93,6 @@ module _ (k : Circuit) where
     from_powers_lem e h = ap (driven ps (bits w)) e ∙ bits_later k.width (omega arith) ∙ ap (later k j) (mod-eq_of_lt h)
 
   -- ---- the list of powers
-
-  -- the first e of 576 words are the powers
-  pub Powered : List ℕ → ℕ → Type 0
-  Powered ps e = (length ps ≡ 576) × ((i : ℕ) → i < e → get_or ps i 0 ≡ later k i 1)
-
-  pub powered_starts : (ps : List ℕ) → length ps ≡ 576 → Powered ps 0
-  unfolding Powered
-  powered_starts ps e = (e, (λ i l. let z : ⊥ = omega arith in absurd z))
-
-  pub powered_turns : (ps : List ℕ) (e w : ℕ) → Powered ps e → e < 576 → w ≡ later k e 1 → Powered (set ps e w) (e + 1)
-  unfolding Powered
-  powered_turns ps e w p h ew =
-      (length-set ps e w ∙ p.0, (λ i l. dite (ℕ_discrete i e) (here i) (λ (n : i ≡ e → ⊥). get_or-set_other ps e i w 0 n ∙ p.1 i (omega arith))))
-    where
-      here : (i : ℕ) → i ≡ e → get_or (set ps e w) i 0 ≡ later k i 1
-      here i q = ap (λ (x : ℕ). get_or (set ps e w) x 0) q ∙ get_or-set_same ps e w 0 (omega (arith, p.0)) ∙ ew ∙ ap (λ (x : ℕ). later k x 1) (sym q)
-
-  pub powered_ends : (ps : List ℕ) (e : ℕ) → Powered ps e → (i : ℕ) → i < e → get_or ps i 0 ≡ later k i 1
-  unfolding Powered
-  powered_ends ps e p i h = p.1 i h
 
   -- as many of them as the width, from the power j on
   pub powers_part : (ps : List ℕ) (j : ℕ) → length ps ≡ 576 → ((i : ℕ) → i < j + k.width → get_or ps i 0 ≡ later k i 1) → j + k.width ≤ 576

@@ -23,10 +23,8 @@ pub fn next_state(register: Register, state: u64) -> u64
 pub fn advance_words(register: Register, words: &mut [u64])
     ensures { words.new ≡ map (advanced (min register.m 64) register.taps) words.old }
 {
-    let mut c = 0;
-    while c < words.len() {
-        words[c] = next_state(register, words[c]);
-        c += 1;
+    for word in words.iter_mut() {
+        *word = next_state(register, *word);
     }
 }
 
@@ -34,7 +32,7 @@ pub fn advance_words(register: Register, words: &mut [u64])
 pub fn no_powers() -> [u64; 576]
     ensures { result ≡ replicate 576 0 }
 {
-    [0u64; 576]
+    [0; 576]
 }
 
 // The powers of the register: the word 1 after 0 clocks, 1 and so on, `count` of them, and no more than 576, which is enough for 512 slices and a
@@ -42,14 +40,11 @@ pub fn no_powers() -> [u64; 576]
 pub fn powers(register: Register, count: usize) -> [u64; 576]
     ensures { (i : ℕ) → i < 576 → i < count → get_or result i 0 ≡ later (circuit (min register.m 64) register.taps 0 []) i 1 }
 {
-    let end = numbers::shorter(count, 576);
-    let mut table = no_powers();
-    let mut power = 1u64;
-    let mut i = 0;
-    while i < end {
-        table[i] = power;
+    let mut table = [0; 576];
+    let mut power = 1;
+    for entry in &mut table[..count.min(576)] {
+        *entry = power;
         power = next_state(register, power);
-        i += 1;
     }
     table
 }
@@ -65,9 +60,7 @@ pub fn from_powers(powers: &[u64], w: u64) -> u64
 pub fn power_words(powers: &[u64], words: &mut [u64])
     ensures { words.new ≡ map (from_powers powers.now) words.old }
 {
-    let mut c = 0;
-    while c < words.len() {
-        words[c] = from_powers(powers, words[c]);
-        c += 1;
+    for word in words.iter_mut() {
+        *word = from_powers(powers, *word);
     }
 }

@@ -26,10 +26,8 @@ fn sign_by_cells(register: Register, spread: &[u64], list: &[u8], rows: Rows, s:
     ensures { result ≡ signature (circuit (min register.m 64) register.taps register.inversion spread.now) (cells_of list.now rows) s }
 {
     let mut held = register;
-    let mut t: u16 = 0;
-    while t < s {
+    for t in 0..s {
         held = held.clock_row(spread, rows::row_of(list, rows, t));
-        t += 1;
     }
     held.state
 }
@@ -41,10 +39,8 @@ fn sign_by_half_bytes(register: Register, spread: &[u64], list: &[u8], rows: Row
 {
     let table = chains::half_bytes(spread);
     let mut held = register;
-    let mut t: u16 = 0;
-    while t < s {
+    for t in 0..s {
         held = held.clock_driven(chains::looked_up(&table, rows::row_of(list, rows, t)));
-        t += 1;
     }
     held.state
 }
@@ -55,10 +51,8 @@ fn sign_by_drives(register: Register, drives: &[u64; drives::PLACES], s: u16) ->
     ensures { (ws l : List ℕ) (rows : Rows) → Drives ws l rows s drives.now → result ≡ signature (circuit (min register.m 64) register.taps register.inversion ws) (cells_of l rows) s }
 {
     let mut held = register;
-    let mut t: u16 = 0;
-    while t < s {
-        held = held.clock_driven(drives[t as usize]);
-        t += 1;
+    for drive in &drives[..s as usize] {
+        held = held.clock_driven(*drive);
     }
     held.state
 }

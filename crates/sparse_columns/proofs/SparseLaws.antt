@@ -180,10 +180,9 @@ abbrev pub PowersIn : ℕ → ℕ → ℕ → List ℕ → Type 0
 PowersIn m taps s table = (i : ℕ) → i < s + m → get_or table i 0 ≡ later (circuit m taps 0 []) i 1
 
 -- the spread words of a taken set, with the limits on width and chains
-pub good_limited : (m n width chains : ℕ) (spread words : List ℕ) → width ≡ min m 64 → chains ≡ min n 256 → (words ≡ spread) × (length words ≡ 256)
-    → bad_spread width (take chains words) ≡ bad_spread (min m 64) (take n spread)
-good_limited m n width chains spread words ew ec e =
-    ap₂ bad_spread ew (take_limit words n chains (ec ∙ ap (min n) (sym e.1)) ∙ ap (take n) e.0)
+pub good_limited : (m n width chains : ℕ) (spread : List ℕ) → width ≡ min m 64 → chains ≡ min n 256 → length spread ≡ 256
+    → bad_spread width (take chains spread) ≡ bad_spread (min m 64) (take n spread)
+good_limited m n width chains spread ew ec long = ap₂ bad_spread ew (take_limit spread n chains (ec ∙ ap (min n) (sym long)))
 
 -- a turn with the powers that stand in a table of 576 words, as many as slices and width ask for
 module _ (m taps inversion : ℕ) (ws : List ℕ) (s : ℕ) (u : Response) (table : List ℕ) (many : length table ≡ 576)

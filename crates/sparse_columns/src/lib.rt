@@ -21,22 +21,20 @@ fn fill_sparse(taken: Taken, list: &[u8], marks: Rows, columns: &mut [u64])
 {
     let register = taken.register;
     let width = register::width_limit(register.m) as usize;
-    let chains = register::chain_limit(taken.n);
-    let words = taken.spread;
-    let spread = chains::all_words(words);
+    let words = &taken.spread[..register::chain_limit(taken.n)];
     let slices = register::slice_limit(taken.s);
     let table = powers::powers(register, slices as usize + width);
     let mut place = columns.len();
-    let mut t = marked_rows::marked_end(list, marks, slices);
-    while 0 < t {
-        t -= 1;
+    let mut end = marked_rows::marked_end(list, marks, slices);
+    // no plainer: it steps to the slice that `marked_end` finds, not to the one before.
+    while 0 < end {
+        let t = end - 1;
         let row = rows::row_of(list, marks, t);
-        let start = marked_words::list_row(&mut columns[..place], &spread[..chains], row);
+        let start = marked_words::list_row(&mut columns[..place], words, row);
         let from = (slices - 1 - t) as usize;
-        let to = from + width;
-        powers::power_words(&table[from..to], &mut columns[start..place]);
+        powers::power_words(&table[from..from + width], &mut columns[start..place]);
         place = start;
-        t = marked_rows::marked_end(list, marks, t);
+        end = marked_rows::marked_end(list, marks, t);
     }
 }
 
@@ -44,10 +42,8 @@ fn fill_sparse(taken: Taken, list: &[u8], marks: Rows, columns: &mut [u64])
 pub fn has_bad_word(taken: Taken) -> bool
     ensures { result ≡ bad_spread (min taken.register.m 64) (take taken.n taken.spread) }
 {
-    let chains = register::chain_limit(taken.n);
-    let words = taken.spread;
-    let spread = chains::all_words(words);
-    chains::is_bad_spread(register::width_limit(taken.register.m), &spread[..chains])
+    let words = &taken.spread[..register::chain_limit(taken.n)];
+    chains::is_bad_spread(register::width_limit(taken.register.m), words)
 }
 
 // What a column made by itself costs, a clock of the powers, and the table of them, where one word advanced by one clock costs 1: estimates,

@@ -3,8 +3,7 @@ use mathlib.Core.Path.{◌≡◌, refl, sym, ap, ap₂, ◌∙◌}
 use mathlib.Core.List.{List, [], ◌∷◌, ◌++◌, map, map-map, append-nil}
 use Prim.Native.Nat.{ℕ, zero, suc, ◌+◌, ◌-◌, ◌≤◌, ◌<◌, min}
 use native.Mathlib.Omega.{arith}
-use lib.ListN.{length, take, drop, get_or, length-map, length-append, length-drop, get_or-map}
-use lib.Seq.{take_at, length-take-le}
+use lib.ListN.{length, take, drop, get_or, length-map, get_or-map}
 use Rattle.numbers.specs.Joined.{joined}
 use Rattle.numbers.proofs.JoinLaws.{joined_ext}
 use Rattle.rows.specs.Row.{cell}
@@ -202,22 +201,9 @@ module _ (k : Circuit) (s : ℕ) (u : Response) where
   unfolding Filled
   filled_place l₀ l ws place t f e = f.1 ∙ ap (λ (x : List ℕ). length l₀ - length x) (ap slices_from e ∙ slices_from_start)
 
--- the first n words of a list through f, in place
-module _ (f : ℕ → ℕ) (vs ws : List ℕ) (n : ℕ) (h : n ≤ length ws) (e : vs ≡ map f (take n ws)) where
-  part_length : length vs ≡ n
-  part_length = ap length e ∙ length-map (take n ws) f ∙ length-take-le n ws h
-
-  pub part_through : take n (vs ++ drop n ws) ≡ map f (take n ws)
-  part_through = take_at vs (drop n ws) n part_length ∙ e
-
-  pub part_through_length : length (vs ++ drop n ws) ≡ length ws
-  part_through_length = length-append vs (drop n ws) ∙ omega (arith, part_length, length-drop n ws)
-
--- the limits on chains and slices, where the words are 256
-pub columns_limited : (m taps inversion n s chains slices : ℕ) (spread words l : List ℕ) (u : Response) → chains ≡ min n 256 → slices ≡ min s 512
-    → (words ≡ spread) × (length words ≡ 256)
-    → back (columns_below (circuit m taps inversion (take chains words)) slices u slices) l
+-- the limits on chains and slices, where the spread words are 256
+pub columns_limited : (m taps inversion n s chains slices : ℕ) (spread l : List ℕ) (u : Response) → chains ≡ min n 256 → slices ≡ min s 512 → length spread ≡ 256
+    → back (columns_below (circuit m taps inversion (take chains spread)) slices u slices) l
     ≡ back (columns_below (circuit m taps inversion (take n spread)) (min s 512) u (min s 512)) l
-columns_limited m taps inversion n s chains slices spread words l u ec es ew =
-    ap₂ (λ (x : List ℕ) (y : ℕ). back (columns_below (circuit m taps inversion x) y u y) l)
-    (take_limit words n chains (ec ∙ ap (min n) (sym ew.1)) ∙ ap (take n) ew.0) es
+columns_limited m taps inversion n s chains slices spread l u ec es long =
+    ap₂ (λ (x : List ℕ) (y : ℕ). back (columns_below (circuit m taps inversion x) y u y) l) (take_limit spread n chains (ec ∙ ap (min n) (sym long))) es

@@ -19,18 +19,13 @@ pub fn fill_swept(taken: Taken, list: &[u8], marks: Rows, columns: &mut [u64])
     ensures { columns.new ≡ back (columns_below (taken_circuit taken) (min taken.s 512) (cells_of list.now marks) (min taken.s 512)) columns.old }
 {
     let register = taken.register;
-    let chains = register::chain_limit(taken.n);
-    let spread = taken.spread;
-    let mut words = chains::all_words(spread);
+    let mut spread = taken.spread;
+    let words = &mut spread[..register::chain_limit(taken.n)];
+    let slices = register::slice_limit(taken.s);
     let mut place = columns.len();
-    let mut t = register::slice_limit(taken.s);
-    while 0 < t {
-        t -= 1;
-        place = marked_words::list_row(
-            &mut columns[..place],
-            &words[..chains],
-            rows::row_of(list, marks, t),
-        );
-        powers::advance_words(register, &mut words[..chains]);
+    for t in (0..slices).rev() {
+        let row = rows::row_of(list, marks, t);
+        place = marked_words::list_row(&mut columns[..place], words, row);
+        powers::advance_words(register, words);
     }
 }

@@ -8,16 +8,13 @@
 -- A clock with all cells 0, or some of them, takes no two such words to one (later_one_to_one). And for any tap word a clock undone is linear:
 -- 8 of them are a look-up of the lowest byte (earlier_eight). Assumes nothing.
 use mathlib.Core.Path.{◌≡◌, refl, sym, ap, ap₂, ◌∙◌}
-use mathlib.Core.Logic.{dite}
 use mathlib.Core.List.{List, [], ◌∷◌, map}
-use Prim.Native.Nat.{ℕ, zero, suc, ◌+◌, ◌-◌, ◌*◌, ◌/◌, ◌%◌, ◌^◌, ◌≤◌, ◌<◌, min}
+use Prim.Native.Nat.{ℕ, zero, suc, ◌+◌, ◌-◌, ◌*◌, ◌/◌, ◌%◌, ◌^◌, ◌≤◌, ◌<◌}
 use native.Mathlib.Omega.{arith}
-use native.Mathlib.Decide.{ℕ_discrete}
 use native.Mathlib.Numerals.{add-one}
-use native.Mathlib.Nat.{add-zero, add-suc, pow-suc, mod-lt, mod_self, mod-eq_of_lt, div-one, div_self, one-mul, mul-one, mul_comm, mul_assoc}
+use native.Mathlib.Nat.{add-zero, add-suc, pow-suc, mod-lt, mod_self, mod-eq_of_lt, div-one, div_self, mul-one, mul_comm, mul_assoc}
 use lib.Bits.{bit_xor, xor_comm, xor_shifted, xor_shr, xor_zero_r, xor_lt}
-use lib.ListN.{length, get_or, set, length-set, get_or-map}
-use lib.Seq.{get_or-set_same, get_or-set_other}
+use lib.ListN.{get_or, get_or-map}
 use lib.Pow.{pow_pos, pow-lt}
 use Rattle.word.specs.Word.{digit}
 use Rattle.word.proofs.Laws.{mod2_lt, digit_xor, xor_cancel}
@@ -29,15 +26,6 @@ use Rattle.register.proofs.Laws.{advanced_xor, advanced_zero, advanced_lt, advan
 use Rattle.signatures.specs.Later.{later}
 use Rattle.word.proofs.LowestLaws.{digit_past}
 use Rattle.unclocking.specs.Unclocked.{before_one, unclocked, earlier, EightBack}
-
--- the highest bit of a register as a word
-pub top_none : (m w : ℕ) → w ≡ min m 64 → w < 1 → 1 ≡ 2 ^ (min m 64 - 1)
-top_none m w e h = let none : min m 64 - 1 ≡ 0 = omega arith in sym (ap (λ (x : ℕ). 2 ^ x) none)
-
-pub top_some : (m w : ℕ) → w ≡ min m 64 → 1 ≤ w → 1 * 2 ^ (w - 1) % 2 ^ 64 ≡ 2 ^ (min m 64 - 1)
-top_some m w e h =
-    let less : w - 1 < 64 = omega arith in
-    ap (λ (x : ℕ). x % 2 ^ 64) (one-mul (2 ^ (w - 1))) ∙ mod-eq_of_lt (pow-lt less) ∙ ap (λ (x : ℕ). 2 ^ (x - 1)) e
 
 -- the first of some clocks
 later_first : (k : Circuit) (j w : ℕ) → later k (suc j) w ≡ later k j (advanced k.width k.taps w)
@@ -192,28 +180,7 @@ unfolding unclocked
 earlier_turns m t one i w x x' eo ex e =
     e ∙ ap (λ (o : ℕ). bit_xor (x / 2) (chosen (x % 2) o)) eo ∙ ap (unclocked m t) ex ∙ earlier_more (circuit m t 0 []) i w
 
--- ---- the numbers 0 to 255
-
-pub Bytes : List ℕ → ℕ → Type 0
-Bytes l e = (length l ≡ 256) × ((x : ℕ) → x < e → get_or l x 0 ≡ x)
-
-pub bytes_start : (l : List ℕ) → length l ≡ 256 → Bytes l 0
-unfolding Bytes
-bytes_start l e = (e, (λ x h. let z : ⊥ = omega arith in absurd z))
-
-pub bytes_turn : (l : List ℕ) (e : ℕ) → Bytes l e → e < 256 → Bytes (set l e e) (e + 1)
-unfolding Bytes
-bytes_turn l e b h =
-    (length-set l e e ∙ b.0, (λ x lt. dite (ℕ_discrete x e) (here x) (λ (n : x ≡ e → ⊥). get_or-set_other l e x e 0 n ∙ b.1 x (omega arith))))
-  where
-    here : (x : ℕ) → x ≡ e → get_or (set l e e) x 0 ≡ x
-    here x q = ap (λ (y : ℕ). get_or (set l e e) y 0) q ∙ get_or-set_same l e e 0 (omega (arith, b.0)) ∙ sym q
-
-pub bytes_end : (l : List ℕ) (e : ℕ) → Bytes l e → e ≡ 256 → (length l ≡ 256) × ((x : ℕ) → x < 256 → get_or l x 0 ≡ x)
-unfolding Bytes
-bytes_end l e b q = (b.0, (λ x h. b.1 x (omega arith)))
-
--- .. each some clocks earlier
+-- the numbers 0 to 255, each 8 clocks earlier
 pub bytes_earlier : (k : Circuit) (l l' : List ℕ) → ((x : ℕ) → x < 256 → get_or l x 0 ≡ x) → l' ≡ map (earlier k 8) l → EightBack k l'
 bytes_earlier k l l' right e x h =
     ap (λ (y : List ℕ). get_or y x 0) e ∙ ap (get_or (map (earlier k 8) l) x) (sym (earlier_zero k 8)) ∙ get_or-map (earlier k 8) l x 0

@@ -2,23 +2,20 @@
 // no file. Every function is total.
 #![tactic(auto)]
 
-ghost use Rattle.std.specs.Prelude.{◌≡◌, [], map, ℕ, min, ◌<◌, ◌-◌, ◌^◌, ◌/◌, ◌%◌, length, get_or};
+ghost use Rattle.std.specs.Prelude.{◌≡◌, [], map, ℕ, min, ◌-◌, ◌^◌, ◌/◌, ◌%◌, get_or};
 ghost use Rattle.std.specs.Int.Bits.{bit_xor};
 ghost use Rattle.chains.specs.Driven.{chosen};
 ghost use Rattle.register.specs.Circuit.{Circuit, circuit};
 ghost use Rattle.unclocking.specs.Unclocked.{before_one, earlier, EightBack};
 
 use register::Register;
+use std::array;
 
 // The highest bit of a register of width m, as a word. A width counts as 1 to 64.
 fn top_bit(m: u64) -> u64
     ensures { result ≡ 2 ^ (min m 64 - 1) }
 {
-    let width = register::width_limit(m);
-    if width < 1 {
-        return 1;
-    }
-    1u64 << (width - 1)
+    1 << register::width_limit(m).saturating_sub(1)
 }
 
 // The state that a clock takes to 1.
@@ -40,10 +37,8 @@ fn earlier_word(one: u64, clocks: u16, w: u64) -> u64
     ensures { (m t : ℕ) → one ≡ before_one m t → result ≡ earlier (circuit m t 0 []) clocks w }
 {
     let mut word = w;
-    let mut i: u16 = 0;
-    while i < clocks {
+    for _ in 0..clocks {
         word = previous_word(one, word);
-        i += 1;
     }
     word
 }
@@ -55,37 +50,16 @@ pub fn unclock_words(register: Register, clocks: u16, words: &mut [u64])
     ensures { words.new ≡ map (earlier (circuit (min register.m 64) register.taps 0 []) clocks) words.old }
 {
     let one = before_one(register);
-    let mut c = 0;
-    while c < words.len() {
-        words[c] = earlier_word(one, clocks, words[c]);
-        c += 1;
+    for word in words.iter_mut() {
+        *word = earlier_word(one, clocks, *word);
     }
-}
-
-fn no_entries() -> [u64; 256]
-    ensures { length result ≡ 256 }
-{
-    [0u64; 256]
-}
-
-// The numbers 0 to 255.
-fn all_bytes() -> [u64; 256]
-    ensures { (length result ≡ 256) × ((x : ℕ) → x < 256 → get_or result x 0 ≡ x) }
-{
-    let mut bytes = no_entries();
-    let mut x = 0;
-    while x < 256 {
-        bytes[x] = x as u64;
-        x += 1;
-    }
-    bytes
 }
 
 // For each byte what it was 8 clocks earlier.
 pub fn eight_back(register: Register) -> [u64; 256]
     ensures { EightBack (circuit (min register.m 64) register.taps 0 []) result }
 {
-    let mut table = all_bytes();
+    let mut table = array::from_fn(|x| x as u64);
     unclock_words(register, 8, &mut table);
     table
 }
@@ -96,10 +70,7 @@ pub fn unclock_eight(table: &[u64; 256], words: &mut [u64])
     ensures looked { words.new ≡ map (λ w. bit_xor (w / 256) (get_or table.now (w % 256) 0)) words.old }
     ensures eight { (k : Circuit) → EightBack k table.now → words.new ≡ map (earlier k 8) words.old }
 {
-    let mut c = 0;
-    while c < words.len() {
-        let w = words[c];
-        words[c] = (w / 256) ^ table[(w % 256) as usize];
-        c += 1;
+    for word in words.iter_mut() {
+        *word = (*word / 256) ^ table[(*word % 256) as usize];
     }
 }

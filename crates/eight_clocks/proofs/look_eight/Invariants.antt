@@ -1,20 +1,7 @@
--- `look_eight` meets its contract. The loop's invariant: the first `c` words are looked up, and the others as they were.
-use mathlib.Core.Path.{◌≡◌}
-use Prim.Native.Nat.{◌-◌, ◌≤◌, min}
-use lib.ListN.{length}
-use Rattle.word.specs.Word.{low_mask}
-use Rattle.powers.proofs.AdvanceLaws.{through}
+-- `look_eight` meets its contract. The loop's invariant: the words before the index are looked up, and the others as they were.
+use Rattle.std.proofs.Common.{◌≡◌, ◌++◌, map, min, take, drop}
 use Rattle.eight_clocks.specs.Eight.{looked_on}
 use Rattle.eight_clocks.proofs.look_eight.Given as goal
 
-abbrev pub invariant-loop-c : goal.invariant-loop-c
-invariant-loop-c l =
-    (l.c ≤ length l.initial.words)
-    × (length l.words ≡ length l.initial.words)
-    × (l.mask ≡ low_mask l.m)
-    × (l.down ≡ min l.m 64 - 8)
-    × (256 ≤ length l.table)
-    × (l.words ≡ through (looked_on (min l.m 64) l.table 8) l.initial.words l.c)
-
-abbrev pub decreases-loop-c : goal.decreases-loop-c
-decreases-loop-c l = length l.initial.words - l.c
+abbrev pub invariant-loop-word : goal.invariant-loop-word
+invariant-loop-word l = l.words ≡ map (looked_on (min l.m 64) l.table 8) (take l.word-index l.initial.words) ++ drop l.word-index l.initial.words

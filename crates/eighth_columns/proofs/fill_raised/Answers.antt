@@ -16,4 +16,4 @@ returns c =
     let fresh = c.fresh-register.ensures in
     end_changed _ _ c.args.columns.now wide.new.columns _ wide.result (length wide.new.columns) wide.ensures.place wide.ensures.list refl c.lower_words.ensures
     ∙ ap (λ (x : List ℕ). back x c.args.columns.now)
-    (lowered_taken taken.register.m taken.register.taps taken.register.inversion taken.n c.width_limit-shift.result _ _ _ taken.spread c.raise_words-spread.result (min taken.s 512) (cells_of c.args.list.now c.args.marks) c.width_limit-shift.ensures c.requires.le_m c.requires.taps_bound c.requires.spread_value c.raise_words-spread.ensures fresh.0 fresh.1)
+    (lowered_taken taken.register.m taken.register.taps taken.register.inversion taken.n c.width_limit-shift.result _ _ _ taken.spread c.raise_words.new.words (min taken.s 512) (cells_of c.args.list.now c.args.marks) c.width_limit-shift.ensures c.requires.le_m c.requires.taps_bound c.requires.spread_value c.raise_words.ensures fresh.0 fresh.1)

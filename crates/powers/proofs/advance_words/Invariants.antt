@@ -1,13 +1,7 @@
--- `advance_words` meets its contract. The loop's invariant: the first `c` words are advanced, and the others as they were.
-use mathlib.Core.Path.{◌≡◌}
-use Prim.Native.Nat.{◌-◌, ◌≤◌, min}
-use lib.ListN.{length}
+-- `advance_words` meets its contract. The loop's invariant: the words before the index are advanced, and the others as they were.
+use Rattle.std.proofs.Common.{◌≡◌, ◌++◌, map, min, take, drop}
 use Rattle.register.specs.Circuit.{advanced}
-use Rattle.powers.proofs.AdvanceLaws.{through}
 use Rattle.powers.proofs.advance_words.Given as goal
 
-abbrev pub invariant-loop-c : goal.invariant-loop-c
-invariant-loop-c l = (l.c ≤ length l.initial.words) × (length l.words ≡ length l.initial.words) × (l.words ≡ through (advanced (min l.register.m 64) l.register.taps) l.initial.words l.c)
-
-abbrev pub decreases-loop-c : goal.decreases-loop-c
-decreases-loop-c l = length l.initial.words - l.c
+abbrev pub invariant-loop-word : goal.invariant-loop-word
+invariant-loop-word l = l.words ≡ map (advanced (min l.register.m 64) l.register.taps) (take l.word-index l.initial.words) ++ drop l.word-index l.initial.words

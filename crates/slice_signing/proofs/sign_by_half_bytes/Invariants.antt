@@ -1,12 +1,8 @@
 -- `sign_by_half_bytes` meets its contract. The loop's invariant: the register holds the state after the first `t` rows.
-use Prim.Native.Nat.{◌-◌, ◌≤◌}
 use Rattle.rows.specs.Lists.{cells_of}
 use Rattle.slice_signing.proofs.RunLaws.{Running}
 use Rattle.slice_signing.proofs.sign_by_half_bytes.Given as goal
 
 abbrev pub invariant-loop-t : goal.invariant-loop-t
 invariant-loop-t l =
-    (l.t ≤ l.s) × Running l.initial.held.m l.initial.held.taps l.initial.held.inversion l.spread (cells_of l.list l.rows) l.held.m l.held.taps l.held.inversion l.held.state l.t
-
-abbrev pub decreases-loop-t : goal.decreases-loop-t
-decreases-loop-t l = l.s - l.t
+    Running l.initial.held.m l.initial.held.taps l.initial.held.inversion l.spread (cells_of l.list l.rows) l.held.m l.held.taps l.held.inversion l.held.state l.t

@@ -1,19 +1,16 @@
--- `fill_sparse` meets its contract. The loop's invariant: the columns of the slices from `t` on stand at the list's end, for every tap
--- word whose powers the table has.
-use mathlib.Core.Path.{◌≡◌}
-use Prim.Native.Nat.{ℕ, ◌≤◌}
-use lib.ListN.{length, take}
+-- `fill_sparse` meets its contract. The loop's invariant: the columns of the slices from `end` on stand at the list's end.
+use Rattle.std.proofs.Common.{◌≤◌, length, min}
 use Rattle.rows.specs.Lists.{cells_of}
 use Rattle.register.specs.Circuit.{circuit}
-use Rattle.sparse_columns.proofs.SparseLaws.{Sparse, PowersIn}
+use Rattle.sparse_columns.proofs.SparseLaws.{Sparse}
 use Rattle.sparse_columns.proofs.fill_sparse.Given as goal
 
-abbrev pub invariant-loop-t : goal.invariant-loop-t
-invariant-loop-t l =
-    (l.t ≤ l.slices)
-    × (l.place ≤ length l.columns)
-    × (length l.columns ≡ length l.initial.columns)
-    × ((taps inversion : ℕ) → PowersIn l.width taps l.slices l.table → Sparse (circuit l.width taps inversion (take l.chains l.spread)) l.slices (cells_of l.list l.marks) l.initial.columns l.columns l.place l.t)
+abbrev pub invariant-loop-end : goal.invariant-loop-end
+invariant-loop-end l = record {
+  inside : l.end ≤ l.slices;
+  room : l.place ≤ length l.columns;
+  columns : Sparse (circuit (min l.fn.taken.register.m 64) l.fn.taken.register.taps l.fn.taken.register.inversion l.words) l.slices (cells_of l.list l.marks) l.initial.columns l.columns l.place l.end;
+}
 
-abbrev pub decreases-loop-t : goal.decreases-loop-t
-decreases-loop-t l = l.t
+abbrev pub decreases-loop-end : goal.decreases-loop-end
+decreases-loop-end l = l.end

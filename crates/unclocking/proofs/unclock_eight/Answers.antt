@@ -1,15 +1,17 @@
-use mathlib.Core.Path.{refl, ◌∙◌}
-use native.Mathlib.Omega.{arith}
-use Rattle.powers.proofs.AdvanceLaws.{through_none, through_all, through_stores}
+use Rattle.std.proofs.Common.{◌≡◌, ◌/◌, ◌%◌, ◌∙◌, map, get_or, rules}
+use Rattle.std.proofs.lemmas.List.{take_all, drop_all}
+use Rattle.std.proofs.lemmas.List.Edits.{map_over_more}
+use Rattle.std.specs.Int.Bits.{bit_xor}
 use Rattle.unclocking.proofs.UnclockLaws.{eight_all}
-use borrow.Author.Rules.{rules}
 use Rattle.unclocking.proofs.unclock_eight.Goals as goal
 
-pub loop-c-init : goal.loop-c-init
-loop-c-init c = (search rules, refl, through_none _ _)
+pub loop-word-preserved : goal.loop-word-preserved
+loop-word-preserved c =
+    search (rules, map_over_more (λ w. bit_xor (w / 256) (get_or c.args.table.now (w % 256) 0)))
 
-pub loop-c-preserved : goal.loop-c-preserved
-loop-c-preserved c = (search rules, search rules, through_stores _ _ _ _ _ _ (search rules) c.loop-c.invariant.2 refl refl)
-
-pub returns : goal.returns
-returns c = record { looked = c.loop-c.invariant.2 ∙ through_all _ _ _ (omega arith); eight = (λ k right. c.loop-c.invariant.2 ∙ through_all _ _ _ (omega arith) ∙ eight_all k c.args.table.now right c.args.words.now) }
+pub returns-clause-eight : goal.returns-clause-eight
+returns-clause-eight c =
+    let table = c.args.table.now in
+    let words = c.args.words.now in
+    let looked : c.loop-word.words ≡ map (λ w. bit_xor (w / 256) (get_or table (w % 256) 0)) words = search (rules, take_all, drop_all) in
+    λ k right. looked ∙ eight_all k table right words
