@@ -5,6 +5,7 @@ use Prim.Native.Nat.{ℕ, ◌+◌, ◌*◌, ◌≤◌, ◌<◌, min}
 use native.Mathlib.Nat.{mul-le-mul_left, mul-le-mul_right}
 use native.Mathlib.Omega.{arith}
 use borrow.Author.Tests.{le-ltb}
+use Rattle.std.proofs.lemmas.Bool.Decides.{nat_tests}
 use lib.Dec.{ltb}
 use Rattle.column_costs.specs.Costs.{cells, sweep_cost, eights_cost, ones_cost, eights_least, ones_less}
 
@@ -17,6 +18,9 @@ ones_most w k hw hk = let few : k ≤ 65536 = omega arith in omega (arith, mul-l
 
 ones_many : (w k : ℕ) → 16 ≤ w → 65536 ≤ k → 1048576 ≤ w * k
 ones_many w k hw hk = omega (arith, mul-le-mul_left w hk, mul-le-mul_right 65536 hw)
+
+below_both : (a b c : ℕ) → ltb a (min b c) ≡ (ltb a b && ltb a c)
+below_both a b c = grind (arith, nat_tests)
 
 module _ (m k n s : ℕ) where
   most : cells n s ≤ 131072
@@ -35,11 +39,12 @@ module _ (m k n s : ℕ) where
       sym (le-ltb (ones_cost m k s) (sweep_cost n s) (omega (arith, most, ones_many (min m 64 + 16) k one h)))
 
   -- the tests of the costs
-  pub eights_tested : (eights sweep ones : ℕ) → eights ≡ eights_cost k n s → sweep ≡ sweep_cost n s → ones ≡ ones_cost m k s
-      → (ltb eights sweep && ltb eights ones) ≡ eights_least m k n s
+  pub eights_tested : (eights sweep ones least : ℕ) → eights ≡ eights_cost k n s → sweep ≡ sweep_cost n s → ones ≡ ones_cost m k s → least ≡ min sweep ones
+      → ltb eights least ≡ eights_least m k n s
   unfolding eights_least
-  eights_tested eights sweep ones ee es eo =
-      ap₂ (λ (x y : ℕ). ltb x y && ltb x ones) ee es ∙ ap (λ (x : ℕ). ltb (eights_cost k n s) (sweep_cost n s) && ltb (eights_cost k n s) x) eo
+  eights_tested eights sweep ones least ee es eo el =
+      ap (ltb eights) el ∙ below_both eights sweep ones ∙ ap₂ (λ (x y : ℕ). ltb x y && ltb x ones) ee es
+      ∙ ap (λ (x : ℕ). ltb (eights_cost k n s) (sweep_cost n s) && ltb (eights_cost k n s) x) eo
 
   pub ones_tested : (ones sweep : ℕ) → ones ≡ ones_cost m k s → sweep ≡ sweep_cost n s → ltb ones sweep ≡ ones_less m k n s
   unfolding ones_less

@@ -53,10 +53,7 @@ fn eights_cost(count: usize, n: u16, s: u16) -> u64
     ensures { result ≡ eights_cost count n s }
 {
     let slices = register::slice_limit(s) as u64;
-    all_cells(n, s) / CELLS_FOR_ONE
-        + SLICE_COST * slices
-        + BETWEEN_COST * (count as u64)
-        + EIGHT_COST
+    all_cells(n, s) / CELLS_FOR_ONE + SLICE_COST * slices + BETWEEN_COST * count as u64 + EIGHT_COST
 }
 
 // One by one.
@@ -66,26 +63,19 @@ fn ones_cost(m: u64, count: usize, s: u16) -> u64
 {
     let slices = register::slice_limit(s) as u64;
     let width = register::width_limit(m);
-    (width + COLUMN_COST) * (count as u64) + CLOCK_COST * slices + POWERS_COST
+    (width + COLUMN_COST) * count as u64 + CLOCK_COST * slices + POWERS_COST
 }
 
 // Whether so many columns, of a register of width m and n chains in s slices, cost less by eights of clocks than by a sweep and than one by one.
 pub fn eights_least(m: u64, count: usize, n: u16, s: u16) -> bool
     ensures { result ≡ eights_least m count n s }
 {
-    if MANY <= count {
-        return false;
-    }
-    let eights = eights_cost(count, n, s);
-    (eights < sweep_cost(n, s)) & (eights < ones_cost(m, count, s))
+    count < MANY && eights_cost(count, n, s) < sweep_cost(n, s).min(ones_cost(m, count, s))
 }
 
 // Whether they cost less one by one than by a sweep.
 pub fn ones_less(m: u64, count: usize, n: u16, s: u16) -> bool
     ensures { result ≡ ones_less m count n s }
 {
-    if MANY <= count {
-        return false;
-    }
-    ones_cost(m, count, s) < sweep_cost(n, s)
+    count < MANY && ones_cost(m, count, s) < sweep_cost(n, s)
 }

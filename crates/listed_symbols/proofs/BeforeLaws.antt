@@ -1,5 +1,6 @@
 -- The marked cells before a cell: those of the rows before its own, and those before it in its own.
 --
+--   total_sum         a sum over a range
 --   cells_le          there are no more marked cells than cells
 --   rows_le, rows_few .. in rows of 256 cells
 --   cells_lt          the cells of rows are 0 or 1
@@ -7,18 +8,28 @@
 --   place_of          the place of a cell among the marked ones
 -- Assumes nothing.
 use mathlib.Core.Path.{◌≡◌, refl, sym, ap, ap₂, ◌∙◌}
-use mathlib.Core.List.{List}
-use Prim.Native.Nat.{ℕ, ◌+◌, ◌-◌, ◌*◌, ◌≤◌, ◌<◌}
+use mathlib.Core.List.{List, map}
+use Prim.Native.Nat.{ℕ, zero, suc, ◌+◌, ◌-◌, ◌*◌, ◌≤◌, ◌<◌}
 use native.Mathlib.Nat.{mul-one, mul-add}
+use native.Mathlib.Numerals.{add-one}
 use native.Mathlib.Omega.{arith}
 use lib.ListN.{length, take, drop, length-drop}
 use lib.Seq.{take_all, drop-drop}
+use Rattle.std.specs.List.{sum, range_with_len}
+use Rattle.std.proofs.lemmas.List.FromFn.{sum_by-map-range_with_len_more}
 use Rattle.rows.specs.Row.{cell}
 use Rattle.rows.specs.Lists.{row_of, cells_of}
 use Rattle.rows.specs.Marks.{total}
 use Rattle.rows.specs.declared.Rows.{Rows}
 use Rattle.rows.proofs.CellLaws.{cell_lt}
 use Rattle.rows.proofs.MarkLaws.{total_ext, total_le, total_add}
+
+pub total_sum : (f : ℕ → ℕ) (n : ℕ) → sum (map f (range_with_len 0 n)) ≡ total n f
+unfolding total
+total_sum f zero = refl
+total_sum f (suc n) =
+    ap (λ (k : ℕ). sum (map f (range_with_len 0 k))) (sym (add-one n))
+    ∙ sum_by-map-range_with_len_more (λ (x : ℕ). x) f 0 n n (omega arith) ∙ ap (λ (x : ℕ). x + f n) (total_sum f n)
 
 pub cells_le : (row : List ℕ) (c found : ℕ) → found ≡ total c (cell row) → found ≤ c
 cells_le row c found e = omega (arith, e, total_le c 1 (cell row) (λ d. omega (arith, cell_lt row d)), mul-one c)

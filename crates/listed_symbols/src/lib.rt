@@ -13,23 +13,19 @@ ghost use Rattle.register.specs.Circuit.{Circuit, chains};
 ghost use Rattle.set_file.specs.Reading.{taken_circuit};
 ghost use Rattle.signatures.specs.Signature.{column};
 ghost use Rattle.signatures.specs.Symbols.{symbol_column, column_at, listing};
-ghost use Rattle.symbol_columns.specs.Powered.{SymbolsFrom, FlagsIn};
+ghost use Rattle.symbol_columns.specs.Powered.{FlagsIn};
+ghost use Rattle.symbol_columns.specs.Made.{SymbolsOf};
 ghost use Rattle.listed_symbols.specs.Heads.{HeadsIn};
 
 use rows::Rows;
 use set_file::Taken;
+use symbol_columns::SymbolColumns;
 
 // The number of marked cells before chain c in a row.
 fn cells_before(row: &[u8], c: u16) -> u64
     ensures { (result ≡ total c (cell row.now)) × (result ≤ c) }
 {
-    let mut found = 0u64;
-    let mut d: u16 = 0;
-    while d < c {
-        found += rows::cell_at(row, d as usize);
-        d += 1;
-    }
-    found
+    (0..c).map(|d| rows::cell_at(row, d as usize)).sum()
 }
 
 // The number of marked cells among the first 256 of each row before row t, where `before` is that of row `at`: the rows from there on are
@@ -47,66 +43,26 @@ fn slices_before(list: &[u8], rows: Rows, at: u16, before: u64, t: u16) -> u64
     before + marked_rows::count_marks(rest, rows, t - at)
 }
 
-// Writes the column of the symbol of entry i at the place of its cell, where its flag isn't 0 and the list has the place: the marked cells
-// before it are `before`, in the slices before its own, and those of its own before its chain.
-fn set_symbol(
-    powers: &[u64],
-    spread: &[u64],
-    width: usize,
-    slices: u16,
-    ties: &[u8],
-    numbers: &[u16],
-    i: u16,
-    flagged: u64,
-    row: &[u8],
-    before: u64,
-    columns: &mut [u64],
-)
-    requires { before ≤ 16777216 }
-    ensures { (k : Circuit) (count : ℕ) → SymbolsFrom k slices powers.now spread.now width numbers.now (ties_in ties.now count) → i < count → flagged ≡ flag (ties_in ties.now count) i → columns.new ≡ sets columns.old (before + total ((ties_in ties.now count).chain i) (cell row.now)) (listed (flag (ties_in ties.now count) i) (symbol_column k slices (ties_in ties.now count) ((ties_in ties.now count).symbol i))) }
+// Writes the columns of the named symbols at the places of their first cells, from the flags of the entries. The rows of the list mark the
+// cells that the columns are listed for.
+fn set_named(symbols: &SymbolColumns, flags: &[u64], list: &[u8], rows: Rows, columns: &mut [u64])
+    ensures { (k : Circuit) (count : ℕ) → SymbolsOf k count symbols.now → let e = ties_in symbols.now.ties.now count in FlagsIn flags.now e → HeadsIn k symbols.now.cells.slices (cells_of list.now rows) e → columns.old ≡ listing (column k symbols.now.cells.slices) (cells_of list.now rows) (chains k) symbols.now.cells.slices → columns.new ≡ listing (column_at k symbols.now.cells.slices e) (cells_of list.now rows) (chains k) symbols.now.cells.slices }
 {
-    let is_later = flagged == 0;
-    if is_later {
-        return;
-    }
-    let place = (before + cells_before(row, ties::tie_chain(ties, i))) as usize;
-    if columns.len() <= place {
-        return;
-    }
-    let column = symbol_columns::symbol_column_of(powers, spread, width, slices, ties, numbers, i);
-    columns[place] = column;
-}
-
-// Writes the columns of the named symbols at the places of their first cells, from the symbol numbers and flags of the entries. The rows of
-// the list mark the cells that the columns are listed for.
-fn set_named(
-    powers: &[u64],
-    spread: &[u64],
-    width: usize,
-    slices: u16,
-    ties: &[u8],
-    numbers: &[u16],
-    flags: &[u64],
-    list: &[u8],
-    rows: Rows,
-    columns: &mut [u64],
-)
-    requires { length numbers.now ≤ 256 }
-    ensures { (k : Circuit) (count : ℕ) → SymbolsFrom k slices powers.now spread.now width numbers.now (ties_in ties.now count) → FlagsIn flags.now (ties_in ties.now count) → HeadsIn k slices (cells_of list.now rows) (ties_in ties.now count) → columns.old ≡ listing (column k slices) (cells_of list.now rows) (chains k) slices → columns.new ≡ listing (column_at k slices (ties_in ties.now count)) (cells_of list.now rows) (chains k) slices }
-{
-    let mut at: u16 = 0;
-    let mut before = 0u64;
-    let mut i: u16 = 0;
-    while (i as usize) < numbers.len() {
-        let t = ties::tie_slice(ties, i);
+    let mut at = 0;
+    let mut before = 0;
+    for i in 0..symbols.count {
+        let is_later = word::word_at(flags, i as usize) == 0;
+        if is_later {
+            continue;
+        }
+        let t = ties::tie_slice(symbols.ties, i);
         before = slices_before(list, rows, at, before, t);
         at = t;
         let row = rows::row_of(list, rows, t);
-        let flagged = word::word_at(flags, i as usize);
-        set_symbol(
-            powers, spread, width, slices, ties, numbers, i, flagged, row, before, columns,
-        );
-        i += 1;
+        let place = (before + cells_before(row, ties::tie_chain(symbols.ties, i))) as usize;
+        if place < columns.len() {
+            columns[place] = symbols.column(i);
+        }
     }
 }
 
@@ -125,22 +81,8 @@ pub fn set_symbols(
 )
     ensures { HeadsIn (taken_circuit taken) (min taken.s 512) (cells_of list.now rows) (ties_in ties.now count) → FlagsIn flags.now (ties_in ties.now count) → columns.old ≡ listing (column (taken_circuit taken) (min taken.s 512)) (cells_of list.now rows) (chains (taken_circuit taken)) (min taken.s 512) → columns.new ≡ listing (column_at (taken_circuit taken) (min taken.s 512) (ties_in ties.now count)) (cells_of list.now rows) (chains (taken_circuit taken)) (min taken.s 512) }
 {
-    let register = taken.register;
-    let width = register::width_limit(register.m) as usize;
-    let chains = register::chain_limit(taken.n);
-    let words = taken.spread;
-    let spread = chains::all_words(words);
-    let slices = register::slice_limit(taken.s);
-    let table = powers::powers(register, 576);
-    let limit = symbol_flags::tie_limit(count) as usize;
-    let numbers = symbol_flags::symbol_numbers(ties, count);
     set_named(
-        &table[..],
-        &spread[..chains],
-        width,
-        slices,
-        ties,
-        &numbers[..limit],
+        &SymbolColumns::of(taken, ties, count),
         flags,
         list,
         rows,

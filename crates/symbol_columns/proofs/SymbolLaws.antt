@@ -1,34 +1,37 @@
 -- The columns of symbols by the powers of the register: of one cell, of one symbol, and of the cells that take the opposite.
 --
 --   power_column     a cell's column from the powers
---   chosen_entry     an entry's, where it is chosen; unchosen: 0 where it isn't
 --   symbol_term k s e j i   what entry i adds to the column of symbol number j
---   symbol_starts    entries before the first with a number add nothing to its column; symbol_turns: one entry more; symbol_ends: all of them
+--   symbol_starts    entries before the first with a number add nothing to its column; symbol_added, symbol_passed: one entry more, with the
+--                    number and with another; symbol_ends: all of them
 --   symbol_alone     a symbol with one entry has that cell's column
---   not_on, on_side, off_side   what a test says
+--   any_in_range     a test of the numbers below n, one after the other
 --   side_term k s e i   what entry i adds to the XOR for the cells that take the opposite
---   opposites_start, opposites_turn, opposites_end   the loop over them; opposites_none: where there is none
+--   opposites_start, opposite_added, opposite_passed, opposites_end   the loop over them; opposites_none: where there is none
 -- Assumes nothing.
 use mathlib.Core.Path.{◌≡◌, refl, sym, ap, ap₂, subst, ◌∙◌}
-use mathlib.Core.Bool.{Bool, true, false, not, cond}
+use mathlib.Core.Bool.{Bool, true, false, not, ◌||◌, cond}
 use mathlib.Core.Logic.{dite}
-use mathlib.Core.List.{List}
-use Prim.Native.Nat.{ℕ, zero, suc, ◌+◌, ◌-◌, ◌<◌, min}
+use mathlib.Core.List.{List, [], ◌∷◌, ◌++◌}
+use Prim.Native.Nat.{ℕ, zero, suc, ◌+◌, ◌-◌, ◌≤◌, ◌<◌}
 use native.Mathlib.Numerals.{add-one}
 use native.Mathlib.Decide.{dec_lt}
 use native.Mathlib.Omega.{arith}
 use borrow.Author.Tests.{eq-eqb, ne_eqb, eqb-true, not-false}
-use lib.Bits.{bit_xor}
+use lib.Bits.{bit_xor, xor_zero_r}
 use lib.Dec.{eqb}
-use lib.ListN.{length, get_or, take, drop, length-drop}
-use lib.Seq.{length-take-le, get_or-take, get_or-drop}
+use lib.ListN.{length, get_or, take, drop, length-take, length-drop}
+use lib.Seq.{get_or-take, get_or-drop}
+use Rattle.std.specs.List.{list_any, range_with_len}
+use Rattle.std.proofs.lemmas.List.{map-id}
+use Rattle.std.proofs.lemmas.List.Folds.{list_any-append}
+use Rattle.std.proofs.lemmas.List.FromFn.{map-range_with_len_more}
 use Rattle.word.specs.Some.{any_below}
 use Rattle.word.specs.Span.{xor_below}
 use Rattle.word.proofs.SomeLaws.{any_below_false}
 use Rattle.word.proofs.XorLaws.{xor_below_none, xor_below_suc, xor_below_zero, xor_below_one}
-use Rattle.numbers.proofs.PartLaws.{part_clamped}
 use Rattle.ties.specs.Ties.{Ties}
-use Rattle.ties.specs.Symbols.{opens, Within}
+use Rattle.ties.specs.Symbols.{opens}
 use Rattle.chains.specs.Driven.{chosen}
 use Rattle.chains.proofs.Laws.{good_spread}
 use Rattle.register.specs.Circuit.{Circuit}
@@ -43,17 +46,17 @@ use Rattle.symbol_columns.specs.Powered.{Powered, NumbersIn}
 -- ---- one cell
 
 module _ (k : Circuit) (s : ℕ) (ps ws : List ℕ) (m : ℕ) (p : Powered k s ps ws m) where
-  pub power_column : (t c from to w r : ℕ) → t < s → c < length ws → from ≡ min (s - 1 - t + 0) (length ps) → to ≡ min (from + m) (length ps)
-      → w ≡ get_or ws c 0 → r ≡ from_powers (take (to - from) (drop from ps)) w → r ≡ column k s t c
-  power_column t c from to w r ht hc ef et ew er =
+  pub power_column : (t c from w r : ℕ) → t < s → c < length ws → from ≡ s - 1 - t → w ≡ get_or ws c 0
+      → r ≡ from_powers (take (from + m - from) (drop from ps)) w → r ≡ column k s t c
+  power_column t c from w r ht hc ef ew er =
       er ∙ ap (λ (x : List ℕ). from_powers x w) part
       ∙ ap (from_powers (take k.width (drop (s - 1 - t) ps))) word
       ∙ from_powers_lem k (take k.width (drop (s - 1 - t) ps)) (s - 1 - t) (get_or k.spread c 0) powered.1 powered.0
       (good_spread k.width k.spread p.good c)
       ∙ sym (column_closed k s t c ht chain)
     where
-      part : take (to - from) (drop from ps) ≡ take k.width (drop (s - 1 - t) ps)
-      part = part_clamped ps (s - 1 - t) m from to ef et ∙ ap (λ (x : ℕ). take x (drop (s - 1 - t) ps)) p.width
+      part : take (from + m - from) (drop from ps) ≡ take k.width (drop (s - 1 - t) ps)
+      part = ap₂ (λ (x y : ℕ). take x (drop y ps)) (omega (arith, p.width)) ef
 
       word : w ≡ get_or k.spread c 0
       word = ew ∙ ap (λ (x : List ℕ). get_or x c 0) p.spread
@@ -65,23 +68,20 @@ module _ (k : Circuit) (s : ℕ) (ps ws : List ℕ) (m : ℕ) (p : Powered k s p
           × ((i : ℕ) → i < k.width → get_or (take k.width (drop (s - 1 - t) ps)) i 0 ≡ later k (i + (s - 1 - t)) 1)
       powered = powers_part k ps (s - 1 - t) p.long (λ i l. p.powers i (omega (arith, p.narrow, p.slices))) (omega (arith, p.narrow, p.slices))
 
-  -- an entry's cell
-  module _ (e : Ties) (inside : Within s (length ws) e) where
-    pub chosen_entry : (i t c r : ℕ) (b : Bool) → i < e.count → t ≡ e.slice i → c ≡ e.chain i → (t < s → c < length ws → r ≡ column k s t c)
-        → b ≡ true → r ≡ cond b (column k s (e.slice i) (e.chain i)) 0
-    chosen_entry i t c r b h et ec made on =
-        made (omega (arith, inside.slices i h)) (omega (arith, inside.chains i h)) ∙ ap₂ (column k s) et ec
-        ∙ ap (λ (x : Bool). cond {A = ℕ} x (column k s (e.slice i) (e.chain i)) 0) (sym on)
+-- ---- an XOR of one term more
 
-pub unchosen : (b : Bool) (w : ℕ) → b ≡ false → 0 ≡ cond b w 0
-unchosen b w off = ap (λ (x : Bool). cond {A = ℕ} x w 0) (sym off)
+xor_grows : (f : ℕ → ℕ) (i sum w : ℕ) → sum ≡ xor_below i f → w ≡ f i → bit_xor sum w ≡ xor_below (i + 1) f
+xor_grows f i sum w es ew = ap₂ bit_xor es ew ∙ sym (xor_below_suc i f) ∙ ap (λ (x : ℕ). xor_below x f) (sym (add-one i))
+
+xor_stays : (f : ℕ → ℕ) (i sum : ℕ) → sum ≡ xor_below i f → f i ≡ 0 → sum ≡ xor_below (i + 1) f
+xor_stays f i sum es none = sym (xor_zero_r sum) ∙ xor_grows f i sum 0 es (sym none)
 
 -- ---- one symbol
 
 abbrev pub symbol_term : Circuit → ℕ → Ties → ℕ → ℕ → ℕ
 symbol_term k s e j i = cond (eqb (e.symbol i) j) (column k s (e.slice i) (e.chain i)) 0
 
-pub not_on : (b : Bool) → not b ≡ true → b ≡ false
+not_on : (b : Bool) → not b ≡ true → b ≡ false
 not_on true q = sym q
 not_on false q = refl
 
@@ -98,57 +98,77 @@ module _ (k : Circuit) (s : ℕ) (e : Ties) where
   pub symbol_starts : (i : ℕ) → opens e i ≡ true → 0 ≡ xor_below i (symbol_term k s e (e.symbol i))
   symbol_starts i o = sym (xor_below_zero i (symbol_term k s e (e.symbol i)) (none_before i o))
 
-  pub symbol_turns : (ns : List ℕ) (i h j sum w : ℕ) → NumbersIn ns e → h < e.count → j ≡ e.symbol i
-      → sum ≡ xor_below h (symbol_term k s e (e.symbol i)) → w ≡ cond (eqb (get_or ns h 0) j) (column k s (e.slice h) (e.chain h)) 0
-      → bit_xor sum w ≡ xor_below (h + 1) (symbol_term k s e (e.symbol i))
-  symbol_turns ns i h j sum w n l ej es ew =
-      ap₂ bit_xor es (ew ∙ ap₂ (λ (a b : ℕ). cond {A = ℕ} (eqb a b) (column k s (e.slice h) (e.chain h)) 0) (n.numbers h l) ej)
-      ∙ sym (xor_below_suc h (symbol_term k s e (e.symbol i))) ∙ ap (λ (x : ℕ). xor_below x (symbol_term k s e (e.symbol i))) (sym (add-one h))
+  module _ (l : List ℕ) (m : ℕ) (n : NumbersIn (take m l) e) where
+    number_at : (h : ℕ) → h < e.count → get_or l h 0 ≡ e.symbol h
+    number_at h lh = sym (get_or-take m l h 0 (omega (arith, n.long, length-take m l))) ∙ n.numbers h lh
+
+    module _ (i h sum : ℕ) (li : i < e.count) (lh : h < e.count) (es : sum ≡ xor_below h (symbol_term k s e (e.symbol i))) where
+      pub symbol_added : (w : ℕ) → get_or l h 0 ≡ get_or l i 0 → w ≡ column k s (e.slice h) (e.chain h)
+          → bit_xor sum w ≡ xor_below (h + 1) (symbol_term k s e (e.symbol i))
+      symbol_added w same ew =
+          xor_grows (symbol_term k s e (e.symbol i)) h sum w es
+          (ew ∙ ap (λ (b : Bool). cond {A = ℕ} b (column k s (e.slice h) (e.chain h)) 0) (sym (eq-eqb (e.symbol h) (e.symbol i) (sym (number_at h lh) ∙ same ∙ number_at i li))))
+
+      pub symbol_passed : (get_or l h 0 ≡ get_or l i 0 → ⊥) → sum ≡ xor_below (h + 1) (symbol_term k s e (e.symbol i))
+      symbol_passed other =
+          xor_stays (symbol_term k s e (e.symbol i)) h sum es
+          (ap (λ (b : Bool). cond {A = ℕ} b (column k s (e.slice h) (e.chain h)) 0)
+          (ne_eqb (e.symbol h) (e.symbol i) (λ (same : e.symbol h ≡ e.symbol i). other (number_at h lh ∙ same ∙ sym (number_at i li)))))
 
   pub symbol_ends : (i h sum : ℕ) → sum ≡ xor_below h (symbol_term k s e (e.symbol i)) → h ≡ e.count → sum ≡ symbol_column k s e (e.symbol i)
   unfolding symbol_column
   symbol_ends i h sum es eh = es ∙ ap (λ (x : ℕ). xor_below x (symbol_term k s e (e.symbol i))) eh
 
   -- no entry behind it has its number either
-  pub symbol_alone : (ns : List ℕ) (i next j r : ℕ) (b : Bool) → NumbersIn ns e → i < e.count → opens e i ≡ true → next ≡ i + 1 → j ≡ get_or ns i 0
-      → b ≡ any_below (length (take (length ns - next) (drop next ns))) (λ h. eqb (get_or (take (length ns - next) (drop next ns)) h 0) j) → b ≡ false
-      → r ≡ cond true (column k s (e.slice i) (e.chain i)) 0 → r ≡ symbol_column k s e (e.symbol i)
-  unfolding symbol_column
-  symbol_alone ns i next j r b n l o en ej eb off er =
-      er ∙ ap (λ (x : Bool). cond {A = ℕ} x (column k s (e.slice i) (e.chain i)) 0) (sym (eq-eqb (e.symbol i) (e.symbol i) refl))
-      ∙ sym (xor_below_one e.count (symbol_term k s e (e.symbol i)) i l others)
-    where
-      rest : List ℕ
-      rest = take (length ns - next) (drop next ns)
+  module _ (l : List ℕ) (m : ℕ) (n : NumbersIn (take m l) e) where
+    pub symbol_alone : (i r : ℕ) (b : Bool) → i < e.count → opens e i ≡ true
+        → b ≡ any_below (length (take (m - (i + 1)) (drop (i + 1) l))) (λ h. eqb (get_or (take (m - (i + 1)) (drop (i + 1) l)) h 0) (get_or l i 0)) → b ≡ false
+        → r ≡ column k s (e.slice i) (e.chain i) → r ≡ symbol_column k s e (e.symbol i)
+    unfolding symbol_column
+    symbol_alone i r b li o eb off er =
+        er ∙ ap (λ (x : Bool). cond {A = ℕ} x (column k s (e.slice i) (e.chain i)) 0) (sym (eq-eqb (e.symbol i) (e.symbol i) refl))
+        ∙ sym (xor_below_one e.count (symbol_term k s e (e.symbol i)) i li others)
+      where
+        rest : List ℕ
+        rest = take (m - (i + 1)) (drop (i + 1) l)
 
-      long : length rest ≡ length ns - next
-      long = length-take-le (length ns - next) (drop next ns) (omega (arith, length-drop next ns))
+        long : e.count - (i + 1) ≤ length rest
+        long = omega (arith, n.long, length-take m l, length-take (m - (i + 1)) (drop (i + 1) l), length-drop (i + 1) l)
 
-      behind : (h : ℕ) → h < e.count → i < h → eqb (e.symbol h) (e.symbol i) ≡ false
-      behind h lh q =
-          let on : next + (h - next) ≡ h = omega arith in
-          let there : h - next < length ns - next = omega (arith, n.long) in
-          sym (ap₂ eqb
-          (get_or-take (length ns - next) (drop next ns) (h - next) 0 there ∙ get_or-drop next ns (h - next) 0 ∙ ap (λ (x : ℕ). get_or ns x 0) on ∙ n.numbers h lh)
-          (ej ∙ n.numbers i l))
-          ∙ any_below_false (length rest) (λ h. eqb (get_or rest h 0) j) (sym eb ∙ off) (h - next) (omega (arith, long))
+        behind : (h : ℕ) → h < e.count → i < h → eqb (e.symbol h) (e.symbol i) ≡ false
+        behind h lh q =
+            let on : i + 1 + (h - (i + 1)) ≡ h = omega arith in
+            let there : h - (i + 1) < m - (i + 1) = omega (arith, n.long, length-take m l) in
+            sym (ap₂ eqb
+            (get_or-take (m - (i + 1)) (drop (i + 1) l) (h - (i + 1)) 0 there ∙ get_or-drop (i + 1) l (h - (i + 1)) 0 ∙ ap (λ (x : ℕ). get_or l x 0) on ∙ number_at l m n h lh)
+            (number_at l m n i li))
+            ∙ any_below_false (length rest) (λ h. eqb (get_or rest h 0) (get_or l i 0)) (sym eb ∙ off) (h - (i + 1)) (omega (arith, long))
 
-      others : (h : ℕ) → h < e.count → (h ≡ i → ⊥) → symbol_term k s e (e.symbol i) h ≡ 0
-      others h lh ne =
-          dite (dec_lt h i) (none_before i o h)
-          (λ (q : h < i → ⊥). ap (λ (b : Bool). cond {A = ℕ} b (column k s (e.slice h) (e.chain h)) 0) (behind h lh (omega arith)))
+        others : (h : ℕ) → h < e.count → (h ≡ i → ⊥) → symbol_term k s e (e.symbol i) h ≡ 0
+        others h lh ne =
+            dite (dec_lt h i) (none_before i o h)
+            (λ (q : h < i → ⊥). ap (λ (b : Bool). cond {A = ℕ} b (column k s (e.slice h) (e.chain h)) 0) (behind h lh (omega arith)))
 
 -- ---- the cells that take the opposite
 
-side_chosen : (d w : ℕ) → cond (not (eqb d 0)) w 0 ≡ chosen d w
-side_chosen zero w = ap (λ (b : Bool). cond {A = ℕ} (not b) w 0) (eq-eqb 0 0 refl)
-side_chosen (suc d) w = ap (λ (b : Bool). cond {A = ℕ} (not b) w 0) (ne_eqb (suc d) 0 (λ (z : suc d ≡ 0). omega arith))
+chosen_one : (d w : ℕ) → (d ≡ 0 → ⊥) → chosen d w ≡ w
+chosen_one zero w ne = absurd (ne refl)
+chosen_one (suc d) w ne = refl
 
-pub on_side : (d d' : ℕ) → d ≡ d' → (d ≡ 0 → ⊥) → not (eqb d' 0) ≡ true
-on_side d d' e ne = ap not (ne_eqb d' 0 (λ (z : d' ≡ 0). ne (e ∙ z)))
+or_false : (b : Bool) → (b || false) ≡ b
+or_false true = refl
+or_false false = refl
 
-pub off_side : (d d' : ℕ) → d ≡ d' → d ≡ 0 → not (eqb d' 0) ≡ false
-off_side d d' e z = ap not (eq-eqb d' 0 (sym e ∙ z))
+pub any_in_range : (f : ℕ → Bool) (n : ℕ) → list_any f (range_with_len 0 n) ≡ any_below n f
+unfolding any_below
+any_in_range f zero = refl
+any_in_range f (suc n) =
+    ap (list_any f) one_more ∙ list_any-append f (range_with_len 0 n) (n ∷ []) ∙ ap₂ ◌||◌ (any_in_range f n) (or_false (f n))
+  where
+    one_more : range_with_len 0 (suc n) ≡ range_with_len 0 n ++ n ∷ []
+    one_more =
+        ap (range_with_len 0) (sym (add-one n)) ∙ sym (map-id (range_with_len 0 (n + 1))) ∙ map-range_with_len_more (λ (x : ℕ). x) 0 n n (omega arith)
+        ∙ ap (λ (l : List ℕ). l ++ n ∷ []) (map-id (range_with_len 0 n))
 
 module _ (k : Circuit) (s : ℕ) (e : Ties) where
   abbrev pub side_term : ℕ → ℕ
@@ -157,11 +177,14 @@ module _ (k : Circuit) (s : ℕ) (e : Ties) where
   pub opposites_start : 0 ≡ xor_below 0 side_term
   opposites_start = sym (xor_below_none side_term)
 
-  pub opposites_turn : (i d sum w : ℕ) → d ≡ e.side i → sum ≡ xor_below i side_term → w ≡ cond (not (eqb d 0)) (column k s (e.slice i) (e.chain i)) 0
+  pub opposite_added : (i d sum w : ℕ) → d ≡ e.side i → (d ≡ 0 → ⊥) → sum ≡ xor_below i side_term → w ≡ column k s (e.slice i) (e.chain i)
       → bit_xor sum w ≡ xor_below (i + 1) side_term
-  opposites_turn i d sum w ed es ew =
-      ap₂ bit_xor es (ew ∙ side_chosen d (column k s (e.slice i) (e.chain i)) ∙ ap (λ (x : ℕ). chosen x (column k s (e.slice i) (e.chain i))) ed)
-      ∙ sym (xor_below_suc i side_term) ∙ ap (λ (x : ℕ). xor_below x side_term) (sym (add-one i))
+  opposite_added i d sum w ed ne es ew =
+      xor_grows side_term i sum w es (ew ∙ sym (chosen_one d (column k s (e.slice i) (e.chain i)) ne) ∙ ap (λ (x : ℕ). chosen x (column k s (e.slice i) (e.chain i))) ed)
+
+  pub opposite_passed : (i d sum : ℕ) → d ≡ e.side i → d ≡ 0 → sum ≡ xor_below i side_term → sum ≡ xor_below (i + 1) side_term
+  opposite_passed i d sum ed z es =
+      xor_stays side_term i sum es (ap (λ (x : ℕ). chosen x (column k s (e.slice i) (e.chain i))) (sym ed ∙ z))
 
   pub opposites_end : (i sum : ℕ) → sum ≡ xor_below i side_term → i ≡ e.count → sum ≡ side_columns k s e
   unfolding side_columns

@@ -1,1 +1,2 @@
 pub mod Powered
+pub mod Made

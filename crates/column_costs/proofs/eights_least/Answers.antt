@@ -1,9 +1,11 @@
 -- `eights_least` meets its contract.
+use mathlib.Core.Path.{◌∙◌}
+use borrow.Author.Tests.{le-ltb}
 use Rattle.column_costs.proofs.CostLaws.{many_not_by_eights, eights_tested}
 use Rattle.column_costs.proofs.eights_least.Goals as goal
 
-pub returns-then-count-ge-MANY : goal.returns-then-count-ge-MANY
-returns-then-count-ge-MANY c = many_not_by_eights _ _ _ _ c.if-count-ge-MANY.true
+pub returns-then-count-lt-MANY : goal.returns-then-count-lt-MANY
+returns-then-count-lt-MANY c = eights_tested _ _ _ _ _ _ _ _ c.eights_cost.ensures c.sweep_cost.ensures c.ones_cost.ensures c.min.ensures
 
-pub returns : goal.returns
-returns c = eights_tested _ _ _ _ _ _ _ c.eights_cost-eights.ensures c.sweep_cost.ensures c.ones_cost.ensures
+pub returns-else-count-lt-MANY : goal.returns-else-count-lt-MANY
+returns-else-count-lt-MANY c = le-ltb _ _ c.if-count-lt-MANY.false ∙ many_not_by_eights _ _ _ _ c.if-count-lt-MANY.false

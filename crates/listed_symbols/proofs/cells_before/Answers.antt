@@ -1,21 +1,24 @@
+-- `cells_before` meets its contract: the sum of the cells before chain c fits, and is their total.
+use mathlib.Core.Path.{◌≡◌, refl, ◌∙◌}
 use native.Mathlib.Omega.{arith}
 use borrow.Author.Rules.{rules}
+use Rattle.std.proofs.lemmas.Iterator.{YieldsList-from_range, YieldsList-from_map}
+use Rattle.std.proofs.lemmas.Iterator.Consumers.{sum_from_yields_List, fits_from_yields_list}
 use Rattle.rows.specs.Row.{cell}
-use Rattle.rows.proofs.CellLaws.{cell_lt}
-use Rattle.symbol_flags.proofs.FlagLaws.{counted_starts, counted_turns, counted_ends}
-use Rattle.listed_symbols.proofs.BeforeLaws.{cells_le}
+use Rattle.rows.specs.Marks.{total}
+use Rattle.listed_symbols.proofs.BeforeLaws.{cells_le, total_sum}
 use Rattle.listed_symbols.proofs.cells_before.Goals as goal
 
-pub loop-d-init : goal.loop-d-init
-loop-d-init c = (search rules, counted_starts _)
-
-pub overflow_add-found : goal.overflow_add-found
-overflow_add-found c = record { fits = omega (arith, cells_le c.args.row.now _ _ c.loop-d.invariant.1, c.cell_at-found.ensures, cell_lt c.args.row.now c.loop-d.d) }
-
-pub loop-d-preserved : goal.loop-d-preserved
-loop-d-preserved c = (search rules, counted_turns _ _ _ _ c.loop-d.invariant.1 c.cell_at-found.ensures)
+pub sum-requires-clause-fits : goal.sum-requires-clause-fits
+sum-requires-clause-fits c =
+    let x = cell c.args.row.now in
+    fits_from_yields_list c.map.result _ (YieldsList-from_map _ x (YieldsList-from_range 0 c.args.c c.args.c (cc) (omega arith)) c.map.ensures.closure (λ d r q k. search rules))
+    (omega (arith, total_sum x c.args.c, cells_le c.args.row.now c.args.c _ refl))
 
 pub returns : goal.returns
 returns c =
-    let args = c.args in
-    let found = counted_ends (cell args.row.now) _ args.c _ c.loop-d.invariant.1 (omega arith) in (found, cells_le args.row.now _ _ found)
+    let x = cell c.args.row.now in
+    let found : c.sum.result ≡ total c.args.c x =
+    sum_from_yields_List c.map.result _ c.sum.ensures.ran (YieldsList-from_map _ x (YieldsList-from_range 0 c.args.c c.args.c (cc) (omega arith)) c.map.ensures.closure (λ d r q k. search rules))
+    ∙ total_sum x c.args.c in
+    (found, cells_le c.args.row.now c.args.c _ found)

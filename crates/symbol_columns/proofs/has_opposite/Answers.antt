@@ -1,17 +1,19 @@
+-- `has_opposite` meets its contract: every entry is asked.
+use mathlib.Core.Path.{◌∙◌}
+use mathlib.Core.Bool.{not}
 use native.Mathlib.Omega.{arith}
 use borrow.Author.Rules.{rules}
-use Rattle.word.proofs.RangeLaws.{none_passed, one_passed, one_found, all_passed}
-use Rattle.symbol_columns.proofs.SymbolLaws.{on_side, off_side}
+use borrow.Author.Tests.{tests}
+use lib.Dec.{eqb}
+use Rattle.std.proofs.lemmas.Iterator.{YieldsList-from_range}
+use Rattle.std.proofs.lemmas.Iterator.Search.{any_from_yields_List}
+use Rattle.ties.specs.Ties.{ties_in}
+use Rattle.symbol_columns.proofs.SymbolLaws.{any_in_range}
 use Rattle.symbol_columns.proofs.has_opposite.Goals as goal
 
-pub loop-i-init : goal.loop-i-init
-loop-i-init c = (search rules, none_passed _)
-
-pub returns-then-tie_side-ne0 : goal.returns-then-tie_side-ne0
-returns-then-tie_side-ne0 c = one_found _ _ _ (search rules) (on_side _ _ c.tie_side.ensures c.if-tie_side-ne0.true)
-
-pub loop-i-preserved : goal.loop-i-preserved
-loop-i-preserved c = (search rules, one_passed _ _ c.loop-i.invariant.1 (off_side _ _ c.tie_side.ensures c.if-tie_side-ne0.false))
-
 pub returns : goal.returns
-returns c = all_passed _ _ _ c.loop-i.invariant.1 (omega arith)
+returns c =
+    let e = ties_in c.args.ties.now c.args.count in
+    any_from_yields_List (λ i. not (eqb (e.side i) 0)) _ _ c.any.result c.any.ensures.ran (YieldsList-from_range 0 c.args.count c.args.count (cc) (omega arith))
+    (λ x b q k. search (rules, tests))
+    ∙ any_in_range (λ i. not (eqb (e.side i) 0)) c.args.count

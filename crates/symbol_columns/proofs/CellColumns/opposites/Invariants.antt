@@ -1,0 +1,15 @@
+-- `opposites` meets its contract. The loop's invariant: `sum` is the XOR for the first `i` entries.
+use mathlib.Core.Path.{◌≡◌}
+use lib.ListN.{length}
+use Rattle.word.specs.Span.{xor_below}
+use Rattle.ties.specs.Ties.{ties_in}
+use Rattle.ties.specs.Symbols.{Within}
+use Rattle.register.specs.Circuit.{Circuit}
+use Rattle.symbol_columns.specs.Made.{CellsOf, SpreadOf}
+use Rattle.symbol_columns.proofs.SymbolLaws.{side_term}
+use Rattle.symbol_columns.proofs.CellColumns.opposites.Given as goal
+
+abbrev pub invariant-loop-i : goal.invariant-loop-i
+invariant-loop-i l =
+    (k : Circuit) → CellsOf k l.self → Within l.self.slices (length (SpreadOf l.self)) (ties_in l.ties l.count)
+    → l.sum ≡ xor_below l.i (side_term k l.self.slices (ties_in l.ties l.count))
