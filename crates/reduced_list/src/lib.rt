@@ -28,14 +28,11 @@ pub fn is_reduced(m: u64, words: &[u64]) -> bool
     ensures { result ≡ is_reduced m words.now }
 {
     let mut seen: u64 = 0;
-    let mut i: usize = 0;
-    while i < words.len() {
-        let w = words[i];
+    for &w in words {
         if !is_next(seen, w) {
             return false;
         }
         seen = with_highest(seen, w);
-        i += 1;
     }
     !word::is_beyond(m, seen)
 }
