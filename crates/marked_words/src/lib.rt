@@ -40,6 +40,7 @@ fn list_from_last(columns: &mut [u64], words: &[u64], marks: u64) -> usize
 {
     let mut place = columns.len();
     let mut left = marks;
+    // no plainer: it goes from one bit to the next
     while left != 0 {
         let top = word::highest_bit(left);
         place = put_last(&mut columns[..place], word::word_at(words, top as usize));

@@ -3,7 +3,7 @@ use mathlib.Core.Path.{sym, ap}
 use Prim.Native.Nat.{◌≤◌}
 use native.Mathlib.Omega.{arith}
 use borrow.Author.Tests.{le-ltb}
-use lib.Count.{ones, ones-le}
+use lib.Count.{ones}
 use Rattle.marked_rows.proofs.CountLaws.{ones_none}
 use Rattle.marked_words.proofs.is_too_many.Goals as goal
 
@@ -11,6 +11,3 @@ pub returns-then-marks-eq0 : goal.returns-then-marks-eq0
 returns-then-marks-eq0 c =
     let none : ones c.args.marks ≤ c.args.room = omega (arith, ap ones c.if-marks-eq0.true, ones_none) in
     sym (le-ltb c.args.room (ones c.args.marks) none)
-
-pub overflow_cast-result : goal.overflow_cast-result
-overflow_cast-result c = omega (arith, ones-le 64 _ c.ranges.marks.fits)

@@ -1,21 +1,14 @@
-use mathlib.Core.Path.{refl, sym, ap}
+use mathlib.Core.Path.{refl, ap}
 use mathlib.Core.List.{List, ◌++◌}
 use Prim.Native.Nat.{ℕ, ◌-◌, ◌*◌, ◌^◌, ◌<◌}
 use native.Mathlib.Omega.{arith}
 use lib.ListN.{drop}
-use lib.Seq.{length-take-le}
 use Rattle.marked_words.proofs.ListLaws.{word_inside, listing_room, listing_starts, listing_turns_whole, listing_ends}
 use borrow.Author.Rules.{rules}
 use Rattle.marked_words.proofs.list_256.Goals as goal
 
 pub loop-i-init : goal.loop-i-init
 loop-i-init c = (search rules, listing_starts _ _ _ _ (omega (arith, c.requires.words_len)))
-
-pub eight_bytes-marks-requires : goal.eight_bytes-marks-requires
-eight_bytes-marks-requires c = omega (arith, c.requires.row_len)
-
-pub slice_bounds-list_word-end-in-loop-i : goal.slice_bounds-list_word-end-in-loop-i
-slice_bounds-list_word-end-in-loop-i c = sym (length-take-le _ _ (search rules))
 
 pub list_word-place-requires : goal.list_word-place-requires
 list_word-place-requires c =
@@ -33,9 +26,6 @@ loop-i-preserved c =
     listing_turns_whole c.args.words.now c.args.row.now (λ i. (c.type_inv.row i).fits) _ _ _ _ _ _ at.i read.result at.invariant.1 (omega arith) (omega (arith, c.requires.words_len)) small read.ensures refl listed.ensures.value
     (ap (λ (x : List ℕ). x ++ drop at.place at.columns) listed.ensures.columns_after) in
     ((listing_room _ _ _ _ _ _ k).1, k)
-
-pub shape_of-columns : goal.shape_of-columns
-shape_of-columns c = (listing_room _ _ _ _ _ _ c.loop-i.invariant.1).0
 
 pub returns : goal.returns
 returns c = let ends = listing_ends _ _ _ _ _ _ c.loop-i.invariant.1 (omega arith) in record { value = ends.0; columns_after = ends.1 }

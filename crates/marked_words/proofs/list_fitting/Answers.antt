@@ -5,7 +5,6 @@ use native.Mathlib.Omega.{arith}
 use borrow.Author.Tests.{ltb-true, ltb-false}
 use lib.Count.{ones-le}
 use lib.ListN.{drop}
-use lib.Seq.{length-take-le}
 use Rattle.marked_words.proofs.ListLaws.{marks_small, marks_inside}
 use Rattle.marked_words.proofs.FitLaws.{fitting_room, fitting_starts, fitting_turns, fitting_stops, fitting_ends}
 use borrow.Author.Rules.{rules}
@@ -14,9 +13,6 @@ use Rattle.marked_words.proofs.list_fitting.Goals as goal
 pub loop-i-init : goal.loop-i-init
 loop-i-init c = (search rules, fitting_starts _ _ _ _ (omega arith))
 
-pub shape_of-columns-then-is_too_many : goal.shape_of-columns-then-is_too_many
-shape_of-columns-then-is_too_many c = (fitting_room _ _ _ _ _ _ c.loop-i.invariant.1).0
-
 pub returns-then-is_too_many : goal.returns-then-is_too_many
 returns-then-is_too_many c =
     let at = c.loop-i in
@@ -24,9 +20,6 @@ returns-then-is_too_many c =
     let small = marks_small args.words.now args.row.now (λ i. (c.type_inv.row i).fits) (at.i - 1) _ _ (omega arith) refl c.marks_at-marks.ensures in
     fitting_stops args.words.now args.row.now _ _ _ at.i _ _ at.invariant.1 (ones-le 64 _ small)
     (ltb-true _ _ (sym c.is_too_many.ensures ∙ c.if-is_too_many.true)) (omega arith)
-
-pub slice_bounds-list_word-end-in-loop-i : goal.slice_bounds-list_word-end-in-loop-i
-slice_bounds-list_word-end-in-loop-i c = sym (length-take-le _ _ (search rules))
 
 pub list_word-place-requires : goal.list_word-place-requires
 list_word-place-requires c =
@@ -42,9 +35,6 @@ loop-i-preserved c =
     (ltb-false _ _ (sym c.is_too_many.ensures ∙ c.if-is_too_many.false)) listed.ensures.value
     (ap (λ (x : List ℕ). x ++ drop at.place at.columns) listed.ensures.columns_after) in
     ((fitting_room _ _ _ _ _ _ k).1, k)
-
-pub shape_of-columns : goal.shape_of-columns
-shape_of-columns c = (fitting_room _ _ _ _ _ _ c.loop-i.invariant.1).0
 
 pub returns : goal.returns
 returns c = fitting_ends _ _ _ _ _ _ c.loop-i.invariant.1 (omega arith)

@@ -1,10 +1,9 @@
-use mathlib.Core.Path.{◌≡◌, sym, ap}
+use mathlib.Core.Path.{◌≡◌, ap}
 use mathlib.Core.List.{List, ◌++◌}
 use Prim.Native.Nat.{ℕ, ◌-◌, ◌*◌, ◌%◌, ◌^◌}
 use native.Mathlib.Omega.{arith}
 use lib.ListN.{drop}
 use lib.Pow.{pow_pos}
-use lib.Seq.{length-take-le}
 use Rattle.marked_words.proofs.ListLaws.{Topped, highest_tops, top_power, taking_room, taking_starts, taking_turns, taking_ends}
 use borrow.Author.Rules.{rules}
 use Rattle.marked_words.proofs.list_from_last.Goals as goal
@@ -12,9 +11,6 @@ use Rattle.marked_words.proofs.list_from_last.Goals.{After-columns-1}
 
 pub loop-left-init : goal.loop-left-init
 loop-left-init c = (search rules, search rules, taking_starts _ _ _)
-
-pub slice_bounds-put_last-end-in-loop-left : goal.slice_bounds-put_last-end-in-loop-left
-slice_bounds-put_last-end-in-loop-left c = sym (length-take-le _ _ (search rules))
 
 topped : (c : After-columns-1) → Topped c.loop-left.left c.highest_bit-top.result
 topped c = highest_tops _ _ c.loop-left-test.true c.loop-left.invariant.0 c.highest_bit-top.ensures
@@ -42,9 +38,6 @@ loop-left-preserved c =
     taking_turns args.words.now args.marks _ _ _ _ _ _ _ _ _ at.invariant.2 (topped (goal.at.loop-left-preserved c).After-columns-1) c.word_at.ensures (ap (λ (x : ℕ). at.left - x) (power (goal.at.loop-left-preserved c).After-columns-1)) c.put_last-place.ensures.value
     (ap (λ (x : List ℕ). x ++ drop at.place at.columns) c.put_last-place.ensures.columns_after) in
     (omega (arith, at.invariant.0), (taking_room _ _ _ _ _ _ k).1, k)
-
-pub shape_of-columns : goal.shape_of-columns
-shape_of-columns c = (taking_room _ _ _ _ _ _ c.loop-left.invariant.2).0
 
 pub returns : goal.returns
 returns c = let ends = taking_ends _ _ _ _ _ _ c.loop-left.invariant.2 (omega arith) in record { value = ends.0; columns_after = ends.1 }

@@ -1,10 +1,9 @@
-use mathlib.Core.Path.{refl, sym, ap}
+use mathlib.Core.Path.{refl, ap}
 use mathlib.Core.List.{List, ◌++◌}
 use Prim.Native.Nat.{ℕ, ◌-◌, ◌*◌}
 use native.Mathlib.Omega.{arith}
 use lib.Dec.{eqb}
 use lib.ListN.{length, drop}
-use lib.Seq.{length-take-le}
 use borrow.Author.Tests.{eqb-true}
 use Rattle.word.proofs.BoolLaws.{and_left, and_right}
 use Rattle.marked_words.proofs.ListLaws.{marks_inside, listing_room, listing_starts, listing_turns, listing_ends}
@@ -20,9 +19,6 @@ list_256-requires c =
 pub loop-i-init : goal.loop-i-init
 loop-i-init c = (search rules, listing_starts _ _ _ _ (omega arith))
 
-pub slice_bounds-list_word-end-in-loop-i : goal.slice_bounds-list_word-end-in-loop-i
-slice_bounds-list_word-end-in-loop-i c = sym (length-take-le _ _ (search rules))
-
 pub list_word-place-requires : goal.list_word-place-requires
 list_word-place-requires c =
     rw c.marks_at-marks.ensures (marks_inside c.args.words.now (64 * (c.loop-i.i - 1)) _ _ refl)
@@ -35,9 +31,6 @@ loop-i-preserved c =
     listing_turns args.words.now args.row.now (λ i. (c.type_inv.row i).fits) _ _ _ _ _ _ _ _ _ at.invariant.1 (omega arith) (omega arith) refl c.marks_at-marks.ensures refl c.list_word-place.ensures.value
     (ap (λ (x : List ℕ). x ++ drop at.place at.columns) c.list_word-place.ensures.columns_after) in
     ((listing_room _ _ _ _ _ _ k).1, k)
-
-pub shape_of-columns : goal.shape_of-columns
-shape_of-columns c = (listing_room _ _ _ _ _ _ c.loop-i.invariant.1).0
 
 pub returns : goal.returns
 returns c = let ends = listing_ends _ _ _ _ _ _ c.loop-i.invariant.1 (omega arith) in record { value = ends.0; columns_after = ends.1 }

@@ -1,7 +1,5 @@
 -- `list_word` meets its contract: without a mark nothing is written, and every way to write the words meets it.
-use native.Mathlib.Omega.{arith}
 use Prim.Native.Nat.{◌≤◌}
-use lib.Count.{ones-le}
 use lib.ListN.{length}
 use Rattle.marked_words.proofs.ListLaws.{taking_starts, taking_ends}
 use Rattle.marked_words.proofs.WholeLaws.{whole_fits, whole_listed}
@@ -13,9 +11,6 @@ returns-then-marks-eq0 c =
     let args = c.args in
     let ends = taking_ends args.words.now args.marks _ _ _ _ (taking_starts _ _ args.columns.now) c.if-marks-eq0.true in
     record { value = ends.0; columns_after = ends.1 }
-
-pub overflow_cast-marks : goal.overflow_cast-marks
-overflow_cast-marks c = omega (arith, ones-le 64 _ c.ranges.marks.fits)
 
 -- all 64 chains are marked: there are as many words and places
 fits : (c : Then-marks-eq18446744073709551615) → (64 ≤ length c.args.columns.now) × (64 ≤ length c.args.words.now)
