@@ -11,7 +11,7 @@ use native.Mathlib.Omega.{arith}
 use lib.Bits.{bit_xor, xor_comm, xor_shifted}
 use lib.ListN.{length, get_or, set, length-set}
 use lib.Seq.{get_or-set_same, get_or-set_other}
-use lib.Pow.{pow-add, pow_pos, pow_mono, mod-pow-add, shl_exact}
+use lib.Pow.{pow-add, pow_pos, mod-pow-add, shl_exact}
 use Rattle.word.specs.Doubled.{Doubled}
 use Rattle.word.specs.Marked.{xor_marked}
 use Rattle.word.proofs.WordLaws.{xor_scaled}
@@ -32,12 +32,6 @@ entry_next ws i t j h =
     ap (λ (x : ℕ). f (x * 2 ^ i)) top ∙ ap f (xor_scaled i (2 ^ t) j) ∙ marked_xor ws (2 ^ t * 2 ^ i) (j * 2 ^ i)
     ∙ xor_comm (f (2 ^ t * 2 ^ i)) (f (j * 2 ^ i))
     ∙ ap (bit_xor (f (j * 2 ^ i))) (ap f (sym (pow-add 2 t i) ∙ ap (λ (x : ℕ). 2 ^ x) (add_comm t i)) ∙ marked_one ws (i + t))
-
-bit_half : (t : ℕ) → t < 8 → 2 ^ t ≤ 128
-bit_half t h = let small : t ≤ 7 = omega arith in pow_mono small
-
-pub bits_room : (len e t : ℕ) → t < 8 → e + 256 ≤ len → e + (1 * 2 ^ t) % 18446744073709551616 + (1 * 2 ^ t) % 18446744073709551616 ≤ len
-bits_room len e t h room = omega (arith, one_bit t (omega arith), bit_half t h)
 
 module _ (ws l₀ : List ℕ) (e i : ℕ) where
   pub filled_starts : e < length l₀ → Filled ws l₀ (set l₀ e 0) e i (2 ^ 0)

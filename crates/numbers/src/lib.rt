@@ -29,7 +29,7 @@ pub fn moved(at: usize, step: usize, end: usize) -> usize
 pub fn part(bytes: &[u8], at: usize, count: usize) -> &[u8]
     ensures { result.now ≡ take count (drop at bytes.now) }
 {
-    let start = moved(at, 0, bytes.len());
+    let start = at.min(bytes.len());
     let end = moved(start, count, bytes.len());
     &bytes[start..end]
 }
@@ -79,13 +79,11 @@ pub fn eight_bytes(s: &[u8], i: usize) -> u64
 pub fn read_word(s: &[u8], i: usize) -> u64
     ensures { result ≡ word_at s.now i }
 {
-    if s.len() <= i {
-        return 0;
+    if i < s.len() && 8 <= s.len() - i {
+        eight_bytes(s, i)
+    } else {
+        read_short_word(s, i)
     }
-    if 8 <= s.len() - i {
-        return eight_bytes(s, i);
-    }
-    read_short_word(s, i)
 }
 
 // The shorter of two lengths.

@@ -51,8 +51,8 @@ Lining l₀ at ws e l place bits i =
     × (bits ≡ e / 2 ^ i)
     × ((r : ℕ) (l' : List ℕ) → Put l place (word_lines i (drop i ws) e) r l' → Put l₀ at (word_lines 0 ws e) r l')
 
-pub lining_start : (l : List ℕ) (at : ℕ) (ws : List ℕ) (e place : ℕ) → place ≡ min (at + 0) (length l) → Lining l at ws e l place e 0
-lining_start l at ws e place h = (omega arith, omega arith, λ r l' p. put_then (put_nothing l at place h) p)
+pub lining_start : (l : List ℕ) (at : ℕ) (ws : List ℕ) (e place : ℕ) → place ≡ min at (length l) → Lining l at ws e l place e 0
+lining_start l at ws e place h = (omega arith, omega arith, λ r l' p. put_then (put_nothing l at place (omega arith)) p)
 
 next_line : (ws : List ℕ) (e i : ℕ) → i < length ws → word_lines i (drop i ws) e ≡ word_line i (get_or ws i 0) (digit i e) ++ word_lines (suc i) (drop (suc i) ws) e
 unfolding word_lines

@@ -40,7 +40,7 @@ fn put_word_line(out: &mut [u8], at: usize, i: u64, w: u64, bit: u64) -> usize
 pub fn put_word_lines(out: &mut [u8], at: usize, words: &[u64], expected: u64) -> usize
     ensures { Put out.old at (word_lines 0 words.now expected) result out.new }
 {
-    let mut place = numbers::moved(at, 0, out.len());
+    let mut place = at.min(out.len());
     let mut bits = expected;
     for (i, w) in words.iter().enumerate() {
         place = put_word_line(out, place, i as u64, *w, bits % 2);

@@ -6,7 +6,6 @@ pub mod ParityLaws
 pub mod WordLaws
 pub mod SpanLaws
 pub mod XorLaws
-pub mod DoubledLaws
 pub mod LowestLaws
 pub mod MarkedLaws
 pub mod FrontLaws

@@ -75,14 +75,11 @@ fn write_words_to_end(out: &mut [u8], at: usize, words: &[u64])
 pub fn write_words(out: &mut [u8], at: usize, words: &[u64])
     ensures { out.new ≡ sets out.old at (word_bytes words.now) }
 {
-    if out.len() < at {
-        return;
-    }
-    if out.len() - at < 8 * words.len() {
+    if at <= out.len() && 8 * words.len() <= out.len() - at {
+        put_words(out, at, words);
+    } else {
         write_words_to_end(out, at, words);
-        return;
     }
-    put_words(out, at, words);
 }
 
 // The bytes from place `at` of out on; nothing past its end.

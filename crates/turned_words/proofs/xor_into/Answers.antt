@@ -1,6 +1,6 @@
 use mathlib.Core.Path.{refl}
 use lib.Count.{count_trailing_zeros}
-use Rattle.word.proofs.LowestLaws.{Lowest, trailing_lowest, lowest_less}
+use Rattle.word.proofs.LowestLaws.{Lowest, trailing_lowest}
 use Rattle.turned_words.proofs.LoopLaws.{into_start, into_inside, into_turn, into_end}
 use borrow.Author.Rules.{rules}
 use Rattle.turned_words.proofs.xor_into.Goals as goal
@@ -17,9 +17,6 @@ bounds-words-low c = into_inside _ _ _ _ _ _ c.loop-left.invariant (lowest (goal
 
 pub bounds-words-low-in-loop-left : goal.bounds-words-low-in-loop-left
 bounds-words-low-in-loop-left c = into_inside _ _ _ _ _ _ c.loop-left.invariant (lowest (goal.at.bounds-words-low-in-loop-left c).In-loop-left)
-
-pub loop-left-smaller : goal.loop-left-smaller
-loop-left-smaller c = lowest_less _ _ (lowest (goal.at.loop-left-smaller c).In-loop-left)
 
 pub loop-left-preserved : goal.loop-left-preserved
 loop-left-preserved c = into_turn _ _ _ _ _ _ c.loop-left.invariant (lowest (goal.at.loop-left-preserved c).In-loop-left)

@@ -1,6 +1,6 @@
 use mathlib.Core.Path.{refl}
 use native.Mathlib.Omega.{arith}
-use lib.Count.{count_trailing_zeros, trailing_le}
+use lib.Count.{count_trailing_zeros}
 use borrow.Author.Rules.{rules}
 use Rattle.word.proofs.LowestLaws.{Lowest, trailing_lowest, lowest_less}
 use Rattle.word.proofs.MarkedLaws.{masked_below, mark_inside, marked_starts, marked_turns, marked_ends}
@@ -13,20 +13,11 @@ loop-left-init c =
     let k = masked_below args.words.now args.marks _ c.low_mask.ensures in
     (k.0, k.1, marked_starts args.words.now args.marks _ (search rules) c.low_mask.ensures)
 
-pub overflow_cast-low : goal.overflow_cast-low
-overflow_cast-low c = omega (arith, trailing_le 64 c.loop-left.left)
-
-pub offset_bounds-words-low : goal.offset_bounds-words-low
-offset_bounds-words-low c = omega (arith, trailing_le 64 c.loop-left.left)
-
 lowest : (c : In-loop-left) → Lowest c.loop-left.left (count_trailing_zeros 64 c.loop-left.left)
 lowest c = trailing_lowest _ _ c.loop-left-test.true c.loop-left.invariant.0 refl
 
 pub bounds-words-low : goal.bounds-words-low
 bounds-words-low c = mark_inside c.args.words.now _ _ c.loop-left.invariant.1 (lowest (goal.at.bounds-words-low c).In-loop-left)
-
-pub loop-left-smaller : goal.loop-left-smaller
-loop-left-smaller c = lowest_less _ _ (lowest (goal.at.loop-left-smaller c).In-loop-left)
 
 pub loop-left-preserved : goal.loop-left-preserved
 loop-left-preserved c =

@@ -1,9 +1,6 @@
 use native.Mathlib.Omega.{arith}
-use Rattle.written_numbers.proofs.WritingLaws.{writing_start, words_turn, words_end}
+use Rattle.written_numbers.proofs.WritingLaws.{words_turn, words_end}
 use Rattle.written_numbers.proofs.put_words.Goals as goal
-
-pub loop-w-init : goal.loop-w-init
-loop-w-init c = (writing_start _ _ _, omega (arith, c.requires))
 
 pub loop-w-preserved : goal.loop-w-preserved
 loop-w-preserved c =

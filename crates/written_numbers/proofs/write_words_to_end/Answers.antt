@@ -1,9 +1,6 @@
 use native.Mathlib.Omega.{arith}
-use Rattle.written_numbers.proofs.WritingLaws.{writing_start, writing_past, words_turn, words_end}
+use Rattle.written_numbers.proofs.WritingLaws.{writing_past, words_turn, words_end}
 use Rattle.written_numbers.proofs.write_words_to_end.Goals as goal
-
-pub loop-w-init : goal.loop-w-init
-loop-w-init c = writing_start _ _ _
 
 pub returns-then-out-i : goal.returns-then-out-i
 returns-then-out-i c = writing_past _ _ _ _ _ _ c.loop-w.invariant c.if-out-i.true
