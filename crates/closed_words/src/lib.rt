@@ -4,7 +4,6 @@
 
 ghost use Rattle.std.specs.Prelude.{◌≡◌, true, List, ℕ, ◌+◌, ◌≤◌, min, length, drop};
 ghost use Rattle.word.specs.Word.{parity};
-ghost use Rattle.word.specs.Zeros.{zeros};
 ghost use Rattle.combinations.specs.Combination.{x_free};
 ghost use Rattle.parity_table.specs.Table.{even_run};
 ghost use Rattle.rows.specs.Row.{cell};
@@ -26,23 +25,14 @@ fn transposed(register: Register, w: u64) -> u64
     ((w & mask) / 2) ^ feedback
 }
 
-fn no_tops() -> [u64; 64]
-    ensures { result ≡ zeros 64 }
-{
-    [0u64; 64]
-}
-
 // For each bit a word whose highest bit it is, and 0 where there is none: each is even with whatever is even with all words.
 fn by_highest(words: &[u64]) -> [u64; 64]
     ensures { EvenAll words.now result }
 {
-    let mut tops = no_tops();
-    let mut i: usize = 0;
-    while i < words.len() {
-        let word = words[i];
-        let at = word::highest_bit(word) as usize;
-        tops[at] = word;
-        i += 1;
+    let mut tops = [0; 64];
+    for &w in words {
+        let at = word::highest_bit(w) as usize;
+        tops[at] = w;
     }
     tops
 }
@@ -61,20 +51,12 @@ fn is_closed(register: Register, words: &[u64]) -> bool
     ensures { result ≡ true → ClosedUnder (min register.m 64) register.taps words.now }
 {
     let tops = by_highest(words);
-    let mut i: usize = 0;
-    while i < words.len() {
-        if residue(&tops, transposed(register, words[i])) != 0 {
+    for &w in words {
+        if residue(&tops, transposed(register, w)) != 0 {
             return false;
         }
-        i += 1;
     }
     true
-}
-
-fn no_words() -> [u64; 256]
-    ensures { length result ≡ 256 }
-{
-    [0u64; 256]
 }
 
 // The place of the first column, from place `from` on, that is odd with one of the words; the end where none is. By a table where so many
@@ -82,20 +64,18 @@ fn no_words() -> [u64; 256]
 fn first_odd(words: &[u64], columns: &[u64], from: usize) -> usize
     ensures { result ≡ from + even_run words.now (drop from columns.now) }
 {
-    if columns.len() <= from {
-        return parity_table::skip_plainly(words, columns, from);
+    if parity_table::pays(words.len(), columns.len().saturating_sub(from)) {
+        parity_table::skip_even(words, columns, from)
+    } else {
+        parity_table::skip_plainly(words, columns, from)
     }
-    if !parity_table::pays(words.len(), columns.len() - from) {
-        return parity_table::skip_plainly(words, columns, from);
-    }
-    parity_table::skip_even(words, columns, from)
 }
 
 // Whether it is known that the words of the marked chains of a row, of at most 256, are even with all of the words held.
 fn are_even(held: &[u64], words: &[u64], row: &[u8]) -> bool
     ensures { result ≡ true → length words.now ≤ 256 → EvenFor held.now words.now (cell row.now) }
 {
-    let mut columns = no_words();
+    let mut columns = [0; 256];
     let place = marked_words::list_row(&mut columns, words, row);
     columns.len() <= first_odd(held, &columns, place)
 }

@@ -3,12 +3,8 @@ use mathlib.Core.Path.{◌≡◌, refl, sym, ap, ◌∙◌, subst}
 use mathlib.Core.List.{List, []}
 use Prim.Native.Nat.{ℕ, ◌≤◌, ◌<◌}
 use native.Mathlib.Omega.{arith}
-use lib.ListN.{length, take}
-use lib.Seq.{take_all}
-use Rattle.word.specs.Reply.{front}
-use Rattle.word.proofs.FrontLaws.{front_all}
+use lib.ListN.{length}
 use Rattle.combinations.specs.Step.{steps, units}
-use Rattle.combinations.proofs.Units.{length_units}
 use Rattle.turned_words.specs.Turned.{kept, dead_behind}
 use Rattle.column_basis.specs.Basis.{Basis, Held}
 use Rattle.run_words.specs.Joining.{SlicePut, joined, opened}
@@ -25,12 +21,6 @@ singles_held basis dead m lm eb ed = rw eb (rw ed (units_held m lm))
 pub none_held : (basis : List ℕ) (dead : ℕ) → basis ≡ units 64 → dead ≡ dead_behind 0 → Held [] basis dead
 unfolding units
 none_held basis dead eb ed = singles_held basis dead 0 (omega arith) eb ed
-
--- the single bits over a list of 64 places
-pub singles_over : (us l : List ℕ) → us ≡ units 64 → length l ≡ 64 → front (take (length l) us) l ≡ units 64
-singles_over us l e long =
-    let wide : length us ≡ 64 = ap length e ∙ length_units 64 in
-    ap (λ (x : List ℕ). front x l) (take_all (length l) us (omega arith)) ∙ front_all us l (wide ∙ sym long) ∙ e
 
 -- what is held after the columns, whatever it was before
 abbrev Taken : List ℕ → List ℕ → ℕ → List ℕ → ℕ → Type 0

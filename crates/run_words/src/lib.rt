@@ -1,5 +1,5 @@
 // The words that a run leaves, slice by slice. From one slice to the next they stand as a basis of the run's columns: how many words are left
-// is all that is asked of them, and that the dead bits say. It sees a basis of columns, and the elimination for a list written over another.
+// is all that is asked of them, and that the dead bits say. It sees a basis of columns.
 #![tactic(auto)]
 
 ghost use Rattle.std.specs.Prelude.{◌≡◌, List, ℕ, ◌≤◌, length};
@@ -22,8 +22,7 @@ fn open_run(basis: &mut [u64], columns: &[u64], width: usize) -> u64
     ensures order { Basis basis.new result }
     ensures list { width ≤ 64 → Held (steps columns.now (units width)) basis.new result }
 {
-    let bits = column_basis::unit_words();
-    elimination::write_front(basis, &bits);
+    basis.copy_from_slice(&column_basis::unit_words());
     column_basis::take_columns(basis, turned_words::dead_behind(width), columns)
 }
 
