@@ -2,13 +2,11 @@
 use mathlib.Core.Path.{◌≡◌, refl, sym, ap, ap₂, subst, ◌∙◌}
 use mathlib.Core.Logic.{dite}
 use mathlib.Core.List.{List}
-use Prim.Native.Nat.{ℕ, suc, ◌+◌, ◌*◌, ◌^◌, ◌≤◌, ◌<◌}
-use native.Mathlib.Nat.{mul-suc, mul-zero, mul-le-mul_left}
-use native.Mathlib.Numerals.{add-one}
+use Prim.Native.Nat.{ℕ, ◌+◌, ◌*◌, ◌^◌, ◌≤◌, ◌<◌}
 use native.Mathlib.Decide.{ℕ_discrete}
 use native.Mathlib.Omega.{arith}
 use lib.Bits.{bit_xor}
-use lib.ListN.{length, get_or, set, drop, length-set, get_or-replicate}
+use lib.ListN.{length, get_or, set, take, drop, length-set, get_or-replicate}
 use lib.Seq.{get_or-set_same, get_or-set_other}
 use Rattle.word.specs.Zeros.{zeros}
 use Rattle.byte_tables.specs.Table.{ByteTable, looked}
@@ -61,19 +59,6 @@ module _ (l₀ : List ℕ) (f : ℕ → ℕ) where
 
 -- ---- rows that are all there
 
-module _ (at stride t s : ℕ) where
-  -- the bytes of slice t stand within the list
-  pub bytes_inside : (len place : ℕ) → t < s → place ≡ at + stride * t → at + stride * s + 8 ≤ len + stride → place + 8 ≤ len
-  bytes_inside len place h ep room =
-      let next : suc t ≤ s = omega arith in
-      omega (arith, mul-le-mul_left stride next, mul-suc stride t)
-
-  pub next_place : (place : ℕ) → place ≡ at + stride * t → place + stride ≡ at + stride * (t + 1)
-  next_place place ep = omega (arith, mul-suc stride t, ap (λ (k : ℕ). stride * k) (add-one t))
-
-pub first_place : (at stride : ℕ) → at ≡ at + stride * 0
-first_place at stride = omega (arith, mul-zero stride)
-
 -- a part of a row by its place in the list
 pub marks_inside : (l : List ℕ) (r : Rows) (from t : ℕ) → from + 8 ≤ r.bytes → word_at l (r.at + from + r.stride * t) ≡ marks_at l r from t
 marks_inside l r from t h =
@@ -87,9 +72,9 @@ pub looked_of_any : (table l row : List ℕ) (r : Rows) (from t marks drive : �
 looked_of_any table l row r from t marks drive er em ed =
     ed ∙ ap (λ (x : ℕ). looked table x 8) (em ∙ ap (λ (x : List ℕ). word_at x from) er)
 
-pub looked_of_whole : (table l : List ℕ) (place there marks drive : ℕ) → place ≡ there → marks ≡ word_at l place → drive ≡ looked table marks 8
-    → drive ≡ looked table (word_at l there) 8
-looked_of_whole table l place there marks drive ep em ed = ed ∙ ap (λ (x : ℕ). looked table x 8) (em ∙ ap (word_at l) ep)
+pub looked_of_whole : (table l : List ℕ) (place marks drive : ℕ) → marks ≡ word_at l place → drive ≡ looked table marks 8
+    → drive ≡ looked table (word_at l place) 8
+looked_of_whole table l place marks drive em ed = ed ∙ ap (λ (x : ℕ). looked table x 8) em
 
 pub whole_looked : (table l drives drives' : List ℕ) (r : Rows) (from s : ℕ) → from + 8 ≤ r.bytes
     → Added drives drives' s (λ t. looked table (word_at l (r.at + from + r.stride * t)) 8) → Added drives drives' s (λ t. looked table (marks_at l r from t) 8)
@@ -111,7 +96,7 @@ module _ (l : List ℕ) (r : Rows) where
   driving_starts ws ds s h e t k =
       ap (λ (x : List ℕ). get_or x t 0) e ∙ get_or-replicate 512 t 0 0 (omega arith) ∙ sym (driven_none ws (cells_of l r t))
 
-  pub driving_turns : ((i : ℕ) → get_or l i 0 < 256) → (ws part table ds ds' : List ℕ) (s g : ℕ) → part ≡ drop (64 * g) ws → ByteTable part table → Driving l r ws s g ds
+  pub driving_turns : ((i : ℕ) → get_or l i 0 < 256) → (ws part table ds ds' : List ℕ) (s g : ℕ) → part ≡ take 64 (drop (64 * g) ws) → ByteTable part table → Driving l r ws s g ds
       → Added ds ds' s (λ t. looked table (marks_at l r (8 * g) t) 8) → Driving l r ws s (g + 1) ds'
   unfolding Driving
   driving_turns bytes ws part table ds ds' s g ep right k a t h =

@@ -3,7 +3,6 @@
 #![tactic(auto)]
 
 ghost use Rattle.std.specs.Prelude.{◌≡◌, true, min, ◌+◌, ◌*◌, ◌≤◌, length};
-ghost use Rattle.word.specs.Zeros.{zeros};
 ghost use Rattle.byte_tables.specs.Table.{looked};
 ghost use Rattle.numbers.specs.Bytes.{word_at};
 ghost use Rattle.drives.specs.Drives.{Added, marks_at, Drives};
@@ -13,35 +12,15 @@ use rows::Rows;
 // The places of a list of drives: the largest number of slices.
 pub const PLACES: usize = 512;
 
-fn no_drives() -> [u64; PLACES]
-    ensures { result ≡ zeros 512 }
-{
-    [0u64; PLACES]
-}
-
-// A number of slices, as many at most as there are places.
-fn place_limit(s: u16) -> u16
-    ensures { result ≡ min s 512 }
-{
-    if (s as usize) < PLACES {
-        s
-    } else {
-        PLACES as u16
-    }
-}
-
 // XORs into each of the first s drives what the table gives for the 8 bytes of its slice's row from byte `from` on, by the row's part
 // of the list. A byte past the row's end counts as 0.
 fn add_of_any(drives: &mut [u64], table: &[u64; 2048], list: &[u8], rows: Rows, from: usize, s: u16)
     requires { s ≤ length drives.old }
     ensures { Added drives.old drives.new s (λ t. looked table.now (marks_at list.now rows from t) 8) }
 {
-    let mut t: u16 = 0;
-    while t < s {
+    for t in 0..s {
         let marks = numbers::read_word(rows::row_of(list, rows, t), from);
-        let drive = byte_tables::looked_up(table, marks);
-        drives[t as usize] = drives[t as usize] ^ drive;
-        t += 1;
+        drives[t as usize] ^= byte_tables::looked_up(table, marks);
     }
 }
 
@@ -58,15 +37,9 @@ fn add_of_whole(
     requires { (s ≤ length drives.old) × (at + stride * s + 8 ≤ length list.now + stride) }
     ensures { Added drives.old drives.new s (λ t. looked table.now (word_at list.now (at + stride * t)) 8) }
 {
-    let step = stride as usize;
-    let mut place = at;
-    let mut t: u16 = 0;
-    while t < s {
-        let marks = numbers::eight_bytes(list, place);
-        let drive = byte_tables::looked_up(table, marks);
-        drives[t as usize] = drives[t as usize] ^ drive;
-        place += step;
-        t += 1;
+    for t in 0..s as usize {
+        let marks = numbers::eight_bytes(list, at + stride as usize * t);
+        drives[t] ^= byte_tables::looked_up(table, marks);
     }
 }
 
@@ -104,14 +77,12 @@ fn add_looked(drives: &mut [u64], table: &[u64; 2048], list: &[u8], rows: Rows, 
 pub fn slice_drives(spread: &[u64], list: &[u8], rows: Rows, s: u16) -> [u64; PLACES]
     ensures { Drives spread.now list.now rows (min s 512) result }
 {
-    let count = place_limit(s);
-    let mut drives = no_drives();
-    let mut table = byte_tables::no_entries();
-    let mut g = 0;
-    while 64 * g < spread.len() {
-        byte_tables::fill_table(&mut table[..], &spread[64 * g..]);
+    let count = s.min(PLACES as u16);
+    let mut drives = [0; PLACES];
+    let mut table = [0; 2048];
+    for (g, words) in spread.chunks(64).enumerate() {
+        byte_tables::fill_table(&mut table[..], words);
         add_looked(&mut drives[..], &table, list, rows, 8 * g, count);
-        g += 1;
     }
     drives
 }

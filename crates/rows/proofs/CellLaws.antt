@@ -1,15 +1,14 @@
 -- Cells are 0 or 1, and rows lie one after the other. Assumes nothing.
-use mathlib.Core.Path.{◌≡◌, ap₂, ◌∙◌}
-use mathlib.Core.Bool.{Bool}
+use mathlib.Core.Path.{◌≡◌, ap₂}
 use mathlib.Core.List.{List}
-use Prim.Native.Nat.{ℕ, ◌+◌, ◌-◌, ◌*◌, ◌/◌, ◌%◌, ◌^◌, ◌≤◌, ◌<◌}
+use Prim.Native.Nat.{ℕ, ◌+◌, ◌*◌, ◌/◌, ◌%◌, ◌^◌, ◌≤◌, ◌<◌}
 use native.Mathlib.Nat.{mul-le-mul_left, mul-le-mul_right, mul-suc}
 use native.Mathlib.Omega.{arith}
-use lib.ListN.{length, get_or, take, drop, length-take, length-drop, get_or-eq_default}
+use lib.ListN.{length, get_or, length-take, length-drop, get_or-eq_default}
 use lib.Pow.{shr_le}
 use Rattle.word.specs.Word.{digit}
 use Rattle.word.proofs.Laws.{mod2_lt}
-use Rattle.rows.specs.Row.{row_bytes, cell, spare_set}
+use Rattle.rows.specs.Row.{row_bytes, cell}
 use Rattle.rows.specs.Lists.{list_row}
 
 pub cell_lt : (row : List ℕ) (c : ℕ) → cell row c < 2
@@ -22,14 +21,6 @@ row_step b t s h = rw mul-suc at (mul-le-mul_left b h)
 pub list_row_length : (n : ℕ) (l : List ℕ) (s t : ℕ) → length l ≡ row_bytes n * s → t < s → length (list_row n l t) ≡ row_bytes n
 unfolding list_row
 list_row_length n l s t e h = simp (length-take, length-drop) (omega (arith, row_step (row_bytes n) t s h))
-
--- a row of the list, as it is lent
-pub row_lent : (n : ℕ) (l : List ℕ) (t at bytes : ℕ) (r : Bool) → bytes ≡ row_bytes n → at ≡ row_bytes n * t
-    → r ≡ spare_set n (take (at + bytes - at) (drop at l)) → r ≡ spare_set n (list_row n l t)
-unfolding list_row
-row_lent n l t at bytes r eb ea er =
-    let count : at + bytes - at ≡ row_bytes n = omega arith in
-    er ∙ ap₂ (λ (k i : ℕ). spare_set n (take k (drop i l))) count ea
 
 -- the place of a row, by numbers of 4 and 2 bytes
 pub place_small : (stride t : ℕ) → stride < 4294967296 → t < 65536 → stride * t ≤ 281474976710656

@@ -2,15 +2,17 @@
 use mathlib.Core.Path.{◌≡◌, refl, sym, ap, ap₂, ◌∙◌}
 use mathlib.Core.Bool.{false}
 use mathlib.Core.List.{List, []}
-use Prim.Native.Nat.{ℕ, ◌+◌, ◌*◌, ◌≤◌, ◌<◌}
+use Prim.Native.Nat.{ℕ, ◌+◌, ◌*◌, ◌≤◌, ◌<◌, min}
+use mathlib.Core.Logic.{dite}
+use native.Mathlib.Decide.{dec_le}
 use native.Mathlib.Nat.{mul_assoc, mul-le-mul_left, le_trans}
 use native.Mathlib.Numerals.{add-one}
 use native.Mathlib.Omega.{arith}
 use borrow.Author.Tests.{ltb-false}
 use lib.Dec.{ltb}
-use lib.ListN.{length, get_or, take, drop, set}
+use lib.ListN.{length, get_or, take, drop, set, replicate}
 use lib.Seq.{take_all}
-use Rattle.numbers.specs.Bytes.{count_at, word_at, words_at}
+use Rattle.numbers.specs.Bytes.{count_at, word_at}
 use Rattle.word.specs.Reply.{front}
 use Rattle.word.proofs.BoolLaws.{or_false_left, or_false_right}
 use Rattle.word.proofs.FrontLaws.{front_next, front_nothing}
@@ -43,33 +45,31 @@ no_words_length = refl
 
 -- ---- the spread words read so far
 
-pub spread_start : (l : List ℕ) → l ≡ no_words → l ≡ front [] no_words
+pub spread_start : (l : List ℕ) → l ≡ replicate 256 0 → l ≡ front [] no_words
+unfolding no_words
 spread_start l e = e ∙ sym (front_nothing no_words)
 
-pub spread_turn : (l ws : List ℕ) (n c w : ℕ) → ws ≡ front (take c (words_at l spread_at n)) no_words → c < n → c < 256
-    → w ≡ word_at l (spread_at + 8 * c) → set ws c w ≡ front (take (c + 1) (words_at l spread_at n)) no_words
-spread_turn l ws n c w e h b r =
-    let inside : c < length (words_at l spread_at n) = omega (arith, length_words_at l spread_at n) in
+pub spread_turn : (l ws : List ℕ) (c w : ℕ) → ws ≡ front (take c (spread_of l)) no_words → c < chains_of l → c < 256
+    → w ≡ word_at l (spread_at + 8 * c) → set ws c w ≡ front (take (c + 1) (spread_of l)) no_words
+spread_turn l ws c w e h b r =
+    let inside : c < length (spread_of l) = omega (arith, spread_length l) in
     let room : c < length no_words = omega (arith, no_words_length) in
-    ap (λ (v : ℕ). set ws c v) (r ∙ sym (word_at_place l spread_at n c h))
-    ∙ ap (λ (x : List ℕ). set x c (get_or (words_at l spread_at n) c 0)) e
-    ∙ front_next c (words_at l spread_at n) no_words inside room
-    ∙ ap (λ (k : ℕ). front (take k (words_at l spread_at n)) no_words) (sym (add-one c))
+    ap (λ (v : ℕ). set ws c v) (r ∙ sym (word_at_place l spread_at (chains_of l) c h))
+    ∙ ap (λ (x : List ℕ). set x c (get_or (spread_of l) c 0)) e
+    ∙ front_next c (spread_of l) no_words inside room
+    ∙ ap (λ (k : ℕ). front (take k (spread_of l)) no_words) (sym (add-one c))
 
 -- no more than 256 are read, and where there are no more, all
-pub spread_end : (l ws : List ℕ) (n k c : ℕ) → n ≡ k → ws ≡ front (take c (words_at l spread_at n)) no_words → n ≤ c → c ≤ 256
-    → ws ≡ front (take 256 (words_at l spread_at k)) no_words
-spread_end l ws n k c e r h b =
-    let all : length (words_at l spread_at n) ≤ c = omega (arith, length_words_at l spread_at n) in
-    let few : length (words_at l spread_at n) ≤ 256 = omega (arith, all, b) in
-    r ∙ ap (λ (x : List ℕ). front x no_words) (take_all c (words_at l spread_at n) all ∙ sym (take_all 256 (words_at l spread_at n) few))
-    ∙ ap (λ (x : ℕ). front (take 256 (words_at l spread_at x)) no_words) e
+pub spread_end : (l ws : List ℕ) (c : ℕ) → ws ≡ front (take c (spread_of l)) no_words → c ≡ min (chains_of l) 256
+    → ws ≡ front (take 256 (spread_of l)) no_words
+spread_end l ws c r h = r ∙ ap (λ (x : List ℕ). front x no_words) (dite (dec_le 256 c) full few)
+  where
+    full : 256 ≤ c → take c (spread_of l) ≡ take 256 (spread_of l)
+    full b = let all : c ≡ 256 = omega arith in ap (λ (k : ℕ). take k (spread_of l)) all
 
-pub spread_full : (l ws : List ℕ) (n k c : ℕ) → n ≡ k → ws ≡ front (take c (words_at l spread_at n)) no_words → 256 ≤ c → c ≤ 256
-    → ws ≡ front (take 256 (words_at l spread_at k)) no_words
-spread_full l ws n k c e r a b =
-    let full : c ≡ 256 = omega arith in
-    r ∙ ap₂ (λ (x y : ℕ). front (take x (words_at l spread_at y)) no_words) full e
+    few : (256 ≤ c → ⊥) → take c (spread_of l) ≡ take 256 (spread_of l)
+    few b =
+        take_all c (spread_of l) (omega (arith, spread_length l)) ∙ sym (take_all 256 (spread_of l) (omega (arith, spread_length l)))
 
 -- a set of at most 256 chains has no more spread words than are read
 pub spread_whole : (l ws : List ℕ) → ws ≡ front (take 256 (spread_of l)) no_words → chains_of l ≤ 256 → ws ≡ front (spread_of l) no_words

@@ -143,12 +143,9 @@ fn whole_spread_words(set: &[u8]) -> [u64; 256]
     requires { (chains_of set.now ≤ 256) × (slices_at (chains_of set.now) ≤ length set.now) }
     ensures { result ≡ front (take 256 (spread_of set.now)) no_words }
 {
-    let n = chain_count(set) as usize;
-    let mut words = no_words();
-    let mut c = 0;
-    while c < n {
+    let mut words = [0; 256];
+    for c in 0..chain_count(set) as usize {
         words[c] = numbers::eight_bytes(set, SPREAD_AT + 8 * c);
-        c += 1;
     }
     words
 }
@@ -157,15 +154,10 @@ fn whole_spread_words(set: &[u8]) -> [u64; 256]
 fn spread_words_there(set: &[u8]) -> [u64; 256]
     ensures { result ≡ front (take 256 (spread_of set.now)) no_words }
 {
-    let n = chain_count(set) as usize;
-    let mut words = no_words();
-    let mut c = 0;
-    while c < n {
-        if register::Register::LARGEST_CHAINS <= c as u64 {
-            return words;
-        }
+    let mut words = [0; 256];
+    let count = (chain_count(set) as usize).min(words.len());
+    for c in 0..count {
         words[c] = numbers::read_word(set, SPREAD_AT + 8 * c);
-        c += 1;
     }
     words
 }
@@ -175,13 +167,11 @@ pub fn spread_words(set: &[u8]) -> [u64; 256]
     ensures { result ≡ front (take 256 (spread_of set.now)) no_words }
 {
     let n = chain_count(set);
-    if register::Register::LARGEST_CHAINS < n as u64 {
-        return spread_words_there(set);
+    if n as u64 <= register::Register::LARGEST_CHAINS && slices_at(n) <= set.len() {
+        whole_spread_words(set)
+    } else {
+        spread_words_there(set)
     }
-    if set.len() < slices_at(n) {
-        return spread_words_there(set);
-    }
-    whole_spread_words(set)
 }
 
 // The value rows of a set of n chains.

@@ -1,20 +1,17 @@
-use mathlib.Core.Path.{refl}
 use native.Mathlib.Omega.{arith}
-use borrow.Author.Rules.{rules}
 use Rattle.drives.proofs.DriveLaws.{added_starts, added_turns, added_ends, looked_of_any}
 use Rattle.drives.proofs.add_of_any.Goals as goal
 
 pub loop-t-init : goal.loop-t-init
-loop-t-init c = (search rules, refl, added_starts _ _)
+loop-t-init c = added_starts _ _
 
 pub loop-t-preserved : goal.loop-t-preserved
 loop-t-preserved c =
     let args = c.args in
     let at = c.loop-t in
     let row = c.row_of in
-    let k = added_turns _ _ at.drives at.t _ (search rules) at.invariant.2
-    (looked_of_any args.table.now args.list.now row.result.now args.rows args.from _ _ _ row.ensures c.read_word-marks.ensures c.looked_up-drive.ensures) in
-    (search rules, k.long, k)
+    added_turns _ _ at.drives at.t _ (omega arith) at.invariant
+    (looked_of_any args.table.now args.list.now row.result.now args.rows args.from _ _ _ row.ensures c.read_word-marks.ensures c.looked_up.ensures)
 
 pub returns : goal.returns
-returns c = added_ends _ _ _ _ _ (omega arith) c.loop-t.invariant.2
+returns c = added_ends _ _ _ _ _ (omega arith) c.loop-t.invariant

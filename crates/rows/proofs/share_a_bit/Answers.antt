@@ -10,8 +10,7 @@ use Rattle.rows.proofs.share_a_bit.Goals as goal
 
 pub returns : goal.returns
 returns c =
-    let v = c.args.values.now in
-    let k = c.args.marks.now in
-    let e = fold_from_yields_List _ (λ (a : ℕ) (p : ℕ × ℕ). bit_or a (bit_and p.0 p.1)) 0 c.fold.result c.fold.ensures.ran
-    (YieldsList-from_zip (YieldsList-from_slice v cc) (YieldsList-from_slice k cc)) (λ a x b q r. search (rules, tests)) in
-    rw e (shared_bytes v k)
+    rw (fold_from_yields_List _ (λ (a : ℕ) (p : ℕ × ℕ). bit_or a (bit_and p.0 p.1)) 0 c.fold.result c.fold.ensures.ran
+    (YieldsList-from_zip (YieldsList-from_slice c.args.values.now cc) (YieldsList-from_slice c.args.marks.now cc))
+    (λ a x b q r. search (rules, tests)))
+    (shared_bytes c.args.values.now c.args.marks.now)

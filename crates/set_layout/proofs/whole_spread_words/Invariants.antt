@@ -1,14 +1,9 @@
--- `whole_spread_words` meets its contract: the words of the chains passed are read, and those of the others are there.
-use Rattle.set_layout.specs.Layout.{spread_at, slices_at, no_words}
+-- `whole_spread_words` meets its contract. The loop's invariant: the words of the chains passed are read.
+use Rattle.set_layout.specs.Layout.{spread_of, no_words}
 use Rattle.word.specs.Reply.{front}
 use lib.ListN.{take, length}
-use Prim.Native.Nat.{◌≤◌, ◌-◌}
 use mathlib.Core.Path.{◌≡◌}
-use Rattle.numbers.specs.Bytes.{words_at}
 use Rattle.set_layout.proofs.whole_spread_words.Given as goal
 
 abbrev pub invariant-loop-c : goal.invariant-loop-c
-invariant-loop-c l = (l.c ≤ l.n) × (l.n ≤ 256) × (slices_at l.n ≤ length l.set) × (length l.words ≡ 256) × (l.words ≡ front (take l.c (words_at l.set spread_at l.n)) no_words)
-
-abbrev pub decreases-loop-c : goal.decreases-loop-c
-decreases-loop-c l = l.n - l.c
+invariant-loop-c l = (length l.words ≡ 256) × (l.words ≡ front (take l.c (spread_of l.set)) no_words)
