@@ -1,7 +1,7 @@
 // The words of marked cells, from portions of their columns. It sees the portions, the elimination and a taken set.
 #![tactic(auto)]
 
-ghost use Rattle.std.specs.Prelude.{◌≡◌, true, List, ℕ, ◌+◌, ◌-◌, ◌*◌, ◌≤◌, ◌<◌, min, length, take};
+ghost use Rattle.std.specs.Prelude.{◌≡◌, true, List, ℕ, ◌+◌, ◌*◌, ◌≤◌, ◌<◌, min, length, take};
 ghost use Rattle.combinations.specs.Step.{units};
 ghost use Rattle.rows.specs.Lists.{cells_of};
 ghost use Rattle.closed_words.specs.Closed.{Unchanging};
@@ -22,25 +22,15 @@ const ASKED_COLUMNS: usize = 64;
 // From so many bits on a register has a table of 8 clocks.
 const EIGHT_BITS: u64 = 8;
 
-// How far the work has come: the columns that are left, as after a portion; how many words are left, and about how many columns; whether
-// the last portion took at most one word away.
+// How far the work has come: the columns that are left, as after a portion; how many words are left, and about how many columns; how many
+// words the last portion took away, if there was one.
 #[derive(Clone, Copy)]
 struct Progress {
     t: u16,
     chains: usize,
     left: usize,
     more: usize,
-    calm: bool,
-}
-
-// a less b; 0 where that is more.
-fn fewer(a: usize, b: usize) -> usize
-    ensures { result ≡ a - b }
-{
-    if a < b {
-        return 0;
-    }
-    a - b
+    lost: Option<usize>,
 }
 
 // Whether it is worth making a table of the words' parities: there are at most 64 words, the last portion left nearly all of them, and so
@@ -48,7 +38,7 @@ fn fewer(a: usize, b: usize) -> usize
 fn is_table_worth(at: Progress, words: usize) -> bool
     ensures { result ≡ true → words ≤ 64 }
 {
-    at.calm & parity_table::pays(words, at.more)
+    at.lost.is_some_and(|lost| lost < 2) & parity_table::pays(words, at.more)
 }
 
 // The next portions, up to the first with a column that is odd with one of the words: that one's columns through the elimination. Until
@@ -69,39 +59,34 @@ fn add_by_table(
 {
     let before = held.len();
     let table = parity_table::byte_table(held);
-    let mut t = at.t;
-    let mut chains = at.chains;
     let mut more = at.more;
-    while 0 < t {
-        let from = Portion {
-            t,
-            chains,
-            place: 0,
-        };
-        let portion = portions::fill_portion(source, list, powers, words, working, from);
-        let place = portion.place;
-        t = portion.t;
-        chains = portion.chains;
-        more = fewer(more, working.len() - place);
-        let odd = parity_table::skip_by_table(&table, working, place);
+    let mut portion = Portion {
+        t: at.t,
+        chains: at.chains,
+        place: 0,
+    };
+    // no plainer: it steps by what each portion leaves
+    while 0 < portion.t {
+        portion = portions::fill_portion(source, list, powers, words, working, portion);
+        more = more.saturating_sub(working.len() - portion.place);
+        let odd = parity_table::skip_by_table(&table, working, portion.place);
         if odd < working.len() {
             let left = elimination::add_columns(held, &working[odd..]);
-            let calm = fewer(before, left) < 2;
             return Progress {
-                t,
-                chains,
+                t: portion.t,
+                chains: portion.chains,
                 left,
                 more,
-                calm,
+                lost: Some(before - left),
             };
         }
     }
     Progress {
-        t,
-        chains,
+        t: portion.t,
+        chains: portion.chains,
         left: before,
         more,
-        calm: true,
+        lost: Some(0),
     }
 }
 
@@ -137,30 +122,22 @@ fn add_next(
         t: portion.t,
         chains: portion.chains,
         left,
-        more: fewer(at.more, count),
-        calm: fewer(before, left) < 2,
+        more: at.more.saturating_sub(count),
+        lost: Some(before - left),
     }
 }
 
 // Whether it is known that no column that is left changes the words held. It is asked where the last portion changed them, so once for each
 // list of words at most, and where so many columns are left that asking is worth it.
-fn is_done(
-    source: Source,
-    list: &[u8],
-    words: &[u64],
-    held: &[u64],
-    before: usize,
-    t: u16,
-    more: usize,
-) -> bool
-    ensures { result ≡ true → length words.now ≤ 256 → Unchanging (min source.register.m 64) source.register.taps (cells_of list.now source.marks) t words.now held.now }
+fn is_done(source: Source, list: &[u8], words: &[u64], held: &[u64], at: Progress) -> bool
+    ensures { result ≡ true → length words.now ≤ 256 → Unchanging (min source.register.m 64) source.register.taps (cells_of list.now source.marks) at.t words.now held.now }
 {
     let register = source.register;
     let marks = source.marks;
-    if (held.len() == before) | (more < ASKED_COLUMNS) {
+    if (at.lost.unwrap_or(0) == 0) | (at.more < ASKED_COLUMNS) {
         return false;
     }
-    closed_words::is_settled(register, list, marks, t, words, held)
+    closed_words::is_settled(register, list, marks, at.t, words, held)
 }
 
 // All portions, from the words of single bits on. Answers with how many words are left, which stand at the front of `held`. It stops
@@ -178,36 +155,33 @@ fn reduce_all(
     ensures left { result ≤ length held.old }
     ensures words { (spread : List ℕ) (m : ℕ) → Reduced (wiring source spread) (slices_in source) (cells_of list.now source.marks) m powers.now (slices_in source) (length words.old) words.old held.old → Done (wiring source spread) (slices_in source) (cells_of list.now source.marks) m result held.new }
 {
-    let mut left = held.len();
-    let mut t = register::slice_limit(source.s);
-    let mut chains = words.len();
-    let mut more = unknowns;
-    let mut calm = false;
-    let mut before = left;
-    while 0 < t {
-        let is_empty = left == 0;
+    let mut at = Progress {
+        t: register::slice_limit(source.s),
+        chains: words.len(),
+        left: held.len(),
+        more: unknowns,
+        lost: None,
+    };
+    // no plainer: it steps by what each portion leaves
+    while 0 < at.t {
+        let is_empty = at.left == 0;
         if is_empty {
             return 0;
         }
-        if is_done(source, list, words, &held[..left], before, t, more) {
-            return left;
+        if is_done(source, list, words, &held[..at.left], at) {
+            return at.left;
         }
-        before = left;
-        let at = Progress {
-            t,
-            chains,
-            left,
-            more,
-            calm,
-        };
-        let next = add_next(source, list, powers, words, working, &mut held[..left], at);
-        t = next.t;
-        chains = next.chains;
-        left = next.left;
-        more = next.more;
-        calm = next.calm;
+        at = add_next(
+            source,
+            list,
+            powers,
+            words,
+            working,
+            &mut held[..at.left],
+            at,
+        );
     }
-    left
+    at.left
 }
 
 // The words of the marked cells' columns, from the words of single bits on. A few columns are made one by one, by the powers of the
@@ -234,12 +208,11 @@ fn reduce_marked(
     let count = unknowns as usize;
     if sparse_columns::needs_sweep(taken, count) {
         if register.m < EIGHT_BITS {
-            let powers = powers::no_powers();
             return reduce_all(
                 source,
                 list,
                 count,
-                &powers[..0],
+                &[],
                 &mut words[..chains],
                 working,
                 held,

@@ -4,7 +4,6 @@ use native.Mathlib.Omega.{arith}
 use Prim.Native.Nat.{◌≤◌, min}
 use mathlib.Core.Bool.{not}
 use lib.ListN.{length, take, length-take}
-use lib.Seq.{length-take-le}
 use Rattle.word.proofs.BoolLaws.{or_false_right}
 use Rattle.powers.proofs.PowerLaws.{later_same}
 use Rattle.eight_clocks.proofs.EightLaws.{eight_on_same}
@@ -22,12 +21,6 @@ own_words c = limited_words _ _ _ _ c.chain_limit-chains.ensures c.all_words-wor
 few_words : (c : After-all_words-words) → length (take c.args.taken.n c.args.taken.spread) ≤ 256
 few_words c = limited_few c.args.taken.n _ _ c.all_words-words.ensures
 
-pub slice_bounds-reduce_all-end : goal.slice_bounds-reduce_all-end
-slice_bounds-reduce_all-end c = refl
-
-pub slice_bounds-reduce_all-end-then-register-lt-EIGHT_BITS : goal.slice_bounds-reduce_all-end-then-register-lt-EIGHT_BITS
-slice_bounds-reduce_all-end-then-register-lt-EIGHT_BITS c = sym (length-take-le _ _ (search rules))
-
 pub reduce_all-requires : goal.reduce_all-requires
 reduce_all-requires c = (c.requires, omega (arith, length-take c.chain_limit-chains.result c.all_words-words.result, c.chain_limit-chains.ensures))
 
@@ -36,9 +29,6 @@ unfolding taken_words
 returns-then-register-lt-EIGHT_BITS c =
     let reduced = c.reduce_all in
     record { left = reduced.ensures.left; words = (λ start. reduced.ensures.words _ _ (starts_swept _ _ _ _ _ _ _ (omega arith) (few_words (goal.at.returns-then-register-lt-EIGHT_BITS c).After-all_words-words) (omega arith) (own_words (goal.at.returns-then-register-lt-EIGHT_BITS c).After-all_words-words) start refl)) }
-
-pub slice_bounds-reduce_all-end-then-needs_sweep-2 : goal.slice_bounds-reduce_all-end-then-needs_sweep-2
-slice_bounds-reduce_all-end-then-needs_sweep-2 c = sym (length-take-le _ _ (search rules))
 
 pub reduce_all-requires-then-needs_sweep : goal.reduce_all-requires-then-needs_sweep
 reduce_all-requires-then-needs_sweep c = (c.requires, omega (arith, length-take c.chain_limit-chains.result c.all_words-words.result, c.chain_limit-chains.ensures))
@@ -57,9 +47,6 @@ returns-then-needs_sweep c =
           (starts_eights _ _ _ _ _ _ _ (omega arith) (few_words (goal.at.returns-then-needs_sweep c).After-all_words-words) (omega arith) (own_words (goal.at.returns-then-needs_sweep c).After-all_words-words) start (search rules) wide
           (eight_on_same _ _ taken.register.inversion (take taken.n taken.spread) table.result (table.ensures wide))));
     }
-
-pub slice_bounds-reduce_all-end-3 : goal.slice_bounds-reduce_all-end-3
-slice_bounds-reduce_all-end-3 c = sym (length-take-le _ _ (search rules))
 
 pub reduce_all-requires-2 : goal.reduce_all-requires-2
 reduce_all-requires-2 c = (c.requires, omega (arith, length-take c.chain_limit-chains.result c.all_words-words.result, c.chain_limit-chains.ensures))
