@@ -1,15 +1,14 @@
 -- The columns of all slices by eights of clocks, written from the end: the start, the turn and the end of the loop over the slices. Assumes nothing.
-use mathlib.Core.Path.{◌≡◌, sym, ap, ap₂, ◌∙◌}
+use mathlib.Core.Path.{◌≡◌, sym, ap, ◌∙◌}
 use mathlib.Core.Bool.{cond}
 use mathlib.Core.List.{List, ◌++◌, map}
-use Prim.Native.Nat.{ℕ, suc, ◌+◌, ◌-◌, ◌*◌, ◌/◌, ◌%◌, ◌≤◌, ◌<◌, min}
+use Prim.Native.Nat.{ℕ, suc, ◌+◌, ◌-◌, ◌*◌, ◌/◌, ◌%◌, ◌≤◌, ◌<◌}
 use native.Mathlib.Omega.{arith}
 use lib.Dec.{eqb}
 use lib.ListN.{length, take, drop, get_or, length-map}
 use Rattle.rows.specs.Row.{cell}
 use Rattle.rows.specs.Marks.{marked_words}
-use Rattle.register.specs.Circuit.{Circuit, circuit}
-use Rattle.numbers.proofs.PartLaws.{take_limit}
+use Rattle.register.specs.Circuit.{Circuit}
 use Rattle.signatures.specs.Signature.{Response}
 use Rattle.signatures.specs.Later.{later}
 use Rattle.signatures.specs.Columns.{columns_below}
@@ -97,9 +96,3 @@ module _ (k : Circuit) (s : ℕ) (u : Response) where
         same : map (looked_on k.width table ((s - t) % 8)) (marked_words ws (cell row) (length ws))
             ≡ marked_words (later_words k (s - t) k.spread) (cell row) (length (later_words k (s - t) k.spread))
         same = between (s - t) ws (cell row) f.1
-
--- the limits on chains and slices, where the spread words are 256
-pub limited_columns : (m taps inversion n s chains slices : ℕ) (spread : List ℕ) (u : Response) → chains ≡ min n 256 → slices ≡ min s 512 → length spread ≡ 256
-    → columns_below (circuit m taps inversion (take chains spread)) slices u slices ≡ columns_below (circuit m taps inversion (take n spread)) (min s 512) u (min s 512)
-limited_columns m taps inversion n s chains slices spread u ec es long =
-    ap₂ (λ (x : List ℕ) (y : ℕ). columns_below (circuit m taps inversion x) y u y) (take_limit spread n chains (ec ∙ ap (min n) (sym long))) es

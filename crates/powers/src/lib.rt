@@ -14,9 +14,7 @@ use register::Register;
 pub fn next_state(register: Register, state: u64) -> u64
     ensures { result ≡ advanced (min register.m 64) register.taps state }
 {
-    let drive = 0;
-    let next = register.holding(state).advance(drive);
-    next.state
+    register.holding(state).advance(0).state
 }
 
 // Advances each word by one clock with all cells 0 and no inversion.

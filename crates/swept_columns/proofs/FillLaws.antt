@@ -202,8 +202,7 @@ module _ (k : Circuit) (s : ℕ) (u : Response) where
   filled_place l₀ l ws place t f e = f.1 ∙ ap (λ (x : List ℕ). length l₀ - length x) (ap slices_from e ∙ slices_from_start)
 
 -- the limits on chains and slices, where the spread words are 256
-pub columns_limited : (m taps inversion n s chains slices : ℕ) (spread l : List ℕ) (u : Response) → chains ≡ min n 256 → slices ≡ min s 512 → length spread ≡ 256
-    → back (columns_below (circuit m taps inversion (take chains spread)) slices u slices) l
-    ≡ back (columns_below (circuit m taps inversion (take n spread)) (min s 512) u (min s 512)) l
-columns_limited m taps inversion n s chains slices spread l u ec es long =
-    ap₂ (λ (x : List ℕ) (y : ℕ). back (columns_below (circuit m taps inversion x) y u y) l) (take_limit spread n chains (ec ∙ ap (min n) (sym long))) es
+pub columns_limited : (m taps inversion n s chains slices : ℕ) (spread : List ℕ) (u : Response) → chains ≡ min n 256 → slices ≡ min s 512 → length spread ≡ 256
+    → columns_below (circuit m taps inversion (take chains spread)) slices u slices ≡ columns_below (circuit m taps inversion (take n spread)) (min s 512) u (min s 512)
+columns_limited m taps inversion n s chains slices spread u ec es long =
+    ap₂ (λ (x : List ℕ) (y : ℕ). columns_below (circuit m taps inversion x) y u y) (take_limit spread n chains (ec ∙ ap (min n) (sym long))) es

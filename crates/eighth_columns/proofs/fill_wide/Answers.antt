@@ -2,7 +2,8 @@ use Rattle.std.proofs.Common.{◌∙◌, ◌++◌, ◌-◌, ◌≤◌, ℕ, List
 use Rattle.rows.specs.Row.{cell}
 use Rattle.marked_words.specs.Back.{back}
 use Rattle.eight_clocks.proofs.EightLaws.{eight_on_same}
-use Rattle.eighth_columns.proofs.EighthLaws.{eighth_room, eighth_starts, eighth_turns, eighth_ends, eighth_place, limited_columns}
+use Rattle.swept_columns.proofs.FillLaws.{columns_limited}
+use Rattle.eighth_columns.proofs.EighthLaws.{eighth_room, eighth_starts, eighth_turns, eighth_ends, eighth_place}
 use Rattle.eighth_columns.proofs.fill_wide.Goals as goal
 
 pub loop-t-init : goal.loop-t-init
@@ -23,5 +24,5 @@ pub returns : goal.returns
 returns c =
     let columns = c.loop-t.invariant.columns in
     let same =
-    limited_columns _ _ _ _ _ _ _ c.args.taken.spread _ c.chain_limit.ensures c.slice_limit-slices.ensures (search rules) in
+    columns_limited _ _ _ _ _ _ _ c.args.taken.spread _ c.chain_limit.ensures c.slice_limit-slices.ensures (search rules) in
     record { place = eighth_place _ _ _ _ _ _ _ _ columns (omega arith) ∙ ap (λ (x : List ℕ). length c.args.columns.now - length x) same; list = eighth_ends _ _ _ _ _ _ _ _ columns (omega arith) ∙ ap (λ (x : List ℕ). back x c.args.columns.now) same }

@@ -4,4 +4,4 @@ use Rattle.powers.proofs.next_state.Goals as goal
 
 pub returns : goal.returns
 returns c =
-    let held = c.holding.ensures in idle_state _ _ _ _ _ _ _ held.0 held.1 held.3 c.advance-next.ensures.3
+    let held = c.holding.ensures in idle_state _ _ _ _ _ _ _ held.0 held.1 held.3 c.advance.ensures.3

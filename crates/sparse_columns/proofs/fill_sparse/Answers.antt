@@ -3,6 +3,7 @@ use Rattle.std.proofs.lemmas.List.{length-take}
 use Rattle.rows.specs.Row.{cell}
 use Rattle.rows.specs.Lists.{cells_of}
 use Rattle.marked_rows.proofs.LastLaws.{last_le}
+use Rattle.marked_words.specs.Back.{back}
 use Rattle.swept_columns.proofs.FillLaws.{columns_limited}
 use Rattle.sparse_columns.proofs.SparseLaws.{PowersIn, good_limited, sparse_room, sparse_starts, sparse_skips, sparse_steps, sparse_ends}
 use Rattle.sparse_columns.proofs.fill_sparse.Goals as goal
@@ -40,4 +41,5 @@ loop-end-preserved c =
 pub returns : goal.returns
 returns c =
     sparse_ends _ _ _ _ _ _ _ c.loop-end.invariant.columns (omega arith)
-    ∙ columns_limited _ _ _ _ _ _ _ c.args.taken.spread _ _ c.chain_limit.ensures c.slice_limit-slices.ensures (search rules)
+    ∙ ap (λ (x : List ℕ). back x c.args.columns.now)
+    (columns_limited _ _ _ _ _ _ _ c.args.taken.spread _ c.chain_limit.ensures c.slice_limit-slices.ensures (search rules))

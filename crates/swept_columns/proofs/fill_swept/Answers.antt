@@ -1,5 +1,6 @@
 use Rattle.std.proofs.Common.{◌∙◌, ◌++◌, List, ℕ, drop, refl, ap, arith, rules}
 use Rattle.rows.specs.Row.{cell}
+use Rattle.marked_words.specs.Back.{back}
 use Rattle.swept_columns.proofs.FillLaws.{filled_room, filled_starts, filled_down, filled_ends, columns_limited}
 use Rattle.swept_columns.proofs.fill_swept.Goals as goal
 
@@ -19,4 +20,5 @@ loop-t-preserved c =
 pub returns : goal.returns
 returns c =
     filled_ends _ _ _ _ _ _ _ _ c.loop-t.invariant.columns (omega arith)
-    ∙ columns_limited _ _ _ _ _ _ _ c.args.taken.spread _ _ c.chain_limit.ensures c.slice_limit-slices.ensures (search rules)
+    ∙ ap (λ (x : List ℕ). back x c.args.columns.now)
+    (columns_limited _ _ _ _ _ _ _ c.args.taken.spread _ c.chain_limit.ensures c.slice_limit-slices.ensures (search rules))
