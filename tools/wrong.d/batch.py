@@ -1031,7 +1031,6 @@ class Batch:
                       u=self.pick([powers_of(m, self.taps(m))[:m], self.junk_words(self.pick([0, 1, 3, 63, 64, 65, 70]))]))
         self.call("elimination::unit_words", v=self.junk_words(64))
         self.call("column_basis::unit_words", v=self.junk_words(64))
-        self.call("column_basis::no_words", v=self.junk_words(64))
         self.call("powers::no_powers", v=self.junk_words(576))
         for seen, w in ((0, 0), (0, 1), (1, 1), (1, 2), (1, 3), (2, 1)):
             self.call("reduced_list::is_next", [seen, w])

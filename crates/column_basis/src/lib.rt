@@ -32,7 +32,7 @@ fn reduced(basis: &[u64], dead: u64, column: u64) -> u64
     let mut left = rest & dead;
     while left != 0 {
         let d = left.trailing_zeros() as usize;
-        rest = rest ^ basis[d];
+        rest ^= basis[d];
         left = rest & dead;
     }
     rest

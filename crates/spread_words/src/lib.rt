@@ -2,7 +2,7 @@
 // words, as the words of a reduced list have. Each word stands in the slot of that bit then. It sees words, combinations and the basis.
 #![tactic(auto)]
 
-ghost use Rattle.std.specs.Prelude.{◌≡◌, true, ◌≤◌, length, take};
+ghost use Rattle.std.specs.Prelude.{◌≡◌, true, ◌≤◌, length, take, IfSome};
 ghost use Rattle.word.specs.Zeros.{zeros};
 ghost use Rattle.combinations.specs.Step.{steps};
 ghost use Rattle.turned_words.specs.Turned.{kept};
@@ -10,27 +10,27 @@ ghost use Rattle.column_basis.specs.Basis.{Basis, Held};
 ghost use Rattle.spread_words.specs.Spread.{Spread, OwnBits, SpreadFrom, FirstTaken};
 ghost use Rattle.spread_words.specs.declared.Begun.{Begun};
 
-// Puts each word into the slot of its highest bit. Answers with the bits that are dead then; all of them where the highest bits don't
+// Puts each word into the slot of its highest bit. Answers with the bits that are dead then; with `None` where the highest bits don't
 // ascend or a word is 0.
-fn spread(words: &[u64], slots: &mut [u64]) -> u64
+fn spread(words: &[u64], slots: &mut [u64]) -> Option<u64>
     requires { slots.old ≡ zeros 64 }
-    ensures { (result ≡ 18446744073709551615 → ⊥) → SpreadFrom words.now slots.new result }
+    ensures { IfSome result (λ dead. SpreadFrom words.now slots.new dead) }
 {
     let mut dead = column_basis::ALL_DEAD;
     let mut next: u64 = 0;
     for &w in words {
         let top = word::highest_bit(w);
         if top < next {
-            return column_basis::ALL_DEAD;
+            return None;
         }
         if w >> top != 1 {
-            return column_basis::ALL_DEAD;
+            return None;
         }
         slots[top as usize] = w;
-        dead = dead ^ (1u64 << top);
+        dead ^= 1u64 << top;
         next = top + 1;
     }
-    dead
+    Some(dead)
 }
 
 // Whether, of the bits that aren't dead, the word of each slot has its own alone, and that of a dead slot none.
@@ -70,7 +70,7 @@ fn keep_alive(slots: &[u64], dead: u64, words: &mut [u64]) -> usize
         }
         words[at] = *w;
         at += 1 - (rest % 2) as usize;
-        rest = rest / 2;
+        rest /= 2;
     }
     at
 }
@@ -137,13 +137,12 @@ pub fn begin(words: &mut [u64], columns: &[u64]) -> Begun
         };
     }
     let mut slots = [0; 64];
-    let dead = spread(words, &mut slots);
-    if dead == column_basis::ALL_DEAD {
+    let Some(dead) = spread(words, &mut slots) else {
         return Begun {
             count: 0,
             left: words.len(),
         };
-    }
+    };
     if !has_own_bits(&slots, dead) {
         return Begun {
             count: 0,

@@ -25,4 +25,4 @@ pub loop-w-preserved : goal.loop-w-preserved
 loop-w-preserved c = spreading_turn _ _ _ _ _ _ c.loop-w.invariant (search rules) c.if-top-next.false (highest_below _ _ c.highest_bit-top.ensures) c.if-w-top-ne1.false
 
 pub returns : goal.returns
-returns c = λ n. spreading_end _ _ _ _ _ c.loop-w.invariant (search rules)
+returns c = spreading_end _ _ _ _ _ c.loop-w.invariant (search rules)
