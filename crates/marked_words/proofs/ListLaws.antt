@@ -17,6 +17,7 @@ use Rattle.word.specs.Word.{digit, low_mask, highest_bit}
 use Rattle.numbers.specs.Bytes.{word_at}
 use Rattle.numbers.specs.Joined.{joined}
 use Rattle.word.proofs.Laws.{mod2_lt}
+use Rattle.numbers.proofs.ByteLaws.{number_at_lt}
 use Rattle.numbers.proofs.JoinLaws.{joined_ext}
 use Rattle.rows.specs.Row.{cell}
 use Rattle.rows.specs.Marks.{listed, total, marked_words, bits}
@@ -264,14 +265,22 @@ whole_mask w n h l =
 
 -- marks within the words that are lent for them: masked ones, and those of 64 chains
 module _ (ws : List ℕ) (n : ℕ) where
-  lent_long : length (take (length ws - n) (drop n ws)) ≡ length ws - n
+  pub lent_long : length (take (length ws - n) (drop n ws)) ≡ length ws - n
   lent_long = length-take-le (length ws - n) (drop n ws) (omega (arith, length-drop n ws))
 
   pub marks_inside : (w mask : ℕ) → mask ≡ low_mask (length ws - n) → bit_and w mask < 2 ^ length (take (length ws - n) (drop n ws))
   marks_inside w mask e = (masked_below (take (length ws - n) (drop n ws)) w mask (e ∙ ap low_mask (sym lent_long))).1
 
-  pub word_inside : (w : ℕ) → w < 2 ^ 64 → n + 64 ≤ length ws → w < 2 ^ length (take (length ws - n) (drop n ws))
-  word_inside w h l = let some : 64 ≤ length (take (length ws - n) (drop n ws)) = omega (arith, lent_long) in lt_of_lt_of_le h (pow_mono some)
+  pub masked_inside : (w : ℕ) → bit_and w (low_mask (length ws - n)) < 2 ^ (length ws - n)
+  masked_inside w = subst (λ (k : ℕ). bit_and w (low_mask (length ws - n)) < 2 ^ k) lent_long (marks_inside w (low_mask (length ws - n)) refl)
+
+-- a word whose 64 chains are all there
+module _ (row : List ℕ) (bytes : (j : ℕ) → get_or row j 0 < 256) (n i : ℕ) (whole : 64 * i + 64 ≤ n) where
+  pub word_inside : word_at row (8 * i) < 2 ^ (n - 64 * i)
+  word_inside = let some : 64 ≤ n - 64 * i = omega arith in lt_of_lt_of_le (number_at_lt 8 row (8 * i) bytes) (pow_mono some)
+
+  pub word_unmasked : word_at row (8 * i) ≡ bit_and (word_at row (8 * i)) (low_mask (n - 64 * i))
+  word_unmasked = whole_mask (word_at row (8 * i)) (n - 64 * i) (omega arith) (number_at_lt 8 row (8 * i) bytes)
 
 module _ (ws row : List ℕ) where
   abbrev word : ℕ → List ℕ
@@ -393,17 +402,6 @@ module _ (ws row : List ℕ) where
     where
       mine : List ℕ
       mine = marked_words vs (bits marks) 64
-
-  -- the same where the row has all of the word's chains: no mask is needed
-  pub listing_turns_whole : ((i : ℕ) → get_or row i 0 < 256) → (l₀ l l' vs : List ℕ) (place place' i marks : ℕ) → Listing l₀ l place (64 * i) → 0 < i
-      → 64 * i ≤ length ws → marks < 2 ^ 64 → marks ≡ word_at row (8 * (i - 1)) → vs ≡ take (length ws - 64 * (i - 1)) (drop (64 * (i - 1)) ws)
-      → place' ≡ length (take place l) - length (marked_words vs (bits marks) 64)
-      → l' ≡ back (marked_words vs (bits marks) 64) (take place l) ++ drop place l
-      → Listing l₀ l' place' (64 * (i - 1))
-  listing_turns_whole bytes l₀ l l' vs place place' i marks k h m f ek ev ep el =
-      let mask : ℕ = low_mask (length ws - 64 * (i - 1)) in
-      listing_turns bytes l₀ l l' vs place place' i mask marks k h (omega arith) refl
-      (whole_mask marks (length ws - 64 * (i - 1)) (omega arith) f ∙ ap (λ (x : ℕ). bit_and x mask) ek) ev ep el
 
   pub listing_ends : (l₀ l : List ℕ) (place c : ℕ) → Listing l₀ l place c → c ≡ 0
       → (place ≡ length l₀ - length (marked_words ws (cell row) (length ws))) × (l ≡ back (marked_words ws (cell row) (length ws)) l₀)

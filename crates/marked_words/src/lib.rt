@@ -2,7 +2,7 @@
 // register and no file. The public functions are total; the private ones that ask for something are those without a test in their loops.
 #![tactic(auto)]
 
-ghost use Rattle.std.specs.Prelude.{◌≡◌, [], ◌∷◌, ◌-◌, ◌*◌, ◌^◌, ◌≤◌, ◌<◌, ltb, length, take};
+ghost use Rattle.std.specs.Prelude.{◌≡◌, List, [], ◌∷◌, ℕ, ◌-◌, ◌*◌, ◌^◌, ◌≤◌, ◌<◌, ltb, length, get_or, take};
 ghost use Rattle.std.specs.Int.Count.{ones};
 ghost use Rattle.std.specs.Int.Bits.{bit_and};
 ghost use Rattle.word.specs.Word.{low_mask};
@@ -98,22 +98,6 @@ fn list_word(columns: &mut [u64], words: &[u64], marks: u64) -> usize
     list_from_first(columns, words, marks)
 }
 
-// The words of the chains whose cell in the row is 1 over the list's end, as `list_row` writes them, for 256 chains and a row with all their
-// cells: no word of the row is short, and none needs a mask.
-fn list_256(columns: &mut [u64], words: &[u64], row: &[u8]) -> usize
-    requires words_len { length words.now ≡ 256 }
-    requires row_len { length row.now ≡ 32 }
-    ensures value { result ≡ length columns.old - length (marked_words words.now (cell row.now) (length words.now)) }
-    ensures columns_after { columns.new ≡ back (marked_words words.now (cell row.now) (length words.now)) columns.old }
-{
-    let mut place = columns.len();
-    for i in (0..4).rev() {
-        let marks = numbers::eight_bytes(row, 8 * i);
-        place = list_word(&mut columns[..place], &words[64 * i..], marks);
-    }
-    place
-}
-
 // The marks of the 64 chains from 64 times i on, as far as there are chains. The row may be short.
 fn marks_at(row: &[u8], chains: usize, i: usize) -> u64
     requires { 64 * i ≤ chains }
@@ -122,22 +106,32 @@ fn marks_at(row: &[u8], chains: usize, i: usize) -> u64
     numbers::read_word(row, 8 * i) & word::low_mask((chains - 64 * i) as u64)
 }
 
+// Writes the words of the marked chains over the list's end, by words of 64 cells from the last one on, and answers with how many places
+// stand before them. The closure gives the marks of a word's chains.
+fn list_by<F: Fn(usize) -> u64>(columns: &mut [u64], words: &[u64], marks_of: F) -> usize
+    requires callable { (i : ℕ) → 64 * i < length words.now → F.pre marks_of i }
+    requires inside { (i marks : ℕ) → 64 * i < length words.now → F.post marks_of i marks → marks < 2 ^ (length words.now - 64 * i) }
+    ensures { (row : List ℕ) → ((j : ℕ) → get_or row j 0 < 256) → ((i marks : ℕ) → 64 * i < length words.now → F.post marks_of i marks → marks ≡ bit_and (word_at row (8 * i)) (low_mask (length words.now - 64 * i))) → (result ≡ length columns.old - length (marked_words words.now (cell row) (length words.now))) × (columns.new ≡ back (marked_words words.now (cell row) (length words.now)) columns.old) }
+{
+    let mut place = columns.len();
+    for i in (0..words.len().div_ceil(64)).rev() {
+        place = list_word(&mut columns[..place], &words[64 * i..], marks_of(i));
+    }
+    place
+}
+
 // Writes the words of the chains whose cell in the row is 1 over the list's end, and answers with how many places stand before
-// them. It goes by words of 64 cells; a row may have bits past the last chain.
+// them. It goes by words of 64 cells; a row may have bits past the last chain. For 256 chains and a row with all their cells no word of
+// the row is short, and none needs a mask.
 pub fn list_row(columns: &mut [u64], words: &[u64], row: &[u8]) -> usize
     ensures value { result ≡ length columns.old - length (marked_words words.now (cell row.now) (length words.now)) }
     ensures columns_after { columns.new ≡ back (marked_words words.now (cell row.now) (length words.now)) columns.old }
 {
     let chains = words.len();
     if (chains == 256) & (row.len() == 32) {
-        return list_256(columns, words, row);
+        return list_by(columns, words, |i| numbers::eight_bytes(row, 8 * i));
     }
-    let mut place = columns.len();
-    for i in (0..chains.div_ceil(64)).rev() {
-        let marks = marks_at(row, chains, i);
-        place = list_word(&mut columns[..place], &words[64 * i..], marks);
-    }
-    place
+    list_by(columns, words, |i| marks_at(row, chains, i))
 }
 
 // Whether more than `room` bits are 1.

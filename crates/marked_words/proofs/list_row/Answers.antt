@@ -1,36 +1,43 @@
-use mathlib.Core.Path.{refl, ap}
-use mathlib.Core.List.{List, ◌++◌}
+-- `list_row` meets its contract: the closure gives the marks of the row's words, masked where it has fewer chains.
+use mathlib.Core.Path.{◌≡◌, ◌∙◌}
 use Prim.Native.Nat.{ℕ, ◌-◌, ◌*◌}
 use native.Mathlib.Omega.{arith}
-use lib.Dec.{eqb}
-use lib.ListN.{length, drop}
-use borrow.Author.Tests.{eqb-true}
-use Rattle.word.proofs.BoolLaws.{and_left, and_right}
-use Rattle.marked_words.proofs.ListLaws.{marks_inside, listing_room, listing_starts, listing_turns, listing_ends}
+use lib.Bits.{bit_and}
+use lib.ListN.{length}
 use borrow.Author.Rules.{rules}
+use borrow.Author.Tests.{eqb-true}
+use Rattle.word.specs.Word.{low_mask}
+use Rattle.word.proofs.BoolLaws.{and_left}
+use Rattle.numbers.specs.Bytes.{word_at}
+use Rattle.marked_words.proofs.ListLaws.{masked_inside, word_inside, word_unmasked}
 use Rattle.marked_words.proofs.list_row.Goals as goal
+use Rattle.marked_words.proofs.list_row.Goals.{Then-chains-row}
 
-pub list_256-requires : goal.list_256-requires
-list_256-requires c =
-    let both = c.if-chains-row.true in
+chains : (c : Then-chains-row) → length c.args.words.now ≡ 256
+chains c = eqb-true _ _ (and_left _ _ c.if-chains-row.true)
+
+pub list_by-requires-clause-inside : goal.list_by-requires-clause-inside
+list_by-requires-clause-inside c = λ i marks h p.
+    let long = chains (goal.at.list_by-requires-clause-inside c).Then-chains-row in
+    let e : marks ≡ word_at c.args.row.now (8 * i) = search rules in
+    rw e (word_inside c.args.row.now (λ j. (c.type_inv.row j).fits) (length c.args.words.now) i (omega arith))
+
+pub list_by-requires-2-clause-inside : goal.list_by-requires-2-clause-inside
+list_by-requires-2-clause-inside c = λ i marks h p.
     let words = c.args.words.now in
-    record { words_len = eqb-true _ _ (and_left _ _ both); row_len = eqb-true _ _ (and_right (eqb (length words) 256) _ both) }
+    let e : marks ≡ bit_and (word_at c.args.row.now (8 * i)) (low_mask (length words - 64 * i)) = search rules in
+    rw e (masked_inside words (64 * i) (word_at c.args.row.now (8 * i)))
 
-pub loop-i-init : goal.loop-i-init
-loop-i-init c = (search rules, listing_starts _ _ _ _ (omega arith))
-
-pub list_word-place-requires : goal.list_word-place-requires
-list_word-place-requires c =
-    rw c.marks_at-marks.ensures (marks_inside c.args.words.now (64 * (c.loop-i.i - 1)) _ _ refl)
-
-pub loop-i-preserved : goal.loop-i-preserved
-loop-i-preserved c =
-    let at = c.loop-i in
-    let args = c.args in
-    let k =
-    listing_turns args.words.now args.row.now (λ i. (c.type_inv.row i).fits) _ _ _ _ _ _ _ _ _ at.invariant.1 (omega arith) (omega arith) refl c.marks_at-marks.ensures refl c.list_word-place.ensures.value
-    (ap (λ (x : List ℕ). x ++ drop at.place at.columns) c.list_word-place.ensures.columns_after) in
-    ((listing_room _ _ _ _ _ _ k).1, k)
+pub returns-then-chains-row : goal.returns-then-chains-row
+returns-then-chains-row c =
+    let words = c.args.words.now in
+    let long = chains (goal.at.returns-then-chains-row c).Then-chains-row in
+    let bytes = λ (j : ℕ). (c.type_inv.row j).fits in
+    let listed = c.list_by.ensures c.args.row.now bytes
+    (λ i marks h p. let e : marks ≡ word_at c.args.row.now (8 * i) = search rules in e ∙ word_unmasked c.args.row.now bytes (length words) i (omega arith)) in
+    record { value = listed.0; columns_after = listed.1 }
 
 pub returns : goal.returns
-returns c = let ends = listing_ends _ _ _ _ _ _ c.loop-i.invariant.1 (omega arith) in record { value = ends.0; columns_after = ends.1 }
+returns c =
+    let listed = c.list_by-2.ensures c.args.row.now (λ j. (c.type_inv.row j).fits) (λ i marks h p. search rules) in
+    record { value = listed.0; columns_after = listed.1 }
