@@ -81,13 +81,11 @@ fn has_bad_spread(set: &[u8]) -> bool
     let n = set_layout::chain_count(set);
     let mut seen = 0u64;
     let mut none = false;
-    let mut c: u16 = 0;
-    while c < n {
+    for c in 0..n {
         let chain = c as usize;
         let w = numbers::eight_bytes(set, set_layout::SPREAD_AT + 8 * chain);
-        seen = seen | w;
-        none = none | (w == 0);
-        c += 1;
+        seen |= w;
+        none |= w == 0;
     }
     none | word::is_beyond(m, seen)
 }
@@ -126,22 +124,9 @@ fn finds_valued_unknown(set: &[u8]) -> bool
 {
     let n = set_layout::chain_count(set);
     let s = set_layout::slice_count(set);
-    let bytes = rows::row_bytes(n as usize);
-    let mut at = set_layout::rows_at(n);
-    let mut t: u16 = 0;
-    while t < s {
-        let mark = at + bytes;
-        let end = mark + bytes;
-        if set.len() < end {
-            return false;
-        }
-        if rows::share_a_bit(&set[at..mark], &set[mark..end]) {
-            return true;
-        }
-        at = end;
-        t += 1;
-    }
-    false
+    let values = set_layout::value_rows(n);
+    let marks = set_layout::mark_rows(n);
+    (0..s).any(|t| rows::share_a_bit(rows::row_of(set, values, t), rows::row_of(set, marks, t)))
 }
 
 // Number 10, for a set of the right length in which no spare bit is set: whether an unknown cell has its value bit set. Rows of 32
