@@ -19,8 +19,10 @@ use Rattle.combinations.specs.Reduced.{is_reduced}
 use Rattle.reduced_list.specs.WordCount.{bad_word_count}
 use Rattle.plan_file.specs.Layout.{plan_length}
 use Rattle.plan_writer.specs.Writing.{PlanContent, plan_content, word_count, plan_bytes, plan_write_tests, plan_write_reply, said}
-use Rattle.plan_writer.specs.declared.Written.{Written}
-use Rattle.plan_writer.specs.declared.Written.TheVariants.{Done, Refused}
+use Rattle.std.specs.Prelude.{Result, Ok, Err}
+use Rattle.refusals.specs.declared.Refusal.{Refusal}
+use Rattle.refusals.specs.Refusals.{number, refused}
+use Rattle.refusals.proofs.RefusalLaws.{refused_call_leaves}
 
 -- ---- the low bytes of a word: those still to be written stand in `rest`
 
@@ -115,19 +117,19 @@ write_room k room h = ltb-false room (plan_length (word_count k)) (none_of_write
 -- ---- the writer's ways out
 
 -- what the writer answers, a, and leaves in the output l, l'
-abbrev pub Ends : PlanContent → List ℕ → Written → List ℕ → Type 0
+abbrev pub Ends : PlanContent → List ℕ → Result ℕ Refusal → List ℕ → Type 0
 Ends k l a l' = Leaves (plan_write_reply k (length l)) (plan_bytes k) (said a) l l'
 
 done_reply : (k : PlanContent) (room : ℕ) → first_of (plan_write_tests k room) ≡ 0 → plan_write_reply k room ≡ answer (plan_length (word_count k))
 unfolding plan_write_reply
 done_reply k room h = ap (λ (x : ℕ). replied x (plan_length (word_count k))) h
 
-pub ends_refused : (k : PlanContent) (l : List ℕ) (n : ℕ) → n ≡ first_of (plan_write_tests k (length l)) → (n ≡ 0 → ⊥) → Ends k l (Refused n) l
+pub ends_refused : (k : PlanContent) (l : List ℕ) (r : Result ℕ Refusal) (e : Refusal) → r ≡ Err e → number e ≡ first_of (plan_write_tests k (length l)) → Ends k l r l
 unfolding plan_write_reply
-ends_refused k l n e h = refused_leaves _ n (plan_length (word_count k)) (plan_bytes k) l e h
+ends_refused k l r e is h =
+    refused_call_leaves (λ n. n) r e (first_of (plan_write_tests k (length l))) (plan_length (word_count k)) (plan_bytes k) l is h
 
-pub ends_written : (k : PlanContent) (l l' : List ℕ) (n long : ℕ) → n ≡ first_of (plan_write_tests k (length l)) → n ≡ 0
-    → (plan_length (word_count k) ≤ length l → l' ≡ front (plan_bytes k) l) → long ≡ plan_length (word_count k) → Ends k l (Done long) l'
-ends_written k l l' n long e z w f =
-    let none : first_of (plan_write_tests k (length l)) ≡ 0 = sym e ∙ z in
-    answer_leaves _ _ _ (plan_bytes k) l l' (done_reply k (length l) none) (ap answer f) (w (write_room k (length l) none))
+pub ends_written : (k : PlanContent) (l l' : List ℕ) (long : ℕ) → 0 ≡ first_of (plan_write_tests k (length l))
+    → (plan_length (word_count k) ≤ length l → l' ≡ front (plan_bytes k) l) → long ≡ plan_length (word_count k) → Ends k l (Ok long) l'
+ends_written k l l' long none w f =
+    answer_leaves _ _ _ (plan_bytes k) l l' (done_reply k (length l) (sym none)) (ap answer f) (w (write_room k (length l) (sym none)))

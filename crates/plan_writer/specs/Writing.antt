@@ -8,15 +8,15 @@
 --   plan_write_tests k room   the numbers that the writer meets, in order, for an output of `room` bytes
 --   plan_write_reply k room   its reply: the length of the file
 --   said w                  the paper's reading of what the writer hands back
-use Rattle.std.specs.Prelude.{not, List, [], ◌∷◌, ◌++◌, ℕ, ltb, length}
+use Rattle.std.specs.Prelude.{not, List, [], ◌∷◌, ◌++◌, ℕ, ltb, length, Result}
 use Rattle.word.specs.Word.{bad_width, beyond}
 use Rattle.numbers.specs.Bytes.{bytes_of, word_bytes}
-use Rattle.word.specs.Reply.{Test, ◌when◌, Reply, answer, refusal, reply}
+use Rattle.word.specs.Reply.{Test, ◌when◌, Reply, reply}
 use Rattle.combinations.specs.Reduced.{is_reduced}
 use Rattle.reduced_list.specs.WordCount.{bad_word_count}
 use Rattle.plan_file.specs.Layout.{bit_bytes, plan_length}
-use Rattle.plan_writer.specs.declared.Written.{Written}
-use Rattle.plan_writer.specs.declared.Written.TheVariants.{Done, Refused}
+use Rattle.refusals.specs.declared.Refusal.{Refusal}
+use Rattle.refusals.specs.Refusals.{replied_by}
 
 pub record PlanContent : Type 0 where
   pub m : ℕ
@@ -47,6 +47,5 @@ plan_write_tests k room =
 unfoldable pub plan_write_reply : PlanContent → ℕ → Reply ℕ
 plan_write_reply k room = reply (plan_write_tests k room) (plan_length (word_count k))
 
-abbrev pub said : Written → Reply ℕ
-said (Done n) = answer n
-said (Refused n) = refusal n
+abbrev pub said : Result ℕ Refusal → Reply ℕ
+said = replied_by (λ n. n)

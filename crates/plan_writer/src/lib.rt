@@ -5,15 +5,11 @@ ghost use Rattle.std.specs.Prelude.{◌≡◌, ◌+◌, ◌≤◌, length};
 ghost use Rattle.std.proofs.lemmas.List.Edits.{sets};
 ghost use Rattle.numbers.specs.Bytes.{bytes_of};
 ghost use Rattle.word.specs.Reply.{first_of, front, lent};
+ghost use Rattle.refusals.specs.Refusals.{refused};
 ghost use Rattle.plan_file.specs.Layout.{plan_length};
 ghost use Rattle.plan_writer.specs.Writing.{plan_content, plan_bytes, plan_write_tests, plan_write_reply, said};
 
-// What the plan writer answers: the length of the file, or the first number that applies.
-#[derive(Drop)]
-pub enum Written {
-    Done { length: usize },
-    Refused { number: u64 },
-}
+use refusals::Refusal;
 
 // The bytes of a plan file of these words.
 pub fn plan_length(words: &[u64]) -> usize
@@ -23,27 +19,27 @@ pub fn plan_length(words: &[u64]) -> usize
     6 + 8 * q + (q + 7) / 8
 }
 
-// The first number that the plan writer meets, with an output of `room` bytes; 0 where none applies.
-fn write_refusal(m: u64, words: &[u64], expected: u64, room: usize) -> u64
-    ensures { result ≡ first_of (plan_write_tests (plan_content m words.now expected) room) }
+// Refuses what the plan writer doesn't take, with an output of `room` bytes, by the first number that applies.
+fn check_content(m: u64, words: &[u64], expected: u64, room: usize) -> Result<(), Refusal>
+    ensures { refused result ≡ first_of (plan_write_tests (plan_content m words.now expected) room) }
 {
     if word::is_bad_width(m) {
-        return 19;
+        return Err(Refusal::PlanWidth);
     }
     if reduced_list::is_bad_word_count(m, words.len() as u64) {
-        return 20;
+        return Err(Refusal::WordCount);
     }
     if !reduced_list::is_reduced(m, words) {
-        return 21;
+        return Err(Refusal::WordList);
     }
     if word::is_beyond(words.len() as u64, expected) {
-        return 22;
+        return Err(Refusal::PlanEnd);
     }
     let is_short = room < plan_length(words);
     if is_short {
-        return 24;
+        return Err(Refusal::ShortOutput);
     }
-    0
+    Ok(())
 }
 
 // The n low bytes of x at place `at` of out, where they fit.
@@ -80,16 +76,11 @@ fn write_file(m: u64, words: &[u64], expected: u64, out: &mut [u8])
 // The plan writer of document 01. Answers with the length of the file and writes it over the front of `out`; the rest of it
 // stays. Meets 19 (m), 20 (how many words there are), 21, 22 (an expected bit at or above q) and 24, in that order; a refusal
 // writes nothing.
-pub fn write_plan(m: u64, words: &[u64], expected: u64, out: &mut [u8]) -> Written
+pub fn write_plan(m: u64, words: &[u64], expected: u64, out: &mut [u8]) -> Result<usize, Refusal>
     ensures answer { said result ≡ plan_write_reply (plan_content m words.now expected) (length out.old) }
     ensures output { out.new ≡ lent (plan_write_reply (plan_content m words.now expected) (length out.old)) (plan_bytes (plan_content m words.now expected)) out.old }
 {
-    let number = write_refusal(m, words, expected, out.len());
-    if number != 0 {
-        return Written::Refused { number };
-    }
+    check_content(m, words, expected, out.len())?;
     write_file(m, words, expected, out);
-    Written::Done {
-        length: plan_length(words),
-    }
+    Ok(plan_length(words))
 }

@@ -2,19 +2,23 @@
 --
 --   wrong_cell_of      the cell's mark as it is read
 --   precedes_of        the next entry's slice and chain as they are read
---   side_above         a last byte above 1, as it is read
---   side_within        .. and one that isn't
+--   any_entry          a test of the entries below n, one after the other
 --   tie_tests_none     no number applies where there is no entry
 --   wrong_cells_marks  29 asks only for the marks of slices that there are
 --   tie_tests_marks    .. and so do the three
 -- Assumes nothing.
-use mathlib.Core.Path.{◌≡◌, refl, ap, ap₂, ◌∙◌}
+use mathlib.Core.Path.{◌≡◌, refl, sym, ap, ap₂, ◌∙◌}
 use mathlib.Core.Bool.{Bool, true, false, cond, not, ◌&&◌, ◌||◌}
-use mathlib.Core.List.{List}
-use Prim.Native.Nat.{ℕ, suc, ◌+◌, ◌*◌, ◌≤◌, ◌<◌}
+use mathlib.Core.List.{List, [], ◌∷◌, ◌++◌}
+use Prim.Native.Nat.{ℕ, zero, suc, ◌+◌, ◌*◌, ◌<◌}
 use native.Mathlib.Numerals.{add-one}
-use borrow.Author.Tests.{lt-ltb, le-ltb, ltb-true}
+use native.Mathlib.Omega.{arith}
+use borrow.Author.Tests.{ltb-true}
 use lib.Dec.{eqb, ltb}
+use Rattle.std.specs.List.{list_any, range_with_len}
+use Rattle.std.proofs.lemmas.List.{map-id}
+use Rattle.std.proofs.lemmas.List.Folds.{list_any-append}
+use Rattle.std.proofs.lemmas.List.FromFn.{map-range_with_len_more}
 use Rattle.word.specs.Reply.{first_of}
 use Rattle.word.specs.Some.{any_below}
 use Rattle.word.proofs.SomeLaws.{any_below_ext}
@@ -42,12 +46,22 @@ precedes_of ties i j t u c d et eu ec ed k ej =
     ∙ ap₂ (λ (x y : ℕ). ltb (count_at ties (entry_bytes * i)) (count_at ties (entry_bytes * suc i)) || (eqb (count_at ties (entry_bytes * i)) (count_at ties (entry_bytes * suc i)) && ltb x y))
     ec (ed ∙ ap (λ (x : ℕ). count_at ties (entry_bytes * x + 2)) next)
 
-module _ (b x : ℕ) (e : b ≡ x) where
-  pub side_above : 1 < b → ltb 1 x ≡ true
-  side_above h = lt-ltb 1 x (rw e at h)
+-- ---- a test of the entries below n, one after the other
 
-  pub side_within : b ≤ 1 → ltb 1 x ≡ false
-  side_within h = le-ltb 1 x (rw e at h)
+or_false : (b : Bool) → (b || false) ≡ b
+or_false true = refl
+or_false false = refl
+
+pub any_entry : (f : ℕ → Bool) (n : ℕ) → list_any f (range_with_len 0 n) ≡ any_below n f
+unfolding any_below
+any_entry f zero = refl
+any_entry f (suc n) =
+    ap (list_any f) one_more ∙ list_any-append f (range_with_len 0 n) (n ∷ []) ∙ ap₂ ◌||◌ (any_entry f n) (or_false (f n))
+  where
+    one_more : range_with_len 0 (suc n) ≡ range_with_len 0 n ++ n ∷ []
+    one_more =
+        ap (range_with_len 0) (sym (add-one n)) ∙ sym (map-id (range_with_len 0 (n + 1))) ∙ map-range_with_len_more (λ (x : ℕ). x) 0 n n (omega arith)
+        ∙ ap (λ (l : List ℕ). l ++ n ∷ []) (map-id (range_with_len 0 n))
 
 -- ---- all entries
 

@@ -4,10 +4,12 @@
 
 ghost use Rattle.std.specs.Prelude.{◌≡◌, ℕ, ◌+◌, ◌*◌, get_or};
 ghost use Rattle.word.specs.Reply.{first_of};
+ghost use Rattle.refusals.specs.Refusals.{refused};
 ghost use Rattle.numbers.specs.Bytes.{count_at};
 ghost use Rattle.rows.specs.Lists.{cells_of};
 ghost use Rattle.ties.specs.Ties.{entry_bytes, ties_in, wrong_cell, wrong_cells, precedes, wrong_order, wrong_sides, tie_tests};
 
+use refusals::Refusal;
 use rows::Rows;
 
 // The bytes of an entry, and the most entries that a set has.
@@ -66,14 +68,7 @@ fn is_wrong_cell(ties: &[u8], i: u16, list: &[u8], marks: Rows, n: u16, s: u16) 
 pub fn has_wrong_cells(ties: &[u8], count: u16, list: &[u8], marks: Rows, n: u16, s: u16) -> bool
     ensures { result ≡ wrong_cells s n (cells_of list.now marks) (ties_in ties.now count) }
 {
-    let mut i: u16 = 0;
-    while i < count {
-        if is_wrong_cell(ties, i, list, marks, n, s) {
-            return true;
-        }
-        i += 1;
-    }
-    false
+    (0..count).any(|i| is_wrong_cell(ties, i, list, marks, n, s))
 }
 
 // Whether entry i comes before the next one, entry j, by slice and then by chain.
@@ -90,52 +85,39 @@ fn precedes_next(ties: &[u8], i: u16, j: u16) -> bool
 pub fn has_wrong_order(ties: &[u8], count: u16) -> bool
     ensures { result ≡ wrong_order (ties_in ties.now count) }
 {
-    if count == 0 {
-        return false;
-    }
-    let last = count - 1;
-    let mut i: u16 = 0;
-    while i < last {
-        let next = i + 1;
-        if !precedes_next(ties, i, next) {
-            return true;
-        }
-        i = next;
-    }
-    false
+    (0..count.saturating_sub(1)).any(|i| !precedes_next(ties, i, i + 1))
 }
 
 // Number 31: whether one of the first `count` entries has a last byte above 1.
 pub fn has_wrong_sides(ties: &[u8], count: u16) -> bool
     ensures { result ≡ wrong_sides (ties_in ties.now count) }
 {
-    let mut i: u16 = 0;
-    while i < count {
-        let is_wrong = 1 < tie_side(ties, i);
-        if is_wrong {
-            return true;
-        }
-        i += 1;
-    }
-    false
+    (0..count).any(|i| 1 < tie_side(ties, i))
 }
 
-// The first of 29, 30 and 31 that applies to the first `count` entries, with s slices and n chains; 0 where none does. The rows `marks` of
-// the list mark the unknown cells.
-pub fn ties_refusal(ties: &[u8], count: u16, list: &[u8], marks: Rows, n: u16, s: u16) -> u64
-    ensures { result ≡ first_of (tie_tests s n (cells_of list.now marks) (ties_in ties.now count)) }
+// Refuses the first `count` entries, with s slices and n chains, by the first of 29, 30 and 31 that applies. The rows `marks` of the list mark
+// the unknown cells.
+pub fn check_ties(
+    ties: &[u8],
+    count: u16,
+    list: &[u8],
+    marks: Rows,
+    n: u16,
+    s: u16,
+) -> Result<(), Refusal>
+    ensures { refused result ≡ first_of (tie_tests s n (cells_of list.now marks) (ties_in ties.now count)) }
 {
     if count == 0 {
-        return 0;
+        return Ok(());
     }
     if has_wrong_cells(ties, count, list, marks, n, s) {
-        return 29;
+        return Err(Refusal::TieCell);
     }
     if has_wrong_order(ties, count) {
-        return 30;
+        return Err(Refusal::TieOrder);
     }
     if has_wrong_sides(ties, count) {
-        return 31;
+        return Err(Refusal::TieSide);
     }
-    0
+    Ok(())
 }

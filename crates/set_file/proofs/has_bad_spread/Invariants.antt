@@ -1,12 +1,6 @@
 -- `has_bad_spread` meets its contract: what `none` and `seen` say of the words before `c`, and the words from `c` on decide it.
-use Prim.Native.Nat.{◌-◌, ◌≤◌}
-use lib.ListN.{length}
-use Rattle.set_layout.specs.Layout.{slices_at}
 use Rattle.set_file.proofs.CodeLaws.{Folded}
 use Rattle.set_file.proofs.has_bad_spread.Given as goal
 
 abbrev pub invariant-loop-c : goal.invariant-loop-c
-invariant-loop-c l = (slices_at l.n ≤ length l.set) × Folded l.set l.m l.n l.seen l.none l.c
-
-abbrev pub decreases-loop-c : goal.decreases-loop-c
-decreases-loop-c l = l.n - l.c
+invariant-loop-c l = Folded l.set l.m l.n l.seen l.none l.c

@@ -5,5 +5,5 @@ use Rattle.set_file.proofs.has_valued_unknown.Goals as goal
 
 pub returns : goal.returns
 returns c =
-    valued_pairs _ (λ i. (c.shared_slice_known-1.given i).fits) _ _ _ _ _ c.chain_count-n.ensures
+    valued_pairs _ (λ i. (c.type_inv.set i).fits) _ _ _ _ _ c.chain_count-n.ensures
     c.slice_count-s.ensures c.rows_at-at.ensures c.row_bytes.ensures (search rules) c.pairs_share_a_bit.ensures

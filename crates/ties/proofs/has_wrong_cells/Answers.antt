@@ -1,19 +1,19 @@
+-- `has_wrong_cells` meets its contract: every entry is asked.
+use mathlib.Core.Path.{◌∙◌}
+use native.Mathlib.Omega.{arith}
 use borrow.Author.Rules.{rules}
-use Rattle.word.proofs.RangeLaws.{none_passed, one_passed, one_found, all_passed}
-use Rattle.ties.specs.Ties.{wrong_cells}
-use mathlib.Core.Path.{sym, ◌∙◌}
+use borrow.Author.Tests.{tests}
+use Rattle.std.proofs.lemmas.Iterator.{YieldsList-from_range}
+use Rattle.std.proofs.lemmas.Iterator.Search.{any_from_yields_List}
+use Rattle.rows.specs.Lists.{cells_of}
+use Rattle.ties.specs.Ties.{ties_in, wrong_cell, wrong_cells}
+use Rattle.ties.proofs.EntryLaws.{any_entry}
 use Rattle.ties.proofs.has_wrong_cells.Goals as goal
-
-pub returns-then-is_wrong_cell : goal.returns-then-is_wrong_cell
-unfolding wrong_cells
-returns-then-is_wrong_cell c = one_found _ _ _ c.loop-i-test.true (sym (c.is_wrong_cell.ensures _) ∙ c.if-is_wrong_cell.true)
-
-pub loop-i-preserved : goal.loop-i-preserved
-loop-i-preserved c = (search rules, one_passed _ _ c.loop-i.invariant.1 (sym (c.is_wrong_cell.ensures _) ∙ c.if-is_wrong_cell.false))
 
 pub returns : goal.returns
 unfolding wrong_cells
-returns c = all_passed _ _ _ c.loop-i.invariant.1 (search rules)
-
-pub loop-i-init : goal.loop-i-init
-loop-i-init c = (search rules, none_passed _)
+returns c =
+    let given = c.args in
+    let wrong = wrong_cell given.s given.n (cells_of given.list.now given.marks) (ties_in given.ties.now given.count) in
+    any_from_yields_List wrong _ _ c.any.result c.any.ensures.ran (YieldsList-from_range 0 given.count given.count (cc) (omega arith)) (λ x b q k. search (rules, tests))
+    ∙ any_entry wrong given.count

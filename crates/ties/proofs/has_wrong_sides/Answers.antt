@@ -1,19 +1,20 @@
+-- `has_wrong_sides` meets its contract: every entry is asked.
+use mathlib.Core.Path.{◌∙◌}
+use native.Mathlib.Omega.{arith}
 use borrow.Author.Rules.{rules}
-use Rattle.word.proofs.RangeLaws.{none_passed, one_passed, one_found, all_passed}
-use Rattle.ties.specs.Ties.{wrong_sides}
-use Rattle.ties.proofs.EntryLaws.{side_above, side_within}
+use borrow.Author.Tests.{tests}
+use Rattle.std.proofs.lemmas.Iterator.{YieldsList-from_range}
+use Rattle.std.proofs.lemmas.Iterator.Search.{any_from_yields_List}
+use Prim.Native.Nat.{ℕ}
+use lib.Dec.{ltb}
+use Rattle.ties.specs.Ties.{ties_in, wrong_sides}
+use Rattle.ties.proofs.EntryLaws.{any_entry}
 use Rattle.ties.proofs.has_wrong_sides.Goals as goal
-
-pub returns-then-is_wrong : goal.returns-then-is_wrong
-unfolding wrong_sides
-returns-then-is_wrong c = one_found _ _ _ c.loop-i-test.true (side_above _ _ c.tie_side-is_wrong.ensures c.if-is_wrong.true)
-
-pub loop-i-preserved : goal.loop-i-preserved
-loop-i-preserved c = (search rules, one_passed _ _ c.loop-i.invariant.1 (side_within _ _ c.tie_side-is_wrong.ensures c.if-is_wrong.false))
 
 pub returns : goal.returns
 unfolding wrong_sides
-returns c = all_passed _ _ _ c.loop-i.invariant.1 (search rules)
-
-pub loop-i-init : goal.loop-i-init
-loop-i-init c = (search rules, none_passed _)
+returns c =
+    let given = c.args in
+    let wrong = λ (i : ℕ). ltb 1 ((ties_in given.ties.now given.count).side i) in
+    any_from_yields_List wrong _ _ c.any.result c.any.ensures.ran (YieldsList-from_range 0 given.count given.count (cc) (omega arith)) (λ x b q k. search (rules, tests))
+    ∙ any_entry wrong given.count

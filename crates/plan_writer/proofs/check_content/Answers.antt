@@ -1,10 +1,10 @@
--- `write_refusal` meets its contract: one test for each number, in the order of the list.
+-- `check_content` meets its contract: one test for each number, in the order of the list.
 use mathlib.Core.Path.{ap}
 use mathlib.Core.Bool.{not}
 use Rattle.word.proofs.ReplyLaws.{refusals}
 use Rattle.plan_writer.specs.Writing.{plan_write_tests}
 use Rattle.plan_writer.proofs.WriteLaws.{room_short, room_enough}
-use Rattle.plan_writer.proofs.write_refusal.Goals as goal
+use Rattle.plan_writer.proofs.check_content.Goals as goal
 
 pub returns-then-is_bad_width : goal.returns-then-is_bad_width
 unfolding plan_write_tests
