@@ -8,7 +8,7 @@ use lib.Bits.{bit_and, bit_xor, and_mask}
 use lib.ListN.{length}
 use lib.Pow.{mod-mod-pow}
 use Rattle.word.specs.Word.{digit, low_mask, bad_width}
-use Rattle.word.specs.Reply.{answer, refusal, replied, first_of}
+use Rattle.word.specs.Reply.{answer, replied, first_of}
 use Rattle.rows.specs.Row.{Cells, cell}
 use Rattle.register.specs.Circuit.{circuit, advanced, clocked}
 use Rattle.chains.specs.Driven.{chosen, driven}
@@ -16,7 +16,7 @@ use Rattle.register.specs.Clock.{registered, clock_tests, clock_reply}
 use Rattle.register.specs.declared.Register.{Register}
 use Rattle.word.proofs.Laws.{xor_assoc}
 use Rattle.word.proofs.WordLaws.{good_width}
-use Rattle.word.proofs.ReplyLaws.{none_applies, replied_refusal}
+use Rattle.word.proofs.ReplyLaws.{none_applies}
 
 -- a word holds the shifted state of every width up to 64, since bit 64 is dropped in any case
 pub shifted_in_word : (m s : ℕ) → bit_and (s * 2 % 2 ^ 64) (low_mask m) ≡ s * 2 % 2 ^ min m 64
@@ -50,19 +50,13 @@ clocked_driven m t v s drive next ws x ed es = es ∙ ap (λ (d : ℕ). bit_xor 
 
 module _ (r : Register) (ws x : List ℕ) where
   -- where no number applies the reply is the next state
-  pub clock_answers : first_of (clock_tests r ws x) ≡ 0 → clock_reply r ws x ≡ answer (clocked (registered r ws) (cell x) r.state)
+  clock_answers : first_of (clock_tests r ws x) ≡ 0 → clock_reply r ws x ≡ answer (clocked (registered r ws) (cell x) r.state)
   unfolding clock_reply
   clock_answers h = ap (λ (n : ℕ). replied n (clocked (registered r ws) (cell x) r.state)) h
 
   clock_width : first_of (clock_tests r ws x) ≡ 0 → bad_width r.m ≡ false
   unfolding clock_tests
   clock_width h = none_applies (bad_width r.m) 1 _ h
-
-  pub clock_refused : (n : ℕ) → n ≡ first_of (clock_tests r ws x) → (n ≡ 0 → ⊥) → clock_reply r ws x ≡ refusal n
-  unfolding clock_reply
-  clock_refused n e h =
-      ap (λ (k : ℕ). replied k (clocked (registered r ws) (cell x) r.state)) (sym e)
-      ∙ replied_refusal n (clocked (registered r ws) (cell x) r.state) h
 
   pub clock_done : (d s : ℕ) → first_of (clock_tests r ws x) ≡ 0 → d ≡ driven ws (cell x) (length ws)
       → s ≡ bit_xor (bit_xor (advanced (min r.m 64) r.taps r.state) d) r.inversion → clock_reply r ws x ≡ answer s

@@ -5,18 +5,18 @@
 --   registered r ws    the circuit of a register and its chains' spread words
 --   clock_tests r ws x  the numbers that the clock meets, in order
 --   clock_reply r ws x  the reply: the next state, or the first number that applies
---   said c             the paper's reading of what the clock hands back
+--   said c             the paper's reading of what the clock answers
+--   held_after c r      the register that the caller has after the answer c: the answer's, or r as it was handed in
 --   state_after q s     the state that comes back: the answer's, or the state s as it was handed in
-use Rattle.std.specs.Prelude.{not, List, [], ◌∷◌, ℕ, eqb, length}
+use Rattle.std.specs.Prelude.{not, List, [], ◌∷◌, ℕ, eqb, length, Result, Ok, Err}
 use Rattle.word.specs.Word.{beyond, bad_width}
 use Rattle.word.specs.Reply.{Test, ◌when◌, Reply, answer, refusal, reply}
 use Rattle.rows.specs.Row.{cell, row_bytes, spare_set}
 use Rattle.register.specs.Circuit.{Circuit, circuit, clocked, bad_taps, bad_inversion, bad_chains}
 use Rattle.chains.specs.Driven.{bad_spread}
 use Rattle.register.specs.declared.Register.{Register}
-use Rattle.register.specs.declared.Clocking.{Clocking}
-use Rattle.register.specs.declared.Clocking.TheVariants.{Done, Refused}
-use Rattle.register.specs.declared.Clocked.{Clocked}
+use Rattle.refusals.specs.declared.Refusal.{Refusal}
+use Rattle.refusals.specs.Refusals.{replied_by}
 
 abbrev pub registered : Register → List ℕ → Circuit
 registered r ws = circuit r.m r.taps r.inversion ws
@@ -36,12 +36,12 @@ clock_tests r ws x =
 unfoldable pub clock_reply : Register → List ℕ → List ℕ → Reply ℕ
 clock_reply r ws x = reply (clock_tests r ws x) (clocked (registered r ws) (cell x) r.state)
 
-abbrev pub said_of : Clocking → ℕ → Reply ℕ
-said_of Done s = answer s
-said_of (Refused n) s = refusal n
+abbrev pub said : Result Register Refusal → Reply ℕ
+said = replied_by (λ (r : Register). r.state)
 
-abbrev pub said : Clocked → Reply ℕ
-said c = said_of c.answer c.register.state
+abbrev pub held_after : Result Register Refusal → Register → Register
+held_after (Ok r) s = r
+held_after (Err e) s = s
 
 abbrev pub state_after : Reply ℕ → ℕ → ℕ
 state_after (answer t) s = t

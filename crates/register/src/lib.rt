@@ -7,7 +7,10 @@ ghost use Rattle.word.specs.Reply.{first_of};
 ghost use Rattle.rows.specs.Row.{cell, row_bytes};
 ghost use Rattle.chains.specs.Driven.{driven};
 ghost use Rattle.register.specs.Circuit.{advanced, bad_taps, bad_chains, too_many_slices};
-ghost use Rattle.register.specs.Clock.{clock_tests, clock_reply, said, state_after};
+ghost use Rattle.refusals.specs.Refusals.{refused};
+ghost use Rattle.register.specs.Clock.{clock_tests, clock_reply, said, held_after, state_after};
+
+use refusals::Refusal;
 
 // The register: its width m, its tap word, its inversion word and its state.
 #[derive(Clone, Copy)]
@@ -16,20 +19,6 @@ pub struct Register {
     pub taps: u64,
     pub inversion: u64,
     pub state: u64,
-}
-
-// What a clock answers: it clocked, or the first number that applies.
-#[derive(Drop)]
-pub enum Clocking {
-    Done,
-    Refused { number: u64 },
-}
-
-// What the clock hands back: the successor, or in a refusal the register as it was.
-#[derive(Drop)]
-pub struct Clocked {
-    pub answer: Clocking,
-    pub register: Register,
 }
 
 // Number 3: whether the tap word has bit 0 clear or a bit at or above m.
@@ -43,7 +32,7 @@ pub fn is_bad_taps(m: u64, taps: u64) -> bool
 pub fn is_bad_chains(n: u64) -> bool
     ensures { result ≡ bad_chains n }
 {
-    (n < 1) | (Register::LARGEST_CHAINS < n)
+    !(1..=Register::LARGEST_CHAINS).contains(&n)
 }
 
 // Number 7: whether s is above 512.
@@ -57,47 +46,28 @@ pub fn is_bad_slices(s: u64) -> bool
 pub fn width_limit(m: u64) -> u64
     ensures { result ≡ min m 64 }
 {
-    if m < Register::LARGEST_WIDTH {
-        m
-    } else {
-        Register::LARGEST_WIDTH
-    }
+    m.min(Register::LARGEST_WIDTH)
 }
 
 // A number of chains, 256 at most.
 pub fn chain_limit(n: u16) -> usize
     ensures { result ≡ min n 256 }
 {
-    if (n as u64) < Register::LARGEST_CHAINS {
-        n as usize
-    } else {
-        Register::LARGEST_CHAINS as usize
-    }
+    (n as usize).min(Register::LARGEST_CHAINS as usize)
 }
 
 // A number of slices, 512 at most.
 pub fn slice_limit(s: u16) -> u16
     ensures { result ≡ min s 512 }
 {
-    if (s as u64) < Register::LARGEST_SLICES {
-        s
-    } else {
-        Register::LARGEST_SLICES as u16
-    }
+    s.min(Register::LARGEST_SLICES as u16)
 }
 
 // The place of the highest bit of a register of width m: m - 1, and no place outside a word.
 fn top_place(m: u64) -> u64
     ensures { result ≡ min m 64 - 1 }
 {
-    if m < 1 {
-        return 0;
-    }
-    if m < Register::LARGEST_WIDTH {
-        m - 1
-    } else {
-        Register::LARGEST_WIDTH - 1
-    }
+    width_limit(m).saturating_sub(1)
 }
 
 // Number 8: whether a row isn't of B bytes.
@@ -107,35 +77,35 @@ fn is_bad_row_length(n: usize, row: &[u8]) -> bool
     row.len() != rows::row_bytes(n)
 }
 
-// The first number that the clock meets with this input; 0 where none applies.
-fn first_refusal(register: Register, spread: &[u64], row: &[u8]) -> u64
-    ensures { result ≡ first_of (clock_tests register spread.now row.now) }
+// Refuses what the clock doesn't take, by the first number that applies.
+fn check_clock(register: Register, spread: &[u64], row: &[u8]) -> Result<(), Refusal>
+    ensures { refused result ≡ first_of (clock_tests register spread.now row.now) }
 {
     if word::is_bad_width(register.m) {
-        return 2;
+        return Err(Refusal::Width);
     }
     if is_bad_taps(register.m, register.taps) {
-        return 3;
+        return Err(Refusal::TapWord);
     }
     if word::is_beyond(register.m, register.inversion) {
-        return 25;
+        return Err(Refusal::InversionWord);
     }
     if is_bad_chains(spread.len() as u64) {
-        return 4;
+        return Err(Refusal::ChainCount);
     }
     if chains::is_bad_spread(register.m, spread) {
-        return 6;
+        return Err(Refusal::SpreadWord);
     }
     if is_bad_row_length(spread.len(), row) {
-        return 8;
+        return Err(Refusal::Length);
     }
     if rows::has_spare_bit(spread.len(), row) {
-        return 9;
+        return Err(Refusal::SpareBit);
     }
     if word::is_beyond(register.m, register.state) {
-        return 23;
+        return Err(Refusal::Signature);
     }
-    0
+    Ok(())
 }
 
 impl Register {
@@ -161,12 +131,7 @@ impl Register {
     pub fn holding(self, state: u64) -> Register
         ensures { (result.m ≡ self.m) × (result.taps ≡ self.taps) × (result.inversion ≡ self.inversion) × (result.state ≡ state) }
     {
-        Register {
-            m: self.m,
-            taps: self.taps,
-            inversion: self.inversion,
-            state,
-        }
+        Register { state, ..self }
     }
 
     // The register after one clock in which this word is XORed in: what the chains drive, and the inversion word where that counts.
@@ -198,21 +163,12 @@ impl Register {
     }
 
     // One clock with the cells of one row: the register with its next state. It meets 2, 3, 25, 4, 6, 8 (a row not of B
-    // bytes), 9 and 23 (the state), in that order; a refusal hands the register back as it came.
-    pub fn clock(self, spread: &[u64], row: &[u8]) -> Clocked
+    // bytes), 9 and 23 (the state), in that order; a refusal leaves the caller the register that it has.
+    pub fn clock(self, spread: &[u64], row: &[u8]) -> Result<Register, Refusal>
         ensures result_value { said result ≡ clock_reply self spread.now row.now }
-        ensures m_value { (result.register.m ≡ self.m) × (result.register.taps ≡ self.taps) × (result.register.inversion ≡ self.inversion) × (result.register.state ≡ state_after (clock_reply self spread.now row.now) self.state) }
+        ensures m_value { ((held_after result self).m ≡ self.m) × ((held_after result self).taps ≡ self.taps) × ((held_after result self).inversion ≡ self.inversion) × ((held_after result self).state ≡ state_after (clock_reply self spread.now row.now) self.state) }
     {
-        let number = first_refusal(self, spread, row);
-        if number != 0 {
-            return Clocked {
-                answer: Clocking::Refused { number },
-                register: self,
-            };
-        }
-        Clocked {
-            answer: Clocking::Done,
-            register: self.clock_row(spread, row),
-        }
+        check_clock(self, spread, row)?;
+        Ok(self.clock_row(spread, row))
     }
 }

@@ -1,6 +1,6 @@
 -- The laws that the crates above cite: what an accepted set knows, and what the reader's reply says of its set. A set is
 -- accepted where none of the set's numbers applies to it. Assumes nothing.
-use mathlib.Core.Path.{◌≡◌, refl, sym}
+use mathlib.Core.Path.{◌≡◌, refl}
 use mathlib.Core.Bool.{true, false, ◌&&◌, ◌||◌}
 use mathlib.Core.List.{List}
 use Prim.Native.Nat.{ℕ, ◌≤◌, ◌<◌}
@@ -14,14 +14,14 @@ use Rattle.word.specs.Reply.{answer, refusal, first_of}
 use Rattle.word.proofs.WordLaws.{good_width}
 use Rattle.word.proofs.SomeLaws.{any_below_false}
 use Rattle.word.proofs.BoolLaws.{or_false_right}
-use Rattle.word.proofs.ReplyLaws.{replied_answered, refused_reply}
-use Rattle.word.proofs.TestLaws.{none_and_rest, numbered, replied_answer, replied_number}
+use Rattle.word.proofs.ReplyLaws.{replied_answered}
+use Rattle.word.proofs.TestLaws.{none_and_rest, numbered, replied_number}
 use Rattle.rows.specs.Row.{row_bytes, spare_set}
 use Rattle.ties.specs.Ties.{most_ties, wrong_order, wrong_sides}
 use Rattle.register.specs.Circuit.{bad_taps, bad_inversion, bad_chains}
 use Rattle.chains.specs.Driven.{bad_spread}
 use Rattle.set_layout.specs.Layout.{chains_at, spread_at, slices_at, head_length, set_length, width_of, taps_of, inversion_of, chains_of, spread_of, slices_of, value_row, mark_row, values, marks, tie_count_of, ties_of}
-use Rattle.set_file.specs.Reading.{bad_slices, wrong_length, spare_in_rows, valued_in_rows, wrong_ties, set_tests, SetParts, set_parts_of, set_reply}
+use Rattle.set_file.specs.Reading.{bad_slices, wrong_length, spare_in_rows, valued_in_rows, wrong_ties, set_tests, set_parts_of, set_reply}
 use Rattle.set_layout.proofs.LayoutLaws.{good_chains}
 use Rattle.set_layout.proofs.SliceLaws as slices
 use Rattle.set_file.proofs.RowTests as tests
@@ -36,18 +36,6 @@ set_numbered set = refl
 pub set_answers : (set : List ℕ) → first_of (set_tests set) ≡ 0 → set_reply set ≡ answer (set_parts_of set)
 unfolding set_reply
 set_answers set h = replied_answered (first_of (set_tests set)) (set_parts_of set) h
-
-pub set_refuses : (set : List ℕ) (n : ℕ) → n ≡ first_of (set_tests set) → (n ≡ 0 → ⊥) → set_reply set ≡ refusal n
-unfolding set_reply
-set_refuses set n e h = sym (refused_reply (first_of (set_tests set)) n (set_parts_of set) e h)
-
-pub set_answer_parts : (set : List ℕ) (p : SetParts) → set_reply set ≡ answer p → p ≡ set_parts_of set
-unfolding set_reply
-set_answer_parts set p h = (replied_answer (first_of (set_tests set)) (set_parts_of set) p h).1
-
-pub set_answer_none : (set : List ℕ) (p : SetParts) → set_reply set ≡ answer p → first_of (set_tests set) ≡ 0
-unfolding set_reply
-set_answer_none set p h = (replied_answer (first_of (set_tests set)) (set_parts_of set) p h).0
 
 pub set_refusal_first : (set : List ℕ) (k : ℕ) → set_reply set ≡ refusal k → first_of (set_tests set) ≡ k
 unfolding set_reply

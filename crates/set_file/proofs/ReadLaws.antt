@@ -1,7 +1,6 @@
--- Each way out of the set reader, what it answers and hands back beside it, and what a taken set is:
+-- Each way out of the set reader, and what a refused set's number is:
 --
 --   refused_set        the number of a refused set is the first of its tests that applies
---   taken_set          where the reader answered with k's register, n and s and gave k's spread words beside, k is taken from the set
 -- Assumes nothing.
 use mathlib.Core.Path.{◌≡◌, refl, sym, ap, ◌∙◌}
 use mathlib.Core.List.{List}
@@ -9,81 +8,80 @@ use Prim.Native.Nat.{ℕ, ◌≤◌, min}
 use native.Mathlib.Omega.{arith}
 use lib.ListN.{length, take, drop}
 use lib.Seq.{take_at}
-use Rattle.word.specs.Reply.{Reply, answer, refusal, first_of, number_of, front, lent}
-use Rattle.word.proofs.ReplyLaws.{refused_leaves, answered_writes}
-use Rattle.word.proofs.TestLaws.{replied_not_zero}
-use Rattle.register.specs.declared.Register.{Register}
+use Rattle.std.specs.Prelude.{Result, Ok, Err, IfOk}
+use Rattle.refusals.specs.declared.Refusal.{Refusal}
+use Rattle.refusals.specs.Refusals.{number}
+use Rattle.refusals.proofs.RefusalLaws.{refused_call_leaves, answered_call_writes}
+use Rattle.word.specs.Reply.{refusal, first_of, front}
 use Rattle.set_layout.specs.Layout.{width_of, taps_of, inversion_of, chains_of, spread_of, slices_of, no_words}
 use Rattle.set_layout.proofs.LayoutLaws.{spread_length}
-use Rattle.set_file.specs.Reading.{SetParts, set_tests, set_parts_of, set_reply, spread_beside, said, start_of, TakenFrom}
-use Rattle.set_file.specs.declared.SetAnswer.{SetAnswer}
-use Rattle.set_file.specs.declared.SetAnswer.TheVariants.{Read, Refused}
-use Rattle.set_file.proofs.Laws.{accepted, accepted_width, accepted_chains, set_answers, set_answer_parts, set_answer_none, set_refusal_first}
+use Rattle.set_file.specs.Reading.{SetParts, set_tests, set_parts_of, set_reply, spread_beside, said, words_beside, start_of, TakenFrom}
+use Rattle.set_file.specs.declared.Taken.{Taken}
+use Rattle.set_file.proofs.Laws.{accepted, accepted_width, accepted_chains, set_refusal_first}
 
--- what the reader answers, a, and the words beside it, ws
-abbrev pub Reads : List ℕ → SetAnswer → List ℕ → Type 0
-Reads set a ws = (said a ≡ set_reply set) × ((ws ≡ spread_beside set) × (start_of a ≡ 0))
+-- what the reader answers, r
+pub record Reads (set : List ℕ) (r : Result Taken Refusal) : Type 0 where
+  pub answer : said r ≡ set_reply set
+  pub spread : words_beside r ≡ spread_beside set
+  pub start : start_of r ≡ 0
+  pub taken : IfOk r (TakenFrom set)
 
-pub reads_refused : (set ws : List ℕ) (n : ℕ) → n ≡ first_of (set_tests set) → (n ≡ 0 → ⊥) → ws ≡ no_words → Reads set (Refused n) ws
+abbrev parts_of : Taken → SetParts
+parts_of k = record { m = k.register.m; taps = k.register.taps; inversion = k.register.inversion; n = k.n; s = k.s }
+
+refuses : (set : List ℕ) (e : Refusal) → number e ≡ first_of (set_tests set) → Reads set (Err e)
 unfolding spread_beside set_reply
-reads_refused set ws n e h w =
-    let out = refused_leaves (first_of (set_tests set)) n (set_parts_of set) (spread_of set) no_words e h in
-    (out.0, (w ∙ out.1, refl))
+refuses set e h =
+    let out = refused_call_leaves parts_of (Err e) e (first_of (set_tests set)) (set_parts_of set) (spread_of set) no_words refl h in
+    record { answer = out.0; spread = out.1; start = refl; taken = tt }
 
-pub reads_answer : (set ws : List ℕ) (n m t i k s : ℕ) (r : Register) → n ≡ first_of (set_tests set) → n ≡ 0 → m ≡ width_of set → t ≡ taps_of set
-    → i ≡ inversion_of set → (r.m ≡ m) × (r.taps ≡ t) × (r.inversion ≡ i) × (r.state ≡ 0) → k ≡ chains_of set → s ≡ slices_of set
-    → (chains_of set ≤ 256 → ws ≡ front (spread_of set) no_words) → Reads set (Read r k s) ws
-unfolding spread_beside set_reply
-reads_answer set ws n m t i k s r e z em et ei er ek es w =
-    let none : first_of (set_tests set) ≡ 0 = sym e ∙ z in
-    let parts : record { m = r.m; taps = r.taps; inversion = r.inversion; n = k; s = s } ≡ set_parts_of set = rw (er.0 ∙ em, er.1 ∙ et, er.2 ∙ ei, ek, es) in
-    let out =
-    answered_writes (first_of (set_tests set)) n (set_parts_of set) (record { m = r.m; taps = r.taps; inversion = r.inversion; n = k; s = s }) (spread_of set) no_words ws e z parts
-    (w (accepted_chains set (accepted set none)).1)
-    in
-    (out.0, (out.1, er.3))
+pub reads_refused : (set : List ℕ) (r : Result Taken Refusal) (e : Refusal) → r ≡ Err e → number e ≡ first_of (set_tests set) → Reads set r
+reads_refused set r e is h = rw is (refuses set e h)
+
+-- ---- a set that is taken: k's fields are those of the set
+
+pub record Fields (set : List ℕ) (k : Taken) : Type 0 where
+  pub width : k.register.m ≡ width_of set
+  pub taps : k.register.taps ≡ taps_of set
+  pub inversion : k.register.inversion ≡ inversion_of set
+  pub start : k.register.state ≡ 0
+  pub chains : k.n ≡ chains_of set
+  pub slices : k.s ≡ slices_of set
+  pub words : chains_of set ≤ 256 → k.spread ≡ front (spread_of set) no_words
+
+module _ (set : List ℕ) (k : Taken) (none : 0 ≡ first_of (set_tests set)) (f : Fields set k) where
+  words_there : k.spread ≡ front (spread_of set) no_words
+  words_there = f.words (accepted_chains set (accepted set (sym none))).1
+
+  taken : TakenFrom set k
+  unfolding front
+  taken =
+      let words : take k.n k.spread ≡ spread_of set =
+      ap (take k.n) words_there ∙ take_at (spread_of set) (drop (length (spread_of set)) no_words) k.n (spread_length set ∙ sym f.chains)
+      in
+      let few : min k.register.m 64 ≡ width_of set = omega (arith, f.width, (accepted_width set (accepted set (sym none))).1) in
+      record {
+        none = sym none;
+        width = f.width;
+        taps = f.taps;
+        inversion = f.inversion;
+        start = f.start;
+        chains = f.chains;
+        slices = f.slices;
+        spread = words;
+        circuit = rw (few, f.taps, f.inversion, words);
+      }
+
+  pub reads_taken : Reads set (Ok k)
+  unfolding spread_beside set_reply
+  reads_taken =
+      let parts : parts_of k ≡ set_parts_of set = rw (f.width, f.taps, f.inversion, f.chains, f.slices) in
+      let out =
+      answered_call_writes (first_of (set_tests set)) (set_parts_of set) (parts_of k) (spread_of set) no_words k.spread none parts words_there
+      in
+      record { answer = out.0; spread = out.1; start = f.start; taken = taken }
 
 -- ---- a refused set
 
--- n is the number that `number_of` gives
-pub refused_set : (set ws : List ℕ) (a : SetAnswer) (k n : ℕ) → Reads set a ws → a ≡ Refused k → n ≡ number_of (said a)
-    → (n ≡ first_of (set_tests set)) × (n ≡ 0 → ⊥)
-unfolding set_reply
-refused_set set ws a k n reads e en =
-    let refused : set_reply set ≡ refusal k = sym reads.0 ∙ ap said e in
-    let same : n ≡ k = en ∙ ap (λ (x : SetAnswer). number_of (said x)) e in (
-      same ∙ sym (set_refusal_first set k refused),
-      λ z. replied_not_zero (first_of (set_tests set)) (set_parts_of set) k refused (sym same ∙ z),
-    )
-
--- ---- a taken set
-
-pub taken_set : (set ws : List ℕ) (a : SetAnswer) (r : Register) (n s : ℕ) → Reads set a ws → a ≡ Read r n s
-    → TakenFrom set (record { register = r; n = n; s = s; spread = ws })
-unfolding spread_beside front
-taken_set set ws a r n s reads e =
-    let said_parts : set_reply set ≡ answer (record { m = r.m; taps = r.taps; inversion = r.inversion; n = n; s = s }) = sym reads.0 ∙ ap said e in
-    let none : first_of (set_tests set) ≡ 0 = set_answer_none set _ said_parts in
-    let parts : record { m = r.m; taps = r.taps; inversion = r.inversion; n = n; s = s } ≡ set_parts_of set = set_answer_parts set _ said_parts in
-    let width : r.m ≡ width_of set = ap (λ (p : SetParts). p.m) parts in
-    let taps : r.taps ≡ taps_of set = ap (λ (p : SetParts). p.taps) parts in
-    let inversion : r.inversion ≡ inversion_of set = ap (λ (p : SetParts). p.inversion) parts in
-    let chains : n ≡ chains_of set = ap (λ (p : SetParts). p.n) parts in
-    let beside : ws ≡ front (spread_of set) no_words =
-    reads.1.0 ∙ ap (λ (x : Reply SetParts). lent x (spread_of set) no_words) (set_answers set none)
-    in
-    let words : take n ws ≡ spread_of set =
-    ap (take n) beside ∙ take_at (spread_of set) (drop (length (spread_of set)) no_words) n (spread_length set ∙ sym chains)
-    in
-    let few : min r.m 64 ≡ width_of set = omega (arith, width, (accepted_width set (accepted set none)).1) in
-    record {
-      none = none;
-      width = width;
-      taps = taps;
-      inversion = inversion;
-      start = sym (ap start_of e) ∙ reads.1.1;
-      chains = chains;
-      slices = ap (λ (p : SetParts). p.s) parts;
-      spread = words;
-      circuit = rw (few, taps, inversion, words);
-    }
+pub refused_set : (set : List ℕ) (n : ℕ) → refusal n ≡ set_reply set → n ≡ first_of (set_tests set)
+refused_set set n h = sym (set_refusal_first set n (sym h))

@@ -15,21 +15,22 @@
 --   set_parts_of set       .. of the set: m, the tap word, the inversion word, n and s
 --   set_reply set         its reply
 --   spread_beside set     the 256 words beside the reply: the spread words and zeros after an answer, zeros after a refusal
---   said a               the paper's reading of what the reader hands back
+--   said a               the paper's reading of what the reader answers
 --   start_of a            the state of the register that it hands back; 0 of a refusal
+--   words_beside a        the words that stand beside it: the spread words that it hands back; zeros of a refusal
 --   taken_circuit k       the register and the chains of a taken set
 --   TakenFrom set k      the taken set k is what the file `set`, which meets none of the numbers, gives
-use Rattle.std.specs.Prelude.{◌≡◌, Bool, not, ◌||◌, List, [], ◌∷◌, ℕ, min, eqb, ltb, length, take}
+use Rattle.std.specs.Prelude.{◌≡◌, Bool, not, ◌||◌, List, [], ◌∷◌, ℕ, min, eqb, ltb, length, take, Result, Ok, Err}
 use Rattle.word.specs.Word.{bad_width}
-use Rattle.word.specs.Reply.{Test, ◌when◌, Reply, answer, refusal, first_of, reply, lent}
+use Rattle.word.specs.Reply.{Test, ◌when◌, Reply, first_of, reply, lent}
 use Rattle.rows.specs.Lists.{spare_in, valued_unknown}
 use Rattle.ties.specs.Ties.{most_ties, wrong_cells, wrong_order, wrong_sides}
 use Rattle.register.specs.Circuit.{Circuit, circuit, bad_taps, bad_inversion, bad_chains, too_many_slices}
 use Rattle.chains.specs.Driven.{bad_spread}
 use Rattle.set_layout.specs.Layout.{chains_at, spread_at, slices_at, head_length, set_length, width_of, taps_of, inversion_of, chains_of, spread_of, slices_of, circuit_of, value_row, mark_row, marks, tie_count_of, ties_of, no_words}
-use Rattle.set_file.specs.declared.SetAnswer.{SetAnswer}
-use Rattle.set_file.specs.declared.SetAnswer.TheVariants.{Read, Refused}
 use Rattle.set_file.specs.declared.Taken.{Taken}
+use Rattle.refusals.specs.declared.Refusal.{Refusal}
+use Rattle.refusals.specs.Refusals.{replied_by}
 
 unfoldable pub bad_slices : List ℕ → Bool
 bad_slices set = ltb (length set) (head_length (chains_of set)) || too_many_slices (slices_of set)
@@ -80,13 +81,16 @@ set_reply set = reply (set_tests set) (set_parts_of set)
 unfoldable pub spread_beside : List ℕ → List ℕ
 spread_beside set = lent (set_reply set) (spread_of set) no_words
 
-abbrev pub said : SetAnswer → Reply SetParts
-said (Read r k l) = answer (record { m = r.m; taps = r.taps; inversion = r.inversion; n = k; s = l })
-said (Refused n) = refusal n
+abbrev pub said : Result Taken Refusal → Reply SetParts
+said = replied_by (λ (k : Taken). record { m = k.register.m; taps = k.register.taps; inversion = k.register.inversion; n = k.n; s = k.s })
 
-abbrev pub start_of : SetAnswer → ℕ
-start_of (Read r k l) = r.state
-start_of (Refused n) = 0
+abbrev pub start_of : Result Taken Refusal → ℕ
+start_of (Ok k) = k.register.state
+start_of (Err e) = 0
+
+abbrev pub words_beside : Result Taken Refusal → List ℕ
+words_beside (Ok k) = k.spread
+words_beside (Err e) = no_words
 
 abbrev pub taken_circuit : Taken → Circuit
 taken_circuit k = circuit (min k.register.m 64) k.register.taps k.register.inversion (take k.n k.spread)

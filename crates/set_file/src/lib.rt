@@ -2,33 +2,21 @@
 // rows of one slice and the writer are crates above it. Every public function is total.
 #![tactic(auto)]
 
-ghost use Rattle.std.specs.Prelude.{◌≡◌, false, not, ◌||◌, ◌≤◌, eqb, ltb, length};
+ghost use Rattle.std.specs.Prelude.{◌≡◌, false, not, ◌||◌, ◌≤◌, eqb, ltb, length, IfOk};
 ghost use Rattle.word.specs.Word.{bad_width};
-ghost use Rattle.word.specs.Reply.{first_of, number_of};
+ghost use Rattle.word.specs.Reply.{first_of};
+ghost use Rattle.refusals.specs.Refusals.{refused};
 ghost use Rattle.ties.specs.Ties.{most_ties, ties_in, tie_tests};
 ghost use Rattle.register.specs.Circuit.{bad_taps, bad_inversion, bad_chains};
 ghost use Rattle.chains.specs.Driven.{bad_spread};
 ghost use Rattle.set_layout.specs.Layout.{chains_at, spread_at, slices_at, set_length, width_of, taps_of, inversion_of, chains_of, spread_of, slices_of, marks, tie_bytes};
-ghost use Rattle.set_file.specs.Reading.{bad_slices, wrong_length, spare_in_rows, valued_in_rows, set_tests, set_reply, spread_beside, said, start_of};
+ghost use Rattle.set_file.specs.Reading.{bad_slices, wrong_length, spare_in_rows, valued_in_rows, set_tests, set_reply, spread_beside, said, words_beside, start_of, TakenFrom};
 
+use refusals::Refusal;
 use register::Register;
 
-// What the set reader answers: the register of the set's width m, tap word and inversion word, fresh, n and s, or the first number
-// that applies.
-#[derive(Drop)]
-pub enum SetAnswer {
-    Read { register: Register, n: u16, s: u16 },
-    Refused { number: u64 },
-}
-
-// What the set reader hands back: its answer, and beside it 256 spread words, zero from n on and all zero in a refusal.
-#[derive(Drop)]
-pub struct SetRead {
-    pub answer: SetAnswer,
-    pub spread: [u64; 256],
-}
-
-// A taken set as one value: what the reader answered and the spread words beside it.
+// A taken set, which is what the set reader answers: the register of the set's width m, tap word and inversion word, fresh, n and s, and 256
+// spread words, zero from n on.
 #[derive(Clone, Copy)]
 pub struct Taken {
     pub register: Register,
@@ -174,16 +162,16 @@ fn has_valued_unknown(set: &[u8]) -> bool
     rows::pairs_share_a_bit(set, at, s)
 }
 
-// The first of 29, 30 and 31 that applies to the set's first `count` ties; 0 where none does. A set without an entry is done at once.
-fn ties_refusal(set: &[u8], count: u16) -> u64
-    ensures { result ≡ first_of (tie_tests (slices_of set.now) (chains_of set.now) (marks set.now) (ties_in (tie_bytes set.now) count)) }
+// Refuses the set's first `count` ties by the first of 29, 30 and 31 that applies. A set without an entry is done at once.
+fn check_ties(set: &[u8], count: u16) -> Result<(), Refusal>
+    ensures { refused result ≡ first_of (tie_tests (slices_of set.now) (chains_of set.now) (marks set.now) (ties_in (tie_bytes set.now) count)) }
 {
     if count == 0 {
-        return 0;
+        return Ok(());
     }
     let n = set_layout::chain_count(set);
     let s = set_layout::slice_count(set);
-    ties::ties_refusal(
+    ties::check_ties(
         set_layout::tie_bytes(set),
         count,
         set,
@@ -193,88 +181,67 @@ fn ties_refusal(set: &[u8], count: u16) -> u64
     )
 }
 
-// The first number that applies to the set; 0 where none does.
-pub fn set_refusal(set: &[u8]) -> u64
-    ensures { result ≡ first_of (set_tests set.now) }
+// Refuses the set by the first number that applies.
+pub fn check_set(set: &[u8]) -> Result<(), Refusal>
+    ensures { refused result ≡ first_of (set_tests set.now) }
 {
     if is_short(set) {
-        return 1;
+        return Err(Refusal::ShortSet);
     }
     if has_bad_width(set) {
-        return 2;
+        return Err(Refusal::Width);
     }
     if has_bad_taps(set) {
-        return 3;
+        return Err(Refusal::TapWord);
     }
     if has_bad_inversion(set) {
-        return 25;
+        return Err(Refusal::InversionWord);
     }
     if has_bad_chains(set) {
-        return 4;
+        return Err(Refusal::ChainCount);
     }
     if ends_in_spread(set) {
-        return 5;
+        return Err(Refusal::SpreadWordsCut);
     }
     if has_bad_spread(set) {
-        return 6;
+        return Err(Refusal::SpreadWord);
     }
     if has_bad_slices(set) {
-        return 7;
+        return Err(Refusal::SliceCount);
     }
     let n = set_layout::chain_count(set);
     let s = set_layout::slice_count(set);
     let count = set_layout::tie_count_of(set, n, s);
     if has_wrong_length(set, n, s, count) {
-        return 8;
+        return Err(Refusal::Length);
     }
     if has_spare_bits(set) {
-        return 9;
+        return Err(Refusal::SpareBit);
     }
     if has_valued_unknown(set) {
-        return 10;
+        return Err(Refusal::UnknownValue);
     }
-    ties_refusal(set, count)
+    check_ties(set, count)
 }
 
 // The set reader: the fresh register of m, the tap word and the inversion word, n, s and the spread words. It meets 1, 2, 3, 25,
-// 4 to 10 and 29 to 31, in that order; the spread words beside a refusal are all zero.
-pub fn read_set(set: &[u8]) -> SetRead
-    ensures answer { said result.answer ≡ set_reply set.now }
-    ensures spread { result.spread ≡ spread_beside set.now }
-    ensures start { start_of result.answer ≡ 0 }
+// 4 to 10 and 29 to 31, in that order; a refusal has no spread words, which is what C sees as zeros.
+pub fn read_set(set: &[u8]) -> Result<Taken, Refusal>
+    ensures answer { said result ≡ set_reply set.now }
+    ensures spread { words_beside result ≡ spread_beside set.now }
+    ensures start { start_of result ≡ 0 }
+    ensures taken { IfOk result (TakenFrom set.now) }
 {
-    let number = set_refusal(set);
-    if number != 0 {
-        return SetRead {
-            answer: SetAnswer::Refused { number },
-            spread: set_layout::no_words(),
-        };
-    }
+    check_set(set)?;
     let register = Register::fresh(
         set_layout::register_width(set),
         set_layout::tap_word(set),
         set_layout::inversion_word(set),
     );
-    SetRead {
-        answer: SetAnswer::Read {
-            register,
-            n: set_layout::chain_count(set),
-            s: set_layout::slice_count(set),
-        },
+    Ok(Taken {
+        register,
+        n: set_layout::chain_count(set),
+        s: set_layout::slice_count(set),
         spread: set_layout::spread_words(set),
-    }
-}
-
-// The number of the reader's refusal; 0 where it took the set.
-pub fn number_of(answer: SetAnswer) -> u64
-    ensures { result ≡ number_of (said answer) }
-{
-    match answer {
-        SetAnswer::Read {
-            register: _,
-            n: _,
-            s: _,
-        } => 0,
-        SetAnswer::Refused { number } => number,
-    }
+    })
 }

@@ -18,10 +18,16 @@ use Rattle.set_layout.specs.Layout.{ties_at, set_length, chains_of, slices_of, v
 use Rattle.set_file.specs.Reading.{set_tests}
 use Rattle.slice_rows.specs.Rows.{Stretch, row_tests, row_reply, value_reply, mark_reply, ties_reply, stretch, stretch_at, said_place}
 use Rattle.slice_rows.specs.declared.Place.{Place}
-use Rattle.slice_rows.specs.declared.Place.TheVariants.{At, Declined}
+use Rattle.std.specs.Prelude.{Result, Ok, Err}
+use Rattle.refusals.specs.declared.Refusal.{Refusal}
+use Rattle.refusals.specs.Refusals.{number, refused}
+use Rattle.refusals.proofs.RefusalLaws.{not_zero, refused_call}
 use Rattle.word.proofs.TestLaws.{none_and_rest, first_sooner, first_later, none_of_both, replied_answer, replied_alike}
 use Rattle.set_layout.proofs.SliceLaws.{slice_inside}
 use Rattle.set_file.proofs.Laws.{Accepted, accepted, value_row_length, mark_row_length, set_numbered}
+
+abbrev stretch_of : Place → Stretch
+stretch_of p = record { start = p.start; bytes = p.bytes }
 
 -- the row of the set that stands at place i
 abbrev row_from : List ℕ → ℕ → Stretch
@@ -30,17 +36,17 @@ row_from set i = record { start = i; bytes = row_bytes (chains_of set) }
 module _ (set : List ℕ) (t : ℕ) where
   -- ---- the first number
 
-  pub row_set_refused : (n : ℕ) → n ≡ first_of (set_tests set) → (n ≡ 0 → ⊥) → n ≡ first_of (row_tests set t)
+  pub row_set_refused : (r : Result Unit Refusal) (e : Refusal) → r ≡ Err e → number e ≡ first_of (set_tests set) → refused r ≡ first_of (row_tests set t)
   unfolding row_tests
-  row_set_refused = first_sooner (set_tests set) _
+  row_set_refused r e is h = ap refused is ∙ first_sooner (set_tests set) _ (number e) h (not_zero e)
 
-  pub row_past : (n : ℕ) (r : Bool) → n ≡ first_of (set_tests set) → n ≡ 0 → r ≡ not (ltb t (slices_of set)) → r ≡ true → 11 ≡ first_of (row_tests set t)
+  pub row_past : (r : Bool) → 0 ≡ first_of (set_tests set) → r ≡ not (ltb t (slices_of set)) → r ≡ true → 11 ≡ first_of (row_tests set t)
   unfolding row_tests
-  row_past n r e z er on = first_later (set_tests set) _ n 11 (set_numbered set) e z (refuses (not (ltb t (slices_of set))) r 11 0 er on)
+  row_past r none er on = first_later (set_tests set) _ 0 11 (set_numbered set) none refl (refuses (not (ltb t (slices_of set))) r 11 0 er on)
 
-  pub row_there : (n : ℕ) (r : Bool) → n ≡ first_of (set_tests set) → n ≡ 0 → r ≡ not (ltb t (slices_of set)) → r ≡ false → 0 ≡ first_of (row_tests set t)
+  pub row_there : (r : Bool) → 0 ≡ first_of (set_tests set) → r ≡ not (ltb t (slices_of set)) → r ≡ false → 0 ≡ first_of (row_tests set t)
   unfolding row_tests
-  row_there n r e z er off = first_later (set_tests set) _ n 0 (set_numbered set) e z (passes (not (ltb t (slices_of set))) r 11 0 0 er off refl)
+  row_there r none er off = first_later (set_tests set) _ 0 0 (set_numbered set) none refl (passes (not (ltb t (slices_of set))) r 11 0 0 er off refl)
 
   -- ---- the reply
 
@@ -78,61 +84,54 @@ module _ (set : List ℕ) (t : ℕ) where
 
   -- ---- the companions
 
-  pub value_declined : (n : ℕ) → n ≡ first_of (row_tests set t) → (n ≡ 0 → ⊥) → refusal n ≡ value_reply set t
-  value_declined n e h = sym (row_refuses n (value_at (chains_of set) t) e h)
+  pub value_declined : (r : Result Place Refusal) (e : Refusal) → r ≡ Err e → number e ≡ first_of (row_tests set t) → said_place r ≡ value_reply set t
+  unfolding row_reply
+  value_declined r e is h = refused_call stretch_of r e (first_of (row_tests set t)) (row_from set (value_at (chains_of set) t)) is h
 
-  pub slice_small : (n : ℕ) → n ≡ first_of (row_tests set t) → n ≡ 0 → t < 65536
-  slice_small n e z = omega (arith, (row_accepted (sym e ∙ z)).1, (row_accepted (sym e ∙ z)).0.slices)
+  pub slice_small : 0 ≡ first_of (row_tests set t) → t < 65536
+  slice_small none = omega (arith, (row_accepted (sym none)).1, (row_accepted (sym none)).0.slices)
 
-  pub value_named : (n c a b : ℕ) → n ≡ first_of (row_tests set t) → n ≡ 0 → c ≡ chains_of set → a ≡ value_at c t → b ≡ row_bytes c
+  pub value_named : (c a b : ℕ) → 0 ≡ first_of (row_tests set t) → c ≡ chains_of set → a ≡ value_at c t → b ≡ row_bytes c
       → answer (record { start = a; bytes = b }) ≡ value_reply set t
-  value_named n c a b e z ec ea eb =
+  value_named c a b none ec ea eb =
       ap₂ (λ (x y : ℕ). answer (record { start = x; bytes = y })) (ea ∙ ap (λ (k : ℕ). value_at k t) ec) (eb ∙ ap row_bytes ec)
-      ∙ sym (row_answers (value_at (chains_of set) t) (sym e ∙ z))
-
-  module _ (p : Place) (i : ℕ) (said : said_place p ≡ row_reply set t i) where
-    place_named : (a b : ℕ) → p ≡ At a b → Named i a b
-    place_named a b e = row_named i a b (sym said ∙ ap said_place e)
+      ∙ sym (row_answers (value_at (chains_of set) t) (sym none))
 
   -- the mark row stands behind the value row
-  module _ (p : Place) (said : said_place p ≡ value_reply set t) where
-    pub mark_declined : (n : ℕ) → p ≡ Declined n → said_place p ≡ mark_reply set t
-    mark_declined n e =
-        ap said_place e
-        ∙ sym (row_alike (value_at (chains_of set) t) (mark_at (chains_of set) t) n (sym said ∙ ap said_place e))
+  pub mark_declined : (r : Result Place Refusal) (e : Refusal) → r ≡ Err e → refusal (number e) ≡ value_reply set t → said_place r ≡ mark_reply set t
+  mark_declined r e is h =
+      ap said_place is
+      ∙ sym (row_alike (value_at (chains_of set) t) (mark_at (chains_of set) t) (number e) (sym h))
 
-    pub mark_at_lem : (a b : ℕ) → p ≡ At a b → answer (record { start = a + b; bytes = b }) ≡ mark_reply set t
-    mark_at_lem a b e =
-        let named = place_named p (value_at (chains_of set) t) said a b e in
+  module _ (a b : ℕ) (said : answer (record { start = a; bytes = b }) ≡ value_reply set t) where
+    named : Named (value_at (chains_of set) t) a b
+    named = row_named (value_at (chains_of set) t) a b (sym said)
+
+    pub mark_at_lem : answer (record { start = a + b; bytes = b }) ≡ mark_reply set t
+    mark_at_lem =
         ap₂ (λ (x y : ℕ). answer (record { start = x + y; bytes = y })) named.start named.bytes
         ∙ sym (row_answers (mark_at (chains_of set) t) named.none)
 
-    pub value_inside : (a b : ℕ) → p ≡ At a b → a + b ≤ length set
-    value_inside a b e =
-        let named = place_named p (value_at (chains_of set) t) said a b e in
+    pub value_inside : a + b ≤ length set
+    value_inside =
         let there = row_accepted named.none in
         omega (arith, slice_inside set there.0.long t there.1, named.start, named.bytes)
 
 -- ---- the stretch that a place names
 
-pub stretch_declined : (set : List ℕ) (at : ℕ × ℕ) (p : Place) (n : ℕ) → p ≡ Declined n
-    → ([] ≡ stretch (said_place p) set) × ((at.0 ≡ at.0) × (at.1 ≡ at.1 + min (stretch_at (said_place p)) (length set)))
-stretch_declined set at p n e = (
-  ap (λ (x : Place). stretch (said_place x) set) (sym e),
-  (refl, omega arith ∙ ap (λ (x : Place). at.1 + min (stretch_at (said_place x)) (length set)) (sym e)),
-)
+-- what is lent stands at the pointer `to`, where the set stands at `from`
+pub record Lent (set row : List ℕ) (from to : ℕ × ℕ) (r : Reply Stretch) : Type 0 where
+  pub bytes : row ≡ stretch r set
+  pub place : (to.0 ≡ from.0) × (to.1 ≡ from.1 + min (stretch_at r) (length set))
 
-module _ (set row : List ℕ) (p : Place) where
-  pub stretch_there : (a b start end : ℕ) → p ≡ At a b → start ≡ min (a + 0) (length set) → end ≡ min (start + b) (length set)
-      → row ≡ take (end - start) (drop start set) → row ≡ stretch (said_place p) set
-  stretch_there a b start end e es ee r =
-      r ∙ part_clamped set a b start end es ee ∙ ap (λ (x : Place). stretch (said_place x) set) (sym e)
+pub stretch_declined : (set : List ℕ) (at : ℕ × ℕ) (p : Result Place Refusal) (e : Refusal) → p ≡ Err e → Lent set [] at at (said_place p)
+stretch_declined set at p e is = rw is (record { bytes = refl; place = (refl, omega arith) })
 
-pub place_there : (set : List ℕ) (p : Place) (a b start o : ℕ) → p ≡ At a b → start ≡ min (a + 0) (length set)
-    → start + o ≡ o + min (stretch_at (said_place p)) (length set)
-place_there set p a b start o e es =
-    let here : start + o ≡ o + min a (length set) = omega (arith, es) in
-    here ∙ ap (λ (x : Place). o + min (stretch_at (said_place x)) (length set)) (sym e)
+pub stretch_there : (set row : List ℕ) (p : Result Place Refusal) (k : Place) (start end o : ℕ) → p ≡ Ok k → start ≡ min k.start (length set)
+    → end ≡ min (start + k.bytes) (length set) → row ≡ take (end - start) (drop start set)
+    → (row ≡ stretch (said_place p) set) × (start + o ≡ o + min (stretch_at (said_place p)) (length set))
+stretch_there set row p k start end o is es ee r =
+    rw is (r ∙ part_clamped set k.start k.bytes start end (omega (arith, es)) ee, omega (arith, es))
 
 module _ (set : List ℕ) (t : ℕ) where
   row_inside : (i : ℕ) → (t < slices_of set → length set ≡ set_length (chains_of set) (slices_of set) (tie_count_of set) → i ≤ length set)
@@ -151,7 +150,7 @@ module _ (set : List ℕ) (t : ℕ) where
   pub mark_inside_set : stretch_at (mark_reply set t) ≤ length set
   mark_inside_set = row_inside (mark_at (chains_of set) t) (λ b long. omega (arith, slice_inside set long t b))
 
-module _ (set row : List ℕ) (at place : ℕ × ℕ) (p : Place) where
+module _ (set row : List ℕ) (at place : ℕ × ℕ) (p : Result Place Refusal) where
   pub row_lent : (r : Reply Stretch) → said_place p ≡ r → stretch_at r ≤ length set
       → (row ≡ stretch (said_place p) set) × ((place.0 ≡ at.0) × (place.1 ≡ at.1 + min (stretch_at (said_place p)) (length set)))
       → (row ≡ stretch r set) × ((place.0 ≡ at.0) × (place.1 ≡ at.1 + stretch_at r))
@@ -171,14 +170,17 @@ module _ (set : List ℕ) where
   unfolding ties_reply
   ties_answers z = replied_answered (first_of (set_tests set)) ties_from z
 
-  pub ties_refuses : (n : ℕ) → n ≡ first_of (set_tests set) → (n ≡ 0 → ⊥) → refusal n ≡ ties_reply set
+  ties_refuses : (n : ℕ) → n ≡ first_of (set_tests set) → (n ≡ 0 → ⊥) → refusal n ≡ ties_reply set
   unfolding ties_reply
   ties_refuses n e h = refused_reply (first_of (set_tests set)) n ties_from e h
 
-  pub ties_named : (x n s k at : ℕ) → x ≡ first_of (set_tests set) → x ≡ 0 → n ≡ chains_of set → s ≡ slices_of set → k ≡ tie_count_of set → at ≡ ties_at n s
+  pub ties_declined : (r : Result Place Refusal) (e : Refusal) → r ≡ Err e → number e ≡ first_of (set_tests set) → said_place r ≡ ties_reply set
+  ties_declined r e is h = ap said_place is ∙ ties_refuses (number e) h (not_zero e)
+
+  pub ties_named : (n s k at : ℕ) → 0 ≡ first_of (set_tests set) → n ≡ chains_of set → s ≡ slices_of set → k ≡ tie_count_of set → at ≡ ties_at n s
       → answer (record { start = at; bytes = entry_bytes * k }) ≡ ties_reply set
-  ties_named x n s k at e z en es ek ea =
-      ap₂ (λ (i j : ℕ). answer (record { start = i; bytes = entry_bytes * j })) (ea ∙ ap₂ ties_at en es) ek ∙ sym (ties_answers (sym e ∙ z))
+  ties_named n s k at none en es ek ea =
+      ap₂ (λ (i j : ℕ). answer (record { start = i; bytes = entry_bytes * j })) (ea ∙ ap₂ ties_at en es) ek ∙ sym (ties_answers (sym none))
 
   pub ties_inside_set : stretch_at (ties_reply set) ≤ length set
   ties_inside_set =
@@ -195,7 +197,7 @@ module _ (set : List ℕ) where
 
 module _ (set : List ℕ) (a : first_of (set_tests set) ≡ 0) (t : ℕ) (below : t < slices_of set) where
   row_none : first_of (row_tests set t) ≡ 0
-  row_none = sym (row_there set t 0 false (sym a) refl (sym (ap not (lt-ltb t (slices_of set) below))) refl)
+  row_none = sym (row_there set t false (sym a) (sym (ap not (lt-ltb t (slices_of set) below))) refl)
 
   pub value_stretch : stretch (value_reply set t) set ≡ value_row set t
   unfolding value_row

@@ -11,15 +11,16 @@
 --   ties_reply set       .. for the entries of ties, without their count: it meets the set's numbers alone
 --   stretch r set       the part of the set that the reply r names; nothing in a refusal
 --   stretch_at r         the place of its first byte in the set; 0 in a refusal
---   said_place p         the paper's reading of what the companion hands back
-use Rattle.std.specs.Prelude.{not, List, [], ◌∷◌, ◌++◌, ℕ, ◌*◌, ltb, take, drop}
+--   said_place p         the paper's reading of what the companion answers
+use Rattle.std.specs.Prelude.{not, List, [], ◌∷◌, ◌++◌, ℕ, ◌*◌, ltb, take, drop, Result}
 use Rattle.word.specs.Reply.{Test, ◌when◌, Reply, answer, refusal, reply}
 use Rattle.rows.specs.Row.{row_bytes}
 use Rattle.ties.specs.Ties.{entry_bytes}
 use Rattle.set_layout.specs.Layout.{chains_of, slices_of, value_at, mark_at, ties_at, tie_count_of}
 use Rattle.set_file.specs.Reading.{set_tests}
+use Rattle.refusals.specs.declared.Refusal.{Refusal}
+use Rattle.refusals.specs.Refusals.{replied_by}
 use Rattle.slice_rows.specs.declared.Place.{Place}
-use Rattle.slice_rows.specs.declared.Place.TheVariants.{At, Declined}
 
 pub record Stretch : Type 0 where
   pub start : ℕ
@@ -48,6 +49,5 @@ abbrev pub stretch_at : Reply Stretch → ℕ
 stretch_at (answer p) = p.start
 stretch_at (refusal n) = 0
 
-abbrev pub said_place : Place → Reply Stretch
-said_place (At i k) = answer (record { start = i; bytes = k })
-said_place (Declined n) = refusal n
+abbrev pub said_place : Result Place Refusal → Reply Stretch
+said_place = replied_by (λ (p : Place). record { start = p.start; bytes = p.bytes })

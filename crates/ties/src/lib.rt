@@ -4,10 +4,12 @@
 
 ghost use Rattle.std.specs.Prelude.{◌≡◌, ℕ, ◌+◌, ◌*◌, get_or};
 ghost use Rattle.word.specs.Reply.{first_of};
+ghost use Rattle.refusals.specs.Refusals.{refused};
 ghost use Rattle.numbers.specs.Bytes.{count_at};
 ghost use Rattle.rows.specs.Lists.{cells_of};
 ghost use Rattle.ties.specs.Ties.{entry_bytes, ties_in, wrong_cell, wrong_cells, precedes, wrong_order, wrong_sides, tie_tests};
 
+use refusals::Refusal;
 use rows::Rows;
 
 // The bytes of an entry, and the most entries that a set has.
@@ -120,22 +122,29 @@ pub fn has_wrong_sides(ties: &[u8], count: u16) -> bool
     false
 }
 
-// The first of 29, 30 and 31 that applies to the first `count` entries, with s slices and n chains; 0 where none does. The rows `marks` of
-// the list mark the unknown cells.
-pub fn ties_refusal(ties: &[u8], count: u16, list: &[u8], marks: Rows, n: u16, s: u16) -> u64
-    ensures { result ≡ first_of (tie_tests s n (cells_of list.now marks) (ties_in ties.now count)) }
+// Refuses the first `count` entries, with s slices and n chains, by the first of 29, 30 and 31 that applies. The rows `marks` of the list mark
+// the unknown cells.
+pub fn check_ties(
+    ties: &[u8],
+    count: u16,
+    list: &[u8],
+    marks: Rows,
+    n: u16,
+    s: u16,
+) -> Result<(), Refusal>
+    ensures { refused result ≡ first_of (tie_tests s n (cells_of list.now marks) (ties_in ties.now count)) }
 {
     if count == 0 {
-        return 0;
+        return Ok(());
     }
     if has_wrong_cells(ties, count, list, marks, n, s) {
-        return 29;
+        return Err(Refusal::TieCell);
     }
     if has_wrong_order(ties, count) {
-        return 30;
+        return Err(Refusal::TieOrder);
     }
     if has_wrong_sides(ties, count) {
-        return 31;
+        return Err(Refusal::TieSide);
     }
-    0
+    Ok(())
 }

@@ -1,8 +1,8 @@
 -- `is_bad_chains` meets its contract, which is its code.
-use mathlib.Core.Path.{refl}
+use borrow.Author.Rules.{rules}
 use Rattle.register.specs.Circuit.{bad_chains}
 use Rattle.register.proofs.is_bad_chains.Goals as goal
 
 pub returns : goal.returns
 unfolding bad_chains
-returns c = refl
+returns c = search rules

@@ -1,21 +1,30 @@
 -- `read_set` meets its contract, in a refusal and where it reads.
-use Rattle.set_file.proofs.ReadLaws.{reads_refused, reads_answer}
-use Rattle.set_layout.proofs.LayoutLaws.{spread_whole}
+use mathlib.Core.Path.{◌∙◌}
 use borrow.Author.Rules.{rules}
+use Rattle.set_layout.proofs.LayoutLaws.{spread_whole}
+use Rattle.set_file.proofs.ReadLaws.{reads_refused, reads_taken}
 use Rattle.set_file.proofs.read_set.Goals as goal
 
-pub returns-then-number-ne0 : goal.returns-then-number-ne0
-returns-then-number-ne0 c = record { answer = (reads_refused _ _ _ c.set_refusal-number.ensures c.if-number-ne0.true c.no_words.ensures).0; spread = (reads_refused _ _ _ c.set_refusal-number.ensures c.if-number-ne0.true c.no_words.ensures).1.0; start = (reads_refused _ _ _ c.set_refusal-number.ensures c.if-number-ne0.true c.no_words.ensures).1.1 }
+pub returns-in_err-check_set : goal.returns-in_err-check_set
+returns-in_err-check_set c =
+    let reads = reads_refused c.args.set.now c.from_residual.result _ (search rules) c.in_err-check_set.ensures in
+    record { answer = reads.answer; spread = reads.spread; start = reads.start; taken = reads.taken }
 
 pub returns : goal.returns
-returns c = record {
-  answer = (reads_answer _ _ _ _ _ _ _ _ _ c.set_refusal-number.ensures (search rules)
-      c.register_width.ensures c.tap_word.ensures c.inversion_word.ensures c.fresh-register.ensures c.chain_count.ensures c.slice_count.ensures
-      (spread_whole _ _ c.spread_words.ensures)).0;
-  spread = (reads_answer _ _ _ _ _ _ _ _ _ c.set_refusal-number.ensures (search rules)
-      c.register_width.ensures c.tap_word.ensures c.inversion_word.ensures c.fresh-register.ensures c.chain_count.ensures c.slice_count.ensures
-      (spread_whole _ _ c.spread_words.ensures)).1.0;
-  start = (reads_answer _ _ _ _ _ _ _ _ _ c.set_refusal-number.ensures (search rules)
-      c.register_width.ensures c.tap_word.ensures c.inversion_word.ensures c.fresh-register.ensures c.chain_count.ensures c.slice_count.ensures
-      (spread_whole _ _ c.spread_words.ensures)).1.1;
-}
+returns c =
+    let register = c.fresh-register.ensures in
+    let reads =
+    reads_taken c.args.set.now
+    (record { register = c.fresh-register.result; n = c.chain_count.result; s = c.slice_count.result; spread = c.spread_words.result })
+    c.in_ok-check_set.ensures
+    (record {
+      width = register.0 ∙ c.register_width.ensures;
+      taps = register.1 ∙ c.tap_word.ensures;
+      inversion = register.2 ∙ c.inversion_word.ensures;
+      start = register.3;
+      chains = c.chain_count.ensures;
+      slices = c.slice_count.ensures;
+      words = spread_whole _ _ c.spread_words.ensures;
+    })
+    in
+    record { answer = reads.answer; spread = reads.spread; start = reads.start; taken = reads.taken }

@@ -1,4 +1,4 @@
--- `set_refusal` meets its contract: one test for each number, in the order of the list.
+-- `check_set` meets its contract: one test for each number, in the order of the list.
 use Rattle.set_file.proofs.CodeLaws.{wrong_length_counted, tied_counted}
 use Rattle.set_file.specs.Reading.{wrong_length, valued_in_rows, set_tests}
 use Rattle.word.proofs.ReplyLaws.{refusals}
@@ -9,8 +9,8 @@ use Rattle.set_layout.proofs.LayoutLaws.{tie_count_of_lem}
 use mathlib.Core.Path.{◌≡◌, sym, ◌∙◌}
 use Prim.Native.Nat.{ℕ}
 use borrow.Author.Tests.{ltb-false}
-use Rattle.set_file.proofs.set_refusal.Goals as goal
-use Rattle.set_file.proofs.set_refusal.Goals.{After-has_valued_unknown, After-has_wrong_length, After-tie_count_of-count, Else-has_valued_unknown}
+use Rattle.set_file.proofs.check_set.Goals as goal
+use Rattle.set_file.proofs.check_set.Goals.{After-has_valued_unknown, After-has_wrong_length, After-tie_count_of-count, Else-has_valued_unknown}
 
 pub returns-then-is_short : goal.returns-then-is_short
 unfolding set_tests
@@ -91,7 +91,7 @@ passed c x last =
 
 pub returns : goal.returns
 returns c =
-    passed (goal.at.returns c).Else-has_valued_unknown _ (tied_counted _ _ _ (counted (goal.at.returns c).After-tie_count_of-count) c.ties_refusal.ensures)
+    passed (goal.at.returns c).Else-has_valued_unknown _ (tied_counted _ _ _ (counted (goal.at.returns c).After-tie_count_of-count) c.check_ties.ensures)
 
 pub has_bad_spread-requires : goal.has_bad_spread-requires
 has_bad_spread-requires c = ltb-false _ _ (sym c.ends_in_spread.ensures ∙ c.if-ends_in_spread.false)

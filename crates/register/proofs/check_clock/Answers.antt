@@ -1,7 +1,7 @@
--- `first_refusal` meets its contract: one test for each number, in the order of the list.
+-- `check_clock` meets its contract: one test for each number, in the order of the list.
 use Rattle.register.specs.Clock.{clock_tests}
 use Rattle.word.proofs.ReplyLaws.{refusals}
-use Rattle.register.proofs.first_refusal.Goals as goal
+use Rattle.register.proofs.check_clock.Goals as goal
 
 pub returns-then-is_bad_width : goal.returns-then-is_bad_width
 unfolding clock_tests
