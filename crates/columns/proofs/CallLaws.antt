@@ -19,6 +19,10 @@ use lib.Seq.{length-take-le}
 use Rattle.word.specs.Reply.{◌when◌, Reply, answer, refusal, first_of, front, lent}
 use Rattle.word.proofs.ReplyLaws.{refused_leaves, answered_writes}
 use Rattle.word.proofs.TestLaws.{first_of_later, first_sooner}
+use Rattle.std.specs.Prelude.{Result, Err}
+use Rattle.refusals.specs.declared.Refusal.{Refusal}
+use Rattle.refusals.specs.Refusals.{number}
+use Rattle.refusals.proofs.RefusalLaws.{not_zero, refused_call_leaves}
 use Rattle.rows.specs.Lists.{cells_of}
 use Rattle.rows.specs.Marks.{total}
 use Rattle.rows.specs.declared.Rows.{Rows}
@@ -35,17 +39,17 @@ use Rattle.signatures.proofs.ColumnLaws.{columns_ext}
 use Rattle.signatures.proofs.FreeLaws.{columns_free, symbols_free}
 use Rattle.signatures.proofs.SetLaws.{length_columns}
 use Rattle.signatures.proofs.TakenLaws.{own_slices, Marks, own_marks, unknowns_counted}
-use Rattle.columns.specs.Listing.{list_tests, list_reply}
+use Rattle.columns.specs.Listing.{list_tests, list_reply, said_listed}
 
 -- ---- the ways out
 
 abbrev pub Lists : List ℕ → List ℕ → Reply ℕ → List ℕ → Type 0
 Lists set l r l' = (r ≡ list_reply set (length l)) × (l' ≡ lent (list_reply set (length l)) (columns_of set) l)
 
-pub list_set_refused : (set l : List ℕ) (n : ℕ) → n ≡ first_of (set_tests set) → (n ≡ 0 → ⊥) → Lists set l (refusal n) l
+pub list_set_refused : (set l : List ℕ) (r : Result ℕ Refusal) (e : Refusal) → r ≡ Err e → number e ≡ first_of (set_tests set) → Lists set l (said_listed r) l
 unfolding list_reply list_tests
-list_set_refused set l n e h =
-    refused_leaves _ n (symbols_of set) (columns_of set) l (first_sooner (set_tests set) _ n e h) h
+list_set_refused set l r e is h =
+    refused_call_leaves (λ n. n) r e _ (symbols_of set) (columns_of set) l is (first_sooner (set_tests set) _ (number e) h (not_zero e))
 
 pub list_past_set : (set : List ℕ) (room : ℕ) → first_of (set_tests set) ≡ 0 → first_of (list_tests set room) ≡ first_of (14 when ltb room (symbols_of set) ∷ [])
 unfolding list_tests

@@ -5,13 +5,13 @@
 --   list_tests set room   the numbers that the call meets, in order, for a lent list of `room` places
 --   list_reply set room   its reply: the number of symbols, free and named
 --   columns_after set cs  the lent column list at exit
---   said_listed a         the paper's reading of what the call hands back
-use Rattle.std.specs.Prelude.{List, [], ◌∷◌, ◌++◌, ℕ, ltb, length}
-use Rattle.word.specs.Reply.{Test, ◌when◌, Reply, answer, refusal, reply, lent}
+--   said_listed a         the paper's reading of what the call answers
+use Rattle.std.specs.Prelude.{List, [], ◌∷◌, ◌++◌, ℕ, ltb, length, Result}
+use Rattle.word.specs.Reply.{Test, ◌when◌, Reply, reply, lent}
 use Rattle.set_file.specs.Reading.{set_tests}
 use Rattle.signatures.specs.Sets.{symbols_of, columns_of}
-use Rattle.columns.specs.declared.Listed.{Listed}
-use Rattle.columns.specs.declared.Listed.TheVariants.{Count, Declined}
+use Rattle.refusals.specs.declared.Refusal.{Refusal}
+use Rattle.refusals.specs.Refusals.{replied_by}
 
 unfoldable pub list_tests : List ℕ → ℕ → List Test
 list_tests set room = set_tests set ++ 14 when ltb room (symbols_of set) ∷ []
@@ -22,6 +22,5 @@ list_reply set room = reply (list_tests set room) (symbols_of set)
 abbrev pub columns_after : List ℕ → List ℕ → List ℕ
 columns_after set cs = lent (list_reply set (length cs)) (columns_of set) cs
 
-abbrev pub said_listed : Listed → Reply ℕ
-said_listed (Count n) = answer n
-said_listed (Declined n) = refusal n
+abbrev pub said_listed : Result ℕ Refusal → Reply ℕ
+said_listed = replied_by (λ n. n)

@@ -15,15 +15,9 @@ ghost use Rattle.symbol_columns.specs.Powered.{FlagsIn};
 ghost use Rattle.listed_symbols.specs.Heads.{HeadsIn};
 ghost use Rattle.columns.specs.Listing.{list_reply, columns_after, said_listed};
 
+use refusals::Refusal;
 use rows::Rows;
-use set_file::{SetAnswer, Taken};
-
-// What listing the columns answers: the number of symbols, or the first number that applies.
-#[derive(Drop)]
-pub enum Listed {
-    Count { symbols: u64 },
-    Declined { number: u64 },
-}
+use set_file::Taken;
 
 // Writes the columns of the marked cells over the end of the list, by slice and then by chain, for a register and chains as a taken
 // set has them. There are three ways, and the one that costs least is taken: a few columns are made one by one, by the powers of the
@@ -64,7 +58,7 @@ fn fill_named(
 
 // The same as `list_columns` for a taken set with entries of ties: the marks of a symbol's cells but its first are taken out of a copy of the
 // rows, and the cells that are left have a column each.
-fn list_named(taken: Taken, set: &[u8], count: u16, columns: &mut [u64]) -> Listed
+fn list_named(taken: Taken, set: &[u8], count: u16, columns: &mut [u64]) -> Result<u64, Refusal>
     ensures { TakenFrom set.now taken → count ≡ tie_count_of set.now → (said_listed result ≡ list_reply set.now (length columns.old)) × (columns.new ≡ columns_after set.now columns.old) }
 {
     let n = taken.n;
@@ -76,7 +70,7 @@ fn list_named(taken: Taken, set: &[u8], count: u16, columns: &mut [u64]) -> List
     let rows = free_marks::list_rows(n);
     let found = marked_rows::count_marks(&heads[..], rows, s);
     if (columns.len() as u64) < found {
-        return Listed::Declined { number: 14 };
+        return Err(Refusal::ShortColumnList);
     }
     let end = found as usize;
     fill_named(
@@ -88,41 +82,28 @@ fn list_named(taken: Taken, set: &[u8], count: u16, columns: &mut [u64]) -> List
         rows,
         &mut columns[..end],
     );
-    Listed::Count { symbols: found }
+    Ok(found)
 }
 
 // The columns of a set's symbols, by slice and then by chain, at the front of the lent list, and how many there are. It meets the set's
 // numbers, then 14; a refusal leaves the list as it was. In a set without entries of ties each unknown cell is a symbol.
-pub fn list_columns(set: &[u8], columns: &mut [u64]) -> Listed
+pub fn list_columns(set: &[u8], columns: &mut [u64]) -> Result<u64, Refusal>
     ensures result_value { said_listed result ≡ list_reply set.now (length columns.old) }
     ensures columns_after { columns.new ≡ columns_after set.now columns.old }
 {
-    let read = set_file::read_set(set);
-    let answer = read.answer;
-    let SetAnswer::Read { register, n, s } = answer else {
-        return Listed::Declined {
-            number: set_file::number_of(answer),
-        };
-    };
-    let spread = read.spread;
-    let taken = Taken {
-        register,
-        n,
-        s,
-        spread,
-    };
+    let taken = set_file::read_set(set)?;
     let count = set_layout::tie_count(set);
     let has_ties = count != 0;
     if has_ties {
         return list_named(taken, set, count, columns);
     }
-    let marks = set_layout::mark_rows(n);
-    let symbols = marked_rows::count_marks(set, marks, s);
+    let marks = set_layout::mark_rows(taken.n);
+    let symbols = marked_rows::count_marks(set, marks, taken.s);
     let is_short = (columns.len() as u64) < symbols;
     if is_short {
-        return Listed::Declined { number: 14 };
+        return Err(Refusal::ShortColumnList);
     }
     let end = symbols as usize;
     fill_columns(taken, set, marks, &mut columns[..end]);
-    Listed::Count { symbols }
+    Ok(symbols)
 }

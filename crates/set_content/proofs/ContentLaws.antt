@@ -18,6 +18,9 @@ use Rattle.word.specs.Reply.{Test, ◌when◌, first_of}
 use Rattle.word.proofs.BoolLaws.{or_false_left, or_false_right}
 use Rattle.word.proofs.TestLaws.{none_and_rest, first_sooner, first_later}
 use Rattle.word.proofs.ReplyLaws.{refuses, passes}
+use Rattle.refusals.specs.declared.Refusal.{Refusal}
+use Rattle.refusals.specs.Refusals.{number}
+use Rattle.refusals.proofs.RefusalLaws.{not_zero}
 use Rattle.rows.specs.Row.{cell, row_bytes}
 use Rattle.rows.specs.Lists.{list_row, row_of, cells_of, shares_bit, spare_in, valued_unknown}
 use Rattle.rows.proofs.ListLaws.{valued_lists}
@@ -115,15 +118,15 @@ module _ (k : SetContent) (room : ℕ) where
   abbrev pub Last : ℕ → Type 0
   Last x = x ≡ first_of (TieTests ++ 24 when Short ∷ [])
 
-  module _ (x : ℕ) (e : x ≡ first_of TieTests) where
-    pub last_tied : (x ≡ 0 → ⊥) → Last x
-    last_tied h = first_sooner TieTests (24 when Short ∷ []) x e h
+  pub last_tied : (e : Refusal) → number e ≡ first_of TieTests → Last (number e)
+  last_tied e h = first_sooner TieTests (24 when Short ∷ []) (number e) h (not_zero e)
 
-    pub last_short : (r : Bool) → x ≡ 0 → r ≡ Short → r ≡ true → Last 24
-    last_short r z er on = first_later TieTests (24 when Short ∷ []) x 24 refl e z (refuses Short r 24 0 er on)
+  module _ (none : 0 ≡ first_of TieTests) (r : Bool) (er : r ≡ Short) where
+    pub last_short : r ≡ true → Last 24
+    last_short on = first_later TieTests (24 when Short ∷ []) 0 24 refl none refl (refuses Short r 24 0 er on)
 
-    pub last_none : (r : Bool) → x ≡ 0 → r ≡ Short → r ≡ false → Last 0
-    last_none r z er off = first_later TieTests (24 when Short ∷ []) x 0 refl e z (passes Short r 24 0 0 er off refl)
+    pub last_none : r ≡ false → Last 0
+    last_none off = first_later TieTests (24 when Short ∷ []) 0 0 refl none refl (passes Short r 24 0 0 er off refl)
 
 -- ---- a content to which no number applies
 

@@ -4,12 +4,14 @@
 
 ghost use Rattle.std.specs.Prelude.{◌≡◌, not, ◌||◌, ◌*◌, ◌%◌, eqb, ltb, length};
 ghost use Rattle.word.specs.Reply.{first_of};
+ghost use Rattle.refusals.specs.Refusals.{refused};
 ghost use Rattle.rows.specs.Row.{cell, row_bytes};
 ghost use Rattle.rows.specs.Lists.{list_row, spare_in};
 ghost use Rattle.ties.specs.Ties.{entry_bytes, most_ties, ties_in, tie_tests};
 ghost use Rattle.set_layout.specs.Layout.{set_length};
 ghost use Rattle.set_content.specs.Content.{set_content, set_write_tests};
 
+use refusals::Refusal;
 use rows::Rows;
 
 // Number 8: whether the length of a list of rows isn't that of s rows of n chains.
@@ -54,12 +56,11 @@ fn list_rows(n: u16) -> Rows
     }
 }
 
-// The first of 29, 30 and 31 that applies to the first `count` entries of ties, with the mark rows of s slices and n chains; 0 where none
-// does.
-fn ties_refusal(ties: &[u8], count: u16, marks: &[u8], n: u16, s: u16) -> u64
-    ensures { result ≡ first_of (tie_tests s n (λ t. cell (list_row n marks.now t)) (ties_in ties.now count)) }
+// Refuses the first `count` entries of ties, with the mark rows of s slices and n chains, by the first of 29, 30 and 31 that applies.
+fn check_ties(ties: &[u8], count: u16, marks: &[u8], n: u16, s: u16) -> Result<(), Refusal>
+    ensures { refused result ≡ first_of (tie_tests s n (λ t. cell (list_row n marks.now t)) (ties_in ties.now count)) }
 {
-    ties::ties_refusal(ties, count, marks, list_rows(n), n, s)
+    ties::check_ties(ties, count, marks, list_rows(n), n, s)
 }
 
 // Number 24: whether `room` bytes are too few for a set of n chains, s slices and `count` entries of ties.
@@ -69,8 +70,8 @@ fn lacks_room(room: usize, n: u16, s: u16, count: u16) -> bool
     room < set_layout::set_length(n, s, count)
 }
 
-// The first number that the writer meets with this input and an output of `room` bytes; 0 where none applies.
-pub fn write_refusal(
+// Refuses what the writer doesn't take, with an output of `room` bytes, by the first number that applies.
+pub fn check_content(
     m: u64,
     taps: u64,
     inversion: u64,
@@ -80,45 +81,42 @@ pub fn write_refusal(
     s: u64,
     ties: &[u8],
     room: usize,
-) -> u64
-    ensures { result ≡ first_of (set_write_tests (set_content m taps inversion spread.now values.now marks.now s ties.now) room) }
+) -> Result<(), Refusal>
+    ensures { refused result ≡ first_of (set_write_tests (set_content m taps inversion spread.now values.now marks.now s ties.now) room) }
 {
     if word::is_bad_width(m) {
-        return 2;
+        return Err(Refusal::Width);
     }
     if register::is_bad_taps(m, taps) {
-        return 3;
+        return Err(Refusal::TapWord);
     }
     if word::is_beyond(m, inversion) {
-        return 25;
+        return Err(Refusal::InversionWord);
     }
     if register::is_bad_chains(spread.len() as u64) {
-        return 4;
+        return Err(Refusal::ChainCount);
     }
     if chains::is_bad_spread(m, spread) {
-        return 6;
+        return Err(Refusal::SpreadWord);
     }
     if register::is_bad_slices(s) {
-        return 7;
+        return Err(Refusal::SliceCount);
     }
     let n = spread.len() as u16;
     let slices = s as u16;
     if are_bad_lists(n, slices, values, marks, ties) {
-        return 8;
+        return Err(Refusal::Length);
     }
     if has_spare_list(n as usize, slices as usize, values, marks) {
-        return 9;
+        return Err(Refusal::SpareBit);
     }
     if rows::share_a_bit(values, marks) {
-        return 10;
+        return Err(Refusal::UnknownValue);
     }
     let count = (ties.len() / ties::ENTRY_BYTES) as u16;
-    let number = ties_refusal(ties, count, marks, n, slices);
-    if number != 0 {
-        return number;
-    }
+    check_ties(ties, count, marks, n, slices)?;
     if lacks_room(room, n, slices, count) {
-        return 24;
+        return Err(Refusal::ShortOutput);
     }
-    0
+    Ok(())
 }

@@ -6,8 +6,12 @@ use Prim.Native.Nat.{ℕ, ◌+◌, ◌*◌, ◌<◌}
 use native.Mathlib.Omega.{arith}
 use lib.ListN.{length, length-append}
 use lib.Seq.{sets}
-use Rattle.word.specs.Reply.{answer, first_of, front, lent}
-use Rattle.word.proofs.ReplyLaws.{replied_answered, refused_leaves, answered_writes}
+use Rattle.std.specs.Prelude.{Result, Ok, Err}
+use Rattle.word.specs.Reply.{answer, first_of, front}
+use Rattle.word.proofs.ReplyLaws.{replied_answered, Leaves}
+use Rattle.refusals.specs.declared.Refusal.{Refusal}
+use Rattle.refusals.specs.Refusals.{number}
+use Rattle.refusals.proofs.RefusalLaws.{refused_call_leaves, answered_call_writes}
 use Rattle.numbers.specs.Bytes.{bytes_of, word_bytes}
 use Rattle.numbers.specs.Joined.{joined}
 use Rattle.numbers.proofs.ByteLaws.{bytes_of_length, length_word_bytes}
@@ -17,8 +21,6 @@ use Rattle.set_layout.specs.Layout.{taps_at, inversion_at, chains_at, spread_at,
 use Rattle.set_content.specs.Content.{SetContent, content_chains, content_count, bad_rows, bad_entries, set_write_tests}
 use Rattle.set_content.proofs.ContentLaws.{Writable, writable, chains_small, values_length, marks_length, ties_length, ties_few}
 use Rattle.set_writer.specs.Writing.{head_bytes, slice_bytes, set_bytes, set_write_reply, said_set_written}
-use Rattle.set_writer.specs.declared.Written.{Written}
-use Rattle.set_writer.specs.declared.Written.TheVariants.{Done, Refused}
 use Rattle.set_writer.proofs.WriteLaws.{slices_length}
 
 -- ---- how long the file is
@@ -120,16 +122,18 @@ file_written k l l₁ l₂ l₃ w e₁ e₂ e₃ =
 -- ---- the two ways out of the call
 
 -- what the call answers, r, and leaves in the output l, l'
-abbrev pub Writes : SetContent → List ℕ → Written → List ℕ → Type 0
-Writes k l r l' = (said_set_written r ≡ set_write_reply k (length l)) × (l' ≡ lent (set_write_reply k (length l)) (set_bytes k) l)
+abbrev pub Writes : SetContent → List ℕ → Result ℕ Refusal → List ℕ → Type 0
+Writes k l r l' = Leaves (set_write_reply k (length l)) (set_bytes k) (said_set_written r) l l'
 
-pub writes_refused : (k : SetContent) (l : List ℕ) (n : ℕ) → n ≡ first_of (set_write_tests k (length l)) → (n ≡ 0 → ⊥) → Writes k l (Refused n) l
+pub writes_refused : (k : SetContent) (l : List ℕ) (r : Result ℕ Refusal) (e : Refusal) → r ≡ Err e → number e ≡ first_of (set_write_tests k (length l))
+    → Writes k l r l
 unfolding set_write_reply
-writes_refused k l n e h = refused_leaves (first_of (set_write_tests k (length l))) n (set_length (content_chains k) k.s (content_count k)) (set_bytes k) l e h
+writes_refused k l r e is h =
+    refused_call_leaves (λ n. n) r e (first_of (set_write_tests k (length l))) (set_length (content_chains k) k.s (content_count k)) (set_bytes k) l is h
 
-module _ (k : SetContent) (l : List ℕ) (n : ℕ) (e : n ≡ first_of (set_write_tests k (length l))) (z : n ≡ 0) where
+module _ (k : SetContent) (l : List ℕ) (none : 0 ≡ first_of (set_write_tests k (length l))) where
   written : Writable k (length l)
-  written = writable k (length l) (sym e ∙ z)
+  written = writable k (length l) (sym none)
 
   pub written_chains : content_chains k < 65536
   written_chains = chains_small (content_chains k) false (sym written.chains) refl
@@ -145,8 +149,8 @@ module _ (k : SetContent) (l : List ℕ) (n : ℕ) (e : n ≡ first_of (set_writ
       → (length k.values ≡ row_bytes (content_chains k) * k.s → length k.marks ≡ row_bytes (content_chains k) * k.s
       → l₂ ≡ sets l₁ (rows_at (content_chains k)) (joined (slice_bytes (content_chains k) k.values k.marks) k.s))
       → l₃ ≡ sets l₂ (tie_count_at (content_chains k) k.s) (bytes_of 2 (content_count k) ++ k.ties)
-      → Writes k l (Done c) l₃
+      → Writes k l (Ok c) l₃
   unfolding set_write_reply
   writes_done c l₁ l₂ l₃ ec e₁ e₂ e₃ =
-      answered_writes (first_of (set_write_tests k (length l))) n (set_length (content_chains k) k.s (content_count k)) c (set_bytes k) l l₃ e z ec
+      answered_call_writes (first_of (set_write_tests k (length l))) (set_length (content_chains k) k.s (content_count k)) c (set_bytes k) l l₃ none ec
       (file_written k l l₁ l₂ l₃ written e₁ (e₂ (values_length k written.rows) (marks_length k written.rows)) e₃)

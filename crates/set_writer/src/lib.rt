@@ -12,12 +12,7 @@ ghost use Rattle.set_layout.specs.Layout.{rows_at, tie_count_at};
 ghost use Rattle.set_content.specs.Content.{set_content};
 ghost use Rattle.set_writer.specs.Writing.{head_bytes, slice_bytes, set_bytes, set_write_reply, said_set_written};
 
-// What the set writer answers: the length of the file, or the first number that applies.
-#[derive(Drop)]
-pub enum Written {
-    Done { length: usize },
-    Refused { number: u64 },
-}
+use refusals::Refusal;
 
 // What a set file has before its rows; nothing past the end of out.
 fn write_head(out: &mut [u8], m: u64, taps: u64, inversion: u64, spread: &[u64], s: u64)
@@ -113,11 +108,11 @@ pub fn write_set(
     s: u64,
     ties: &[u8],
     out: &mut [u8],
-) -> Written
+) -> Result<usize, Refusal>
     ensures answer { said_set_written result ≡ set_write_reply (set_content m taps inversion spread.now values.now marks.now s ties.now) (length out.old) }
     ensures file { out.new ≡ lent (set_write_reply (set_content m taps inversion spread.now values.now marks.now s ties.now) (length out.old)) (set_bytes (set_content m taps inversion spread.now values.now marks.now s ties.now)) out.old }
 {
-    let number = set_content::write_refusal(
+    set_content::check_content(
         m,
         taps,
         inversion,
@@ -127,17 +122,12 @@ pub fn write_set(
         s,
         ties,
         out.len(),
-    );
-    if number != 0 {
-        return Written::Refused { number };
-    }
+    )?;
     let n = spread.len() as u16;
     let slices = s as u16;
     let count = (ties.len() / ties::ENTRY_BYTES) as u16;
     write_head(out, m, taps, inversion, spread, s);
     write_slices(out, n, slices, values, marks);
     write_ties(out, n, slices, count, ties);
-    Written::Done {
-        length: set_layout::set_length(n, slices, count),
-    }
+    Ok(set_layout::set_length(n, slices, count))
 }

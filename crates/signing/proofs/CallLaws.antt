@@ -10,6 +10,10 @@ use lib.ListN.{length}
 use Rattle.word.specs.Reply.{◌when◌, answer, refusal, first_of}
 use Rattle.word.proofs.ReplyLaws.{replied_answered, refused_reply}
 use Rattle.word.proofs.TestLaws.{first_of_later, first_sooner}
+use Rattle.std.specs.Prelude.{Result, Err}
+use Rattle.refusals.specs.declared.Refusal.{Refusal}
+use Rattle.refusals.specs.Refusals.{number}
+use Rattle.refusals.proofs.RefusalLaws.{not_zero, refused_call}
 use Rattle.rows.specs.Row.{row_bytes}
 use Rattle.rows.specs.Lists.{list_row, spare_in}
 use Rattle.register.specs.Circuit.{Circuit}
@@ -19,13 +23,12 @@ use Rattle.set_file.specs.declared.Taken.{Taken}
 use Rattle.set_file.proofs.Laws.{set_numbered}
 use Rattle.signatures.specs.Signature.{signature}
 use Rattle.signatures.specs.Sets.{record_cells}
-use Rattle.signing.specs.Signing.{sign_tests, sign_reply}
+use Rattle.signing.specs.Signing.{sign_tests, sign_reply, said_signed}
 
--- the set is refused with the number n
-pub sign_set_refused : (set r : List ℕ) (n : ℕ) → n ≡ first_of (set_tests set) → (n ≡ 0 → ⊥) → refusal n ≡ sign_reply set r
+-- the set is refused
+pub sign_set_refused : (set r : List ℕ) (a : Result ℕ Refusal) (e : Refusal) → a ≡ Err e → number e ≡ first_of (set_tests set) → said_signed a ≡ sign_reply set r
 unfolding sign_reply sign_tests
-sign_set_refused set r n e h =
-    refused_reply _ n _ (first_sooner (set_tests set) _ n e h) h
+sign_set_refused set r a e is h = refused_call (λ y. y) a e _ _ is (first_sooner (set_tests set) _ (number e) h (not_zero e))
 
 module _ (set r : List ℕ) (k : Taken) (taken : TakenFrom set k) where
   wrong : Bool

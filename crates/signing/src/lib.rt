@@ -9,15 +9,9 @@ ghost use Rattle.set_file.specs.Reading.{taken_circuit};
 ghost use Rattle.signatures.specs.Signature.{signature};
 ghost use Rattle.signing.specs.Signing.{value_cells, sign_reply, said_signed};
 
+use refusals::Refusal;
 use rows::Rows;
-use set_file::{SetAnswer, Taken};
-
-// What signing a record answers: its signature, or the first number that applies.
-#[derive(Drop)]
-pub enum Signed {
-    Signature { signature: u64 },
-    Refused { number: u64 },
-}
+use set_file::Taken;
 
 // The signature of the response of a taken set's shape whose rows stand in `list`, from the fresh register on. It meets no number: a width
 // above 64 counts as 64, the chains after 256 drive nothing, and a row past the end is all 0.
@@ -52,31 +46,18 @@ fn record_rows(n: u16) -> Rows
 }
 
 // The signature of a record: all its cells as recorded, those of unknown cells too. It meets the set's numbers, then 12 and 13.
-pub fn sign_record(set: &[u8], record: &[u8]) -> Signed
+pub fn sign_record(set: &[u8], record: &[u8]) -> Result<u64, Refusal>
     ensures { said_signed result ≡ sign_reply set.now «record».now }
 {
-    let read = set_file::read_set(set);
-    let answer = read.answer;
-    let SetAnswer::Read { register, n, s } = answer else {
-        return Signed::Refused {
-            number: set_file::number_of(answer),
-        };
-    };
+    let taken = set_file::read_set(set)?;
+    let n = taken.n;
+    let s = taken.s;
     let is_misfit = record.len() != set_layout::rows_length(n, s);
     if is_misfit {
-        return Signed::Refused { number: 12 };
+        return Err(Refusal::RecordLength);
     }
     if rows::has_spare_row(n as usize, record, s as usize) {
-        return Signed::Refused { number: 13 };
+        return Err(Refusal::RecordSpareBit);
     }
-    let spread = read.spread;
-    let taken = Taken {
-        register,
-        n,
-        s,
-        spread,
-    };
-    Signed::Signature {
-        signature: sign_rows(taken, record, record_rows(n)),
-    }
+    Ok(sign_rows(taken, record, record_rows(n)))
 }

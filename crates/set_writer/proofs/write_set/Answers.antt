@@ -1,56 +1,38 @@
 -- `write_set` meets its contract, in a refusal and where it writes.
-use Rattle.set_writer.proofs.FileLaws.{writes_refused, written_chains, written_slices, written_count, writes_done}
-use Rattle.set_content.specs.Content.{set_content, content_chains}
-use Prim.Native.Nat.{◌<◌}
 use borrow.Author.Rules.{rules}
+use Rattle.set_content.specs.Content.{SetContent, set_content}
+use Rattle.set_writer.proofs.FileLaws.{writes_refused, written_chains, written_slices, written_count, writes_done}
 use Rattle.set_writer.proofs.write_set.Goals as goal
-use Rattle.set_writer.proofs.write_set.Goals.{Else-number-ne0}
+use Rattle.set_writer.proofs.write_set.Goals.{Start}
 
-few_chains : (c : Else-number-ne0) → content_chains ((
-    let entry = c.args in
-    set_content entry.m entry.taps entry.inversion entry.spread.now entry.values.now entry.marks.now entry.s entry.ties.now)) < 65536
-few_chains c = written_chains ((
-    let entry = c.args in
-    set_content entry.m entry.taps entry.inversion entry.spread.now entry.values.now entry.marks.now entry.s entry.ties.now)) ((c.args.out.now)) _ c.write_refusal-number.ensures (search rules)
+-- what the writer is handed
+abbrev handed : Start → SetContent
+handed c =
+    let given = c.args in
+    set_content given.m given.taps given.inversion given.spread.now given.values.now given.marks.now given.s given.ties.now
 
-pub returns-then-number-ne0 : goal.returns-then-number-ne0
-returns-then-number-ne0 c = record {
-  answer = (writes_refused ((
-      let entry = c.args in
-      set_content entry.m entry.taps entry.inversion entry.spread.now entry.values.now entry.marks.now entry.s entry.ties.now)) _ _ c.write_refusal-number.ensures c.if-number-ne0.true).0;
-  file = (writes_refused ((
-      let entry = c.args in
-      set_content entry.m entry.taps entry.inversion entry.spread.now entry.values.now entry.marks.now entry.s entry.ties.now)) _ _ c.write_refusal-number.ensures c.if-number-ne0.true).1;
-}
+pub returns-in_err-check_content : goal.returns-in_err-check_content
+returns-in_err-check_content c =
+    let k = handed (goal.at.returns-in_err-check_content c).Start in
+    let writes = writes_refused k c.args.out.now c.from_residual.result _ (search rules) c.in_err-check_content.ensures in
+    record { answer = writes.0; file = writes.1 }
 
 pub overflow_cast-n : goal.overflow_cast-n
-overflow_cast-n c = record { fits = few_chains (goal.at.overflow_cast-n c).Else-number-ne0 }
+overflow_cast-n c = record { fits = written_chains (handed (goal.at.overflow_cast-n c).Start) c.args.out.now c.in_ok-check_content.ensures }
 
 pub overflow_cast-slices : goal.overflow_cast-slices
-overflow_cast-slices c = record {
-  fits = written_slices ((
-      let entry = c.args in
-      set_content entry.m entry.taps entry.inversion entry.spread.now entry.values.now entry.marks.now entry.s entry.ties.now)) ((c.args.out.now)) _ c.write_refusal-number.ensures (search rules);
-}
+overflow_cast-slices c = record { fits = written_slices (handed (goal.at.overflow_cast-slices c).Start) c.args.out.now c.in_ok-check_content.ensures }
 
 pub overflow_cast-count : goal.overflow_cast-count
-overflow_cast-count c = record {
-  fits = written_count ((
-      let entry = c.args in
-      set_content entry.m entry.taps entry.inversion entry.spread.now entry.values.now entry.marks.now entry.s entry.ties.now)) ((c.args.out.now)) _ c.write_refusal-number.ensures (search rules);
-}
+overflow_cast-count c = record { fits = written_count (handed (goal.at.overflow_cast-count c).Start) c.args.out.now c.in_ok-check_content.ensures }
 
 pub write_head-requires : goal.write_head-requires
-write_head-requires c = few_chains (goal.at.write_head-requires c).Else-number-ne0
+write_head-requires c = written_chains (handed (goal.at.write_head-requires c).Start) c.args.out.now c.in_ok-check_content.ensures
 
 pub returns : goal.returns
-returns c = record {
-  answer = (writes_done ((
-      let entry = c.args in
-      set_content entry.m entry.taps entry.inversion entry.spread.now entry.values.now entry.marks.now entry.s entry.ties.now)) _ _ c.write_refusal-number.ensures (search rules) _ _ _ _ c.set_length.ensures
-      c.write_head.ensures c.write_slices.ensures c.write_ties.ensures).0;
-  file = (writes_done ((
-      let entry = c.args in
-      set_content entry.m entry.taps entry.inversion entry.spread.now entry.values.now entry.marks.now entry.s entry.ties.now)) _ _ c.write_refusal-number.ensures (search rules) _ _ _ _ c.set_length.ensures
-      c.write_head.ensures c.write_slices.ensures c.write_ties.ensures).1;
-}
+returns c =
+    let k = handed (goal.at.returns c).Start in
+    let writes =
+    writes_done k c.args.out.now c.in_ok-check_content.ensures _ _ _ _ c.set_length.ensures c.write_head.ensures c.write_slices.ensures c.write_ties.ensures
+    in
+    record { answer = writes.0; file = writes.1 }

@@ -1,13 +1,15 @@
--- `write_refusal` meets its contract: one test for each number, in the order of the list.
+-- `check_content` meets its contract: one test for each number, in the order of the list.
 use Rattle.set_content.proofs.ContentLaws.{chains_small, slices_small, count_small, valued_of_lists, Last, last_tied, last_short, last_none}
-use mathlib.Core.Path.{◌≡◌}
+use mathlib.Core.Path.{◌≡◌, ap, ◌∙◌}
+use Rattle.std.specs.Prelude.{Err}
+use Rattle.refusals.specs.Refusals.{refused}
 use Prim.Native.Nat.{ℕ}
 use Rattle.word.specs.Reply.{first_of}
 use Rattle.set_content.specs.Content.{set_content, content_chains, valued_in_lists, set_write_tests}
 use Rattle.word.proofs.ReplyLaws.{refusals}
 use borrow.Author.Rules.{rules}
-use Rattle.set_content.proofs.write_refusal.Goals as goal
-use Rattle.set_content.proofs.write_refusal.Goals.{After-share_a_bit, Else-share_a_bit}
+use Rattle.set_content.proofs.check_content.Goals as goal
+use Rattle.set_content.proofs.check_content.Goals.{After-share_a_bit, Else-share_a_bit}
 
 pub returns-then-is_bad_width : goal.returns-then-is_bad_width
 unfolding set_write_tests
@@ -85,22 +87,24 @@ passed c x last =
     c.has_spare_list.ensures c.if-has_spare_list.false (λ i. (c.shared_slice_known-3-1.given i).fits) c.share_a_bit.ensures) in
     let shared = valued in search refusals depth 24 fits 40000
 
-pub returns-then-number-ne0 : goal.returns-then-number-ne0
-returns-then-number-ne0 c =
-    passed (goal.at.returns-then-number-ne0 c).Else-share_a_bit _ (last_tied ((
+pub returns-in_err-check_ties : goal.returns-in_err-check_ties
+returns-in_err-check_ties c =
+    let kept : c.from_residual.result ≡ Err c.in_err-check_ties.field-0.0 = search rules in
+    ap refused kept
+    ∙ passed (goal.at.returns-in_err-check_ties c).Else-share_a_bit _ (last_tied ((
     let entry = c.args in
-    set_content entry.m entry.taps entry.inversion entry.spread.now entry.values.now entry.marks.now entry.s entry.ties.now)) ((c.args.room)) _ c.ties_refusal-number.ensures c.if-number-ne0.true)
+    set_content entry.m entry.taps entry.inversion entry.spread.now entry.values.now entry.marks.now entry.s entry.ties.now)) c.args.room _ c.in_err-check_ties.ensures)
 
 pub returns-then-lacks_room : goal.returns-then-lacks_room
 returns-then-lacks_room c =
     passed (goal.at.returns-then-lacks_room c).Else-share_a_bit _
     (last_short ((
     let entry = c.args in
-    set_content entry.m entry.taps entry.inversion entry.spread.now entry.values.now entry.marks.now entry.s entry.ties.now)) ((c.args.room)) _ c.ties_refusal-number.ensures _ (search rules) c.lacks_room.ensures c.if-lacks_room.true)
+    set_content entry.m entry.taps entry.inversion entry.spread.now entry.values.now entry.marks.now entry.s entry.ties.now)) c.args.room c.in_ok-check_ties.ensures _ c.lacks_room.ensures c.if-lacks_room.true)
 
 pub returns : goal.returns
 returns c =
     passed (goal.at.returns c).Else-share_a_bit _
     (last_none ((
     let entry = c.args in
-    set_content entry.m entry.taps entry.inversion entry.spread.now entry.values.now entry.marks.now entry.s entry.ties.now)) ((c.args.room)) _ c.ties_refusal-number.ensures _ (search rules) c.lacks_room.ensures c.if-lacks_room.false)
+    set_content entry.m entry.taps entry.inversion entry.spread.now entry.values.now entry.marks.now entry.s entry.ties.now)) c.args.room c.in_ok-check_ties.ensures _ c.lacks_room.ensures c.if-lacks_room.false)

@@ -1,6 +1,0 @@
--- `ties_refusal` meets its contract: the rows of the list by their place and stride.
-use Rattle.set_content.proofs.ContentLaws.{tied_lists}
-use Rattle.set_content.proofs.ties_refusal.Goals as goal
-
-pub returns : goal.returns
-returns c = tied_lists _ _ _ _ _ _ _ c.list_rows.ensures c.ties_refusal.ensures
