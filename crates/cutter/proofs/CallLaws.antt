@@ -9,28 +9,37 @@ use borrow.Author.Tests.{lt-ltb, le-ltb, ltb-false}
 use lib.Dec.{ltb}
 use lib.ListN.{length, take}
 use lib.Seq.{take_all}
-use Rattle.word.specs.Reply.{answer, refusal, first_of, number_of, front}
+use Rattle.word.specs.Reply.{answer, refusal, first_of, front}
 use Rattle.word.proofs.ReplyLaws.{refused_leaves, answered_writes}
-use Rattle.word.proofs.TestLaws.{first_of_later, first_sooner, replied_answer, replied_number, replied_not_zero}
+use Rattle.word.proofs.TestLaws.{first_of_later, first_sooner, replied_answer, replied_number}
 use Rattle.word.proofs.BoolLaws.{or_false_left, or_false_right}
 use Rattle.set_layout.specs.Layout.{width_of}
-use Rattle.set_file.specs.Reading.{set_tests}
+use Rattle.set_file.specs.Reading.{set_tests, set_reply}
 use Rattle.set_file.proofs.Laws.{set_numbered}
+use Rattle.set_file.proofs.ReadLaws.{refused_set}
 use Rattle.signatures.specs.Sets.{given}
-use Rattle.cutter.specs.Cutting.{bad_share, short_slice, starts_of, cut_parts_of, cut_tests, cut_reply, cuts_after, said_cut}
+use Rattle.cutter.specs.Cutting.{bad_share, short_slice, starts_of, CutParts, cut_parts_of, cut_tests, cut_reply, cuts_after, said_cut}
 use Rattle.cutter.specs.Turns.{said_slices, SlicedFor}
 use Rattle.cutter.specs.declared.Cutting.{Cutting}
-use Rattle.cutter.specs.declared.Cutting.TheVariants.{Runs, Refused}
-use Rattle.cutter.specs.declared.Slices.{Slices}
+use Rattle.std.specs.Prelude.{Result, Ok, Err}
+use Rattle.refusals.specs.declared.Refusal.{Refusal}
+use Rattle.refusals.specs.declared.Refusal.TheVariants.{Share, ShortCutList}
+use Rattle.refusals.specs.Refusals.{number}
+use Rattle.refusals.proofs.RefusalLaws.{not_zero, refused_call_leaves}
 
 -- what the call answers, c, and leaves in the cut list l, l'
-abbrev pub CutEnd : List ℕ → ℕ → List ℕ → Cutting → List ℕ → Type 0
+abbrev pub CutEnd : List ℕ → ℕ → List ℕ → Result Cutting Refusal → List ℕ → Type 0
 CutEnd set k l c l' = (said_cut c ≡ cut_reply set k (length l)) × (l' ≡ cuts_after set k l)
 
--- the set is refused with the number n
-pub ends_set : (set l : List ℕ) (k n : ℕ) → n ≡ first_of (set_tests set) → (n ≡ 0 → ⊥) → CutEnd set k l (Refused n) l
+abbrev cut_parts : Cutting → CutParts
+cut_parts c = record { runs = c.runs; bits = c.bits }
+
+-- the set is refused
+pub ends_set : (set l : List ℕ) (k : ℕ) (r : Result Cutting Refusal) (e : Refusal) → r ≡ Err e → refusal (number e) ≡ set_reply set → CutEnd set k l r l
 unfolding cut_reply cut_tests
-ends_set set l k n e h = refused_leaves _ n (cut_parts_of set k) (starts_of set k) l (first_sooner (set_tests set) _ n e h) h
+ends_set set l k r e is h =
+    refused_call_leaves cut_parts r e _ (cut_parts_of set k) (starts_of set k) l is
+    (first_sooner (set_tests set) _ (number e) (refused_set set (number e) h) (not_zero e))
 
 -- the control bits fit a word
 pub bits_fit : (m k n : ℕ) → m ≤ 64 → k ≤ m → n ≤ 512 → (m * k < 2 ^ 64) × (m * k * n < 2 ^ 64)
@@ -54,7 +63,7 @@ past_set : (set l : List ℕ) (k : ℕ) → first_of (set_tests set) ≡ 0 → f
 unfolding cut_tests
 past_set set l k none = first_of_later (set_tests set) _ (set_numbered set) none
 
-pub ends_26 : (set l : List ℕ) (k : ℕ) → first_of (set_tests set) ≡ 0 → bad_share (width_of set) k ≡ true → CutEnd set k l (Refused 26) l
+pub ends_26 : (set l : List ℕ) (k : ℕ) → first_of (set_tests set) ≡ 0 → bad_share (width_of set) k ≡ true → CutEnd set k l (Err Share) l
 unfolding cut_reply
 ends_26 set l k none applies =
     refused_leaves _ 26 (cut_parts_of set k) (starts_of set k) l (sym (past_set set l k none ∙ rw applies refl)) (λ z. omega arith)
@@ -62,33 +71,29 @@ ends_26 set l k none applies =
 -- ---- the slices have been gone through
 
 -- the set meets none of its numbers, k is 1 to m, and the slices come to r, with the first slices of the runs at the front of s
-pub record Passed (set : List ℕ) (k : ℕ) (s : List ℕ) (r : Slices) : Type 0 where
+pub record Passed (set : List ℕ) (k : ℕ) (s : List ℕ) (r : Result ℕ Refusal) : Type 0 where
   pub none : first_of (set_tests set) ≡ 0
   pub share : bad_share (width_of set) k ≡ false
   pub sliced : SlicedFor (given set) k s r
 
-module _ (set l : List ℕ) (k : ℕ) (s : List ℕ) (r : Slices) (passed : Passed set k s r) where
-  -- j is the number that `slices_number` gives
-  pub ends_27 : (n j : ℕ) → r ≡ Slices.Refused n → j ≡ number_of (said_slices r) → CutEnd set k l (Refused j) l
+module _ (set l : List ℕ) (k : ℕ) (s : List ℕ) (r : Result ℕ Refusal) (passed : Passed set k s r) where
+  pub ends_27 : (x : Result Cutting Refusal) (e : Refusal) → x ≡ Err e → r ≡ Err e → CutEnd set k l x l
   unfolding cut_reply starts_of
-  ends_27 n j er ej = go (short_slice (given set) k) refl
+  ends_27 x e is er = go (short_slice (given set) k) refl
     where
-      refused : said_slices r ≡ refusal n
+      refused : said_slices r ≡ refusal (number e)
       refused = ap said_slices er
 
-      same : j ≡ n
-      same = ej ∙ ap (λ (x : Slices). number_of (said_slices x)) er
-
-      go : (x : Bool) → short_slice (given set) k ≡ x → CutEnd set k l (Refused j) l
+      go : (b : Bool) → short_slice (given set) k ≡ b → CutEnd set k l x l
       go true h =
-          let number : n ≡ 27 = sym (replied_number 27 (length (starts_of set k)) n (sym (rw h at passed.sliced.reply) ∙ refused)) in
-          refused_leaves _ j (cut_parts_of set k) (starts_of set k) l (same ∙ number ∙ sym (past_set set l k passed.none ∙ rw (passed.share, h) refl))
-          (λ z. omega (arith, same, number))
+          let same : number e ≡ 27 = sym (replied_number 27 (length (starts_of set k)) (number e) (sym (rw h at passed.sliced.reply) ∙ refused)) in
+          refused_call_leaves cut_parts x e _ (cut_parts_of set k) (starts_of set k) l is
+          (same ∙ sym (past_set set l k passed.none ∙ rw (passed.share, h) refl))
       go false h =
-          let zero_number : n ≡ 0 = sym (replied_number 0 (length (starts_of set k)) n (sym (rw h at passed.sliced.reply) ∙ refused)) in
-          absurd (replied_not_zero 0 (length (starts_of set k)) n (sym (rw h at passed.sliced.reply) ∙ refused) zero_number)
+          let zero_number : number e ≡ 0 = sym (replied_number 0 (length (starts_of set k)) (number e) (sym (rw h at passed.sliced.reply) ∙ refused)) in
+          absurd (not_zero e zero_number)
 
-  module _ (n : ℕ) (er : r ≡ Slices.Cut n) where
+  module _ (n : ℕ) (er : r ≡ Ok n) where
     answered : said_slices r ≡ answer n
     answered = ap said_slices er
 
@@ -106,7 +111,7 @@ module _ (set l : List ℕ) (k : ℕ) (s : List ℕ) (r : Slices) (passed : Pass
     pub runs_few : n ≤ 512
     runs_few = passed.sliced.few n answered
 
-    pub ends_28 : length l < n → CutEnd set k l (Refused 28) l
+    pub ends_28 : length l < n → CutEnd set k l (Err ShortCutList) l
     unfolding cut_reply
     ends_28 h =
         let short : ltb (length l) (length (starts_of set k)) ≡ true = lt-ltb (length l) (length (starts_of set k)) (omega (arith, both.1)) in
@@ -114,7 +119,7 @@ module _ (set l : List ℕ) (k : ℕ) (s : List ℕ) (r : Slices) (passed : Pass
         (λ z. omega arith)
 
     pub ends_runs : (m i : ℕ) (l' : List ℕ) → n ≤ length l → m ≡ width_of set → i ≡ n → l' ≡ front (take (length l) (take n s)) l
-        → CutEnd set k l (Runs i (m * k * i)) l'
+        → CutEnd set k l (Ok (record { runs = i; bits = m * k * i })) l'
     unfolding cut_reply starts_of
     ends_runs m i l' h em ei el =
         let room : ltb (length l) (length (starts_of set k)) ≡ false = le-ltb (length l) (length (starts_of set k)) (omega (arith, both.1)) in

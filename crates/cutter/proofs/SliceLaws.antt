@@ -28,7 +28,9 @@ use Rattle.column_basis.specs.Basis.{Held}
 use Rattle.run_words.specs.Joining.{SlicePut}
 use Rattle.run_words.specs.declared.Turn.{Turn}
 use Rattle.cutter.specs.Turns.{Sound, seen, SlicedFor}
-use Rattle.cutter.specs.declared.Slices.{Slices}
+use Rattle.std.specs.Prelude.{Result, Ok, Err}
+use Rattle.refusals.specs.declared.Refusal.{Refusal}
+use Rattle.refusals.specs.declared.Refusal.TheVariants.{SliceShare}
 use Rattle.cutter.proofs.FrameLaws.{framed, framed_words}
 use Rattle.cutter.proofs.RunLaws.{CutTo, cut_starts, cut_turns, cut_short, cut_ends}
 use Rattle.cutter.proofs.SameLaws.{same_starts, same_short, sound_set}
@@ -65,7 +67,7 @@ module _ (set : List ℕ) (k : Taken) (taken : TakenFrom set k) (rows : Rows)
   }
 
   -- what the pass comes to is the set's
-  pub sliced_set : (κ : ℕ) (l : List ℕ) (r : Slices) → SlicedFor (seen k.register (take chains words) slices set rows) κ l r → SlicedFor (given set) κ l r
+  pub sliced_set : (κ : ℕ) (l : List ℕ) (r : Result ℕ Refusal) → SlicedFor (seen k.register (take chains words) slices set rows) κ l r → SlicedFor (given set) κ l r
   sliced_set κ l r so = record {
     reply =
         so.reply
@@ -79,7 +81,7 @@ module _ (set : List ℕ) (k : Taken) (taken : TakenFrom set k) (rows : Rows)
 no_answer : (n : ℕ) → refusal 27 ≡ answer n → ⊥
 no_answer n h = omega (arith, (replied_answer 27 0 n h).0)
 
-pub sliced_short : (g : Given) (κ : ℕ) (l : List ℕ) → short_slice g κ ≡ true → SlicedFor g κ l (Slices.Refused 27)
+pub sliced_short : (g : Given) (κ : ℕ) (l : List ℕ) → short_slice g κ ≡ true → SlicedFor g κ l (Err SliceShare)
 sliced_short g κ l short = record {
   reply = sym (rw short refl);
   starts = λ n h. absurd (no_answer n h);
@@ -87,7 +89,7 @@ sliced_short g κ l short = record {
 }
 
 pub sliced_all : (g : Given) → Sound g.wiring → (κ t runs : ℕ) (h l : List ℕ) → 1 ≤ κ → t ≡ g.slices → runs ≤ 512 → length l ≡ 512
-    → CutTo g κ t runs h l → SlicedFor g κ l (Slices.Cut runs)
+    → CutTo g κ t runs h l → SlicedFor g κ l (Ok runs)
 sliced_all g sound κ t runs h l some et few long so_far =
     let ends = cut_ends g sound κ some t runs h l et so_far in
     let none : short_slice g κ ≡ false = ends.0 in
@@ -110,14 +112,14 @@ pub held_starts : (g : Given) → Sound g.wiring → (k : ℕ) → 1 ≤ k → (
 held_starts g sound k some basis dead l h = record { words = []; hold = h; cut = cut_starts g sound k some [] l refl }
 
 pub held_all : (g : Given) → Sound g.wiring → (κ t runs : ℕ) (basis : List ℕ) (dead : ℕ) (l : List ℕ) → 1 ≤ κ → t ≡ g.slices → runs ≤ 512 → length l ≡ 512
-    → CutHeld g κ t runs basis dead l → SlicedFor g κ l (Slices.Cut runs)
+    → CutHeld g κ t runs basis dead l → SlicedFor g κ l (Ok runs)
 held_all g sound κ t runs basis dead l some et few long so_far = sliced_all g sound κ t runs so_far.words l some et few long so_far.cut
 
 -- what one slice of the pass does with the chains' words, which become ws', the words that the run so far leaves, beside which the basis stands
 -- before and after, and the first slices l of the runs so far
 pub record SlicePassed (g : Given) (table : List ℕ) (k t runs : ℕ) (ws' basis : List ℕ) (dead : ℕ) (basis' l : List ℕ) (turn : Turn) : Type 0 where
   pub words : EightBack g.wiring table → ws' ≡ earlier_words g.wiring (eights (t + 1)) g.wiring.spread
-  pub short : Sound g.wiring → EightBack g.wiring table → 1 ≤ k → CutHeld g k t runs basis dead l → turn.left < k → SlicedFor g k l (Slices.Refused 27)
+  pub short : Sound g.wiring → EightBack g.wiring table → 1 ≤ k → CutHeld g k t runs basis dead l → turn.left < k → SlicedFor g k l (Err SliceShare)
   pub next : Sound g.wiring → EightBack g.wiring table → 1 ≤ k → CutHeld g k t runs basis dead l → k ≤ turn.left
       → CutHeld g k (t + 1) (runs + turn.opened) basis' turn.dead (set l runs t)
 

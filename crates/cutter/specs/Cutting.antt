@@ -19,9 +19,9 @@
 --   cut_reply set k room  its reply
 --   cuts_after set k l    the cut list l at exit
 --   said_cut c            the paper's reading of what the call hands back
-use Rattle.std.specs.Prelude.{Bool, cond, ◌||◌, List, [], ◌∷◌, ◌++◌, ℕ, zero, suc, ◌+◌, ◌-◌, ◌*◌, ◌≤◌, ◌<◌, leb, ltb, length}
+use Rattle.std.specs.Prelude.{Bool, cond, ◌||◌, List, [], ◌∷◌, ◌++◌, ℕ, zero, suc, ◌+◌, ◌-◌, ◌*◌, ◌≤◌, ◌<◌, leb, ltb, length, Result}
 use Rattle.word.specs.Some.{any_below}
-use Rattle.word.specs.Reply.{Test, ◌when◌, Reply, answer, refusal, reply, lent}
+use Rattle.word.specs.Reply.{Test, ◌when◌, Reply, reply, lent}
 use Rattle.combinations.specs.Combination.{rank}
 use Rattle.set_layout.specs.Layout.{width_of}
 use Rattle.set_file.specs.Reading.{set_tests}
@@ -31,7 +31,8 @@ use Rattle.signatures.specs.Free.{free_columns_for}
 use Rattle.signatures.specs.Sets.{given}
 use Rattle.cutter.specs.Greatest.{greatest}
 use Rattle.cutter.specs.declared.Cutting.{Cutting}
-use Rattle.cutter.specs.declared.Cutting.TheVariants.{Runs, Refused}
+use Rattle.refusals.specs.declared.Refusal.{Refusal}
+use Rattle.refusals.specs.Refusals.{replied_by}
 
 abbrev pub alone : Given → ℕ → ℕ → Given
 alone g a b =
@@ -97,6 +98,5 @@ cut_reply set k room = reply (cut_tests set k room) (cut_parts_of set k)
 abbrev pub cuts_after : List ℕ → ℕ → List ℕ → List ℕ
 cuts_after set k l = lent (cut_reply set k (length l)) (starts_of set k) l
 
-abbrev pub said_cut : Cutting → Reply CutParts
-said_cut (Runs n b) = answer (record { runs = n; bits = b })
-said_cut (Refused n) = refusal n
+abbrev pub said_cut : Result Cutting Refusal → Reply CutParts
+said_cut = replied_by (λ (c : Cutting). record { runs = c.runs; bits = c.bits })

@@ -5,42 +5,29 @@
 #![tactic(auto)]
 
 ghost use Rattle.std.specs.Prelude.{◌≡◌, ◌≤◌, length};
-ghost use Rattle.word.specs.Reply.{number_of};
 ghost use Rattle.set_file.specs.Reading.{TakenFrom};
 ghost use Rattle.signatures.specs.Sets.{given};
 ghost use Rattle.unclocking.specs.Unclocked.{EightBack};
 ghost use Rattle.cutter.specs.Cutting.{bad_share, cut_reply, cuts_after, said_cut};
-ghost use Rattle.cutter.specs.Turns.{Sound, seen, said_slices, SlicedFor};
+ghost use Rattle.cutter.specs.Turns.{Sound, seen, SlicedFor};
 
+use refusals::Refusal;
 use register::Register;
 use rows::Rows;
-use set_file::{SetAnswer, Taken};
+use set_file::Taken;
 
-// What cutting answers: the number of runs and the control bits in all, or the first number that applies.
-#[derive(Drop)]
-pub enum Cutting {
-    Runs { runs: u64, bits: u64 },
-    Refused { number: u64 },
-}
-
-// What the slices come to: so many runs, or 27.
-#[derive(Drop)]
-enum Slices {
-    Cut { runs: usize },
-    Refused { number: u64 },
+// What cutting answers: the number of runs and the control bits in all.
+#[derive(Clone, Copy)]
+pub struct Cutting {
+    pub runs: u64,
+    pub bits: u64,
 }
 
 // Number 26: whether k isn't 1 to m.
 fn is_bad_share(m: u64, k: u64) -> bool
     ensures { result ≡ bad_share m k }
 {
-    (k < 1) | (m < k)
-}
-
-fn no_starts() -> [u64; 512]
-    ensures { length result ≡ 512 }
-{
-    [0u64; 512]
+    !(1..=m).contains(&k)
 }
 
 // The slices one after the other, as many as there are rows of marks to go through: the first slice of each run over the front of `starts`, and
@@ -54,17 +41,16 @@ fn pass_slices(
     k: usize,
     words: &mut [u64],
     starts: &mut [u64],
-) -> Slices
+) -> Result<usize, Refusal>
     requires { (slices ≤ 512) × (length words.old ≤ 256) × (length starts.old ≡ 512) }
     ensures { Sound (seen register words.old slices list.now marks).wiring → EightBack (seen register words.old slices list.now marks).wiring table.now → 1 ≤ k → SlicedFor (seen register words.old slices list.now marks) k starts.new result }
 {
     let width = register::width_limit(register.m) as usize;
-    let mut columns = set_layout::no_words();
+    let mut columns = [0; 256];
     let mut basis = column_basis::unit_words();
     let mut dead = turned_words::dead_behind(0);
     let mut runs: usize = 0;
-    let mut t: u16 = 0;
-    while t < slices {
+    for t in 0..slices {
         let place = slice_columns::next_columns(
             register,
             table,
@@ -79,17 +65,16 @@ fn pass_slices(
         let left = turn.left;
         let leaves_too_few = left < k;
         if leaves_too_few {
-            return Slices::Refused { number: 27 };
+            return Err(Refusal::SliceShare);
         }
         starts[runs] = t as u64;
         runs += turn.opened;
-        t += 1;
     }
-    Slices::Cut { runs }
+    Ok(runs)
 }
 
 // The slices of a taken set: the first slice of each run over the front of `starts`, and how many there are; or 27.
-fn cut_slices(taken: Taken, set: &[u8], k: usize, starts: &mut [u64]) -> Slices
+fn cut_slices(taken: Taken, set: &[u8], k: usize, starts: &mut [u64]) -> Result<usize, Refusal>
     requires { length starts.old ≡ 512 }
     ensures { TakenFrom set.now taken → 1 ≤ k → SlicedFor (given set.now) k starts.new result }
 {
@@ -97,8 +82,7 @@ fn cut_slices(taken: Taken, set: &[u8], k: usize, starts: &mut [u64]) -> Slices
     let chains = register::chain_limit(taken.n);
     let slices = register::slice_limit(taken.s);
     let marks = set_layout::mark_rows(taken.n);
-    let spread = taken.spread;
-    let mut words = chains::all_words(spread);
+    let mut words = taken.spread;
     let table = unclocking::eight_back(register);
     pass_slices(
         register,
@@ -112,55 +96,27 @@ fn cut_slices(taken: Taken, set: &[u8], k: usize, starts: &mut [u64]) -> Slices
     )
 }
 
-// The refusal's number; 0 of an answer.
-fn slices_number(slices: Slices) -> u64
-    ensures { result ≡ number_of (said_slices slices) }
-{
-    match slices {
-        Slices::Cut { runs: _ } => 0,
-        Slices::Refused { number } => number,
-    }
-}
-
 // Cutting of document 02. Answers with the number of runs and the control bits in all, m × k for each run, and writes the first slice of
 // each run over the front of `cuts`. Meets the set's numbers, then 26, 27 and 28. A refusal writes nothing. The set's values change nothing
 // of what it answers and writes (proofs/Theorems.antt, same_cut_reply, same_cuts_after).
-pub fn cut(set: &[u8], k: u64, cuts: &mut [u64]) -> Cutting
+pub fn cut(set: &[u8], k: u64, cuts: &mut [u64]) -> Result<Cutting, Refusal>
     ensures answer { said_cut result ≡ cut_reply set.now k (length cuts.old) }
     ensures cuts { cuts.new ≡ cuts_after set.now k cuts.old }
 {
-    let read = set_file::read_set(set);
-    let answer = read.answer;
-    let SetAnswer::Read { register, n, s } = answer else {
-        return Cutting::Refused {
-            number: set_file::number_of(answer),
-        };
-    };
-    let m = register.m;
+    let taken = set_file::read_set(set)?;
+    let m = taken.register.m;
     if is_bad_share(m, k) {
-        return Cutting::Refused { number: 26 };
+        return Err(Refusal::Share);
     }
-    let spread = read.spread;
-    let taken = Taken {
-        register,
-        n,
-        s,
-        spread,
-    };
-    let mut starts = no_starts();
-    let slices = cut_slices(taken, set, k as usize, &mut starts);
-    let Slices::Cut { runs } = slices else {
-        return Cutting::Refused {
-            number: slices_number(slices),
-        };
-    };
+    let mut starts = [0; 512];
+    let runs = cut_slices(taken, set, k as usize, &mut starts)?;
     if cuts.len() < runs {
-        return Cutting::Refused { number: 28 };
+        return Err(Refusal::ShortCutList);
     }
     elimination::write_front(cuts, &starts[..runs]);
     let count = runs as u64;
-    Cutting::Runs {
+    Ok(Cutting {
         runs: count,
         bits: m * k * count,
-    }
+    })
 }

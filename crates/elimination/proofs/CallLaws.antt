@@ -17,23 +17,26 @@ use Rattle.combinations.specs.Reduced.{reduced_list}
 use Rattle.combinations.specs.Step.{steps, units}
 use Rattle.elimination.specs.Elimination.{elimination_reply, said}
 use Rattle.elimination.specs.declared.Eliminated.{Eliminated}
-use Rattle.elimination.specs.declared.Eliminated.TheVariants.{Done, Refused}
+use Rattle.std.specs.Prelude.{Result, Ok, Err}
+use Rattle.refusals.specs.declared.Refusal.{Refusal}
+use Rattle.refusals.specs.declared.Refusal.TheVariants.{Width, Column, NoCombination, ShortWordList}
+use Rattle.refusals.specs.Refusals.{number}
 use Rattle.combinations.proofs.Theorems.{kept_list, words_and_rank, only_empty_list}
 use Rattle.elimination.proofs.Theorems.{reply_2, reply_15, reply_17, reply_18, reply_done}
 use Rattle.combinations.proofs.Units.{length_units, units_front}
 
 -- what the call answers, e, and leaves in the list l, l'
-abbrev pub Ends : ℕ → List ℕ → List ℕ → Eliminated → List ℕ → Type 0
+abbrev pub Ends : ℕ → List ℕ → List ℕ → Result Eliminated Refusal → List ℕ → Type 0
 Ends m cs l e l' = Leaves (elimination_reply m cs (length l)) (reduced_list m cs) (said e) l l'
 
-ends_refused : (m : ℕ) (cs l : List ℕ) (e : Eliminated) (n : ℕ) → e ≡ Refused n → elimination_reply m cs (length l) ≡ refusal n → Ends m cs l e l
-ends_refused m cs l e n r h = refusal_leaves _ (said e) n (reduced_list m cs) l h (ap said r)
+ends_refused : (m : ℕ) (cs l : List ℕ) (e : Refusal) → elimination_reply m cs (length l) ≡ refusal (number e) → Ends m cs l (Err e) l
+ends_refused m cs l e h = refusal_leaves _ (refusal (number e)) (number e) (reduced_list m cs) l h refl
 
-pub ends_2 : (m : ℕ) (cs l : List ℕ) (e : Eliminated) (b : Bool) → b ≡ bad_width m → b ≡ true → e ≡ Refused 2 → Ends m cs l e l
-ends_2 m cs l e b w t r = ends_refused m cs l e 2 r (reply_2 m cs (length l) (sym w ∙ t))
+pub ends_2 : (m : ℕ) (cs l : List ℕ) (b : Bool) → b ≡ bad_width m → b ≡ true → Ends m cs l (Err Width) l
+ends_2 m cs l b w t = ends_refused m cs l Width (reply_2 m cs (length l) (sym w ∙ t))
 
-pub ends_15 : (m : ℕ) (cs l : List ℕ) (e : Eliminated) (b d : Bool) → b ≡ bad_width m → b ≡ false → d ≡ any_of (beyond m) cs → d ≡ true → e ≡ Refused 15 → Ends m cs l e l
-ends_15 m cs l e b d w f x t r = ends_refused m cs l e 15 r (reply_15 m cs (length l) (sym w ∙ f) (sym x ∙ t))
+pub ends_15 : (m : ℕ) (cs l : List ℕ) (b d : Bool) → b ≡ bad_width m → b ≡ false → d ≡ any_of (beyond m) cs → d ≡ true → Ends m cs l (Err Column) l
+ends_15 m cs l b d w f x t = ends_refused m cs l Column (reply_15 m cs (length l) (sym w ∙ f) (sym x ∙ t))
 
 -- past 15: the width and the columns are right, and q counts the words that the steps left
 pub record Kept (m : ℕ) (cs : List ℕ) (q : ℕ) : Type 0 where
@@ -41,18 +44,18 @@ pub record Kept (m : ℕ) (cs : List ℕ) (q : ℕ) : Type 0 where
   pub columns : any_of (beyond m) cs ≡ false
   pub count : q ≡ length (reduced_list m cs)
 
-pub ends_17 : (m : ℕ) (cs l : List ℕ) (e : Eliminated) (q : ℕ) → Kept m cs q → q ≡ 0 → e ≡ Refused 17 → Ends m cs l e l
-ends_17 m cs l e q g z r =
-    ends_refused m cs l e 17 r
+pub ends_17 : (m : ℕ) (cs l : List ℕ) (q : ℕ) → Kept m cs q → q ≡ 0 → Ends m cs l (Err NoCombination) l
+ends_17 m cs l q g z =
+    ends_refused m cs l NoCombination
     (reply_17 m cs (length l) g.width g.columns
     (only_empty_list m cs ∙ eq-eqb (length (reduced_list m cs)) 0 (sym g.count ∙ z)))
 
 some_word : (m : ℕ) (cs : List ℕ) (q : ℕ) → Kept m cs q → (q ≡ 0 → ⊥) → only_empty m cs ≡ false
 some_word m cs q g n = only_empty_list m cs ∙ ne_eqb (length (reduced_list m cs)) 0 (λ z. n (g.count ∙ z))
 
-pub ends_18 : (m : ℕ) (cs l : List ℕ) (e : Eliminated) (q : ℕ) → Kept m cs q → (q ≡ 0 → ⊥) → length l < q → e ≡ Refused 18 → Ends m cs l e l
-ends_18 m cs l e q g n h r =
-    ends_refused m cs l e 18 r
+pub ends_18 : (m : ℕ) (cs l : List ℕ) (q : ℕ) → Kept m cs q → (q ≡ 0 → ⊥) → length l < q → Ends m cs l (Err ShortWordList) l
+ends_18 m cs l q g n h =
+    ends_refused m cs l ShortWordList
     (reply_18 m cs (length l) g.width g.columns (some_word m cs q g n)
     (lt-ltb (length l) (length (reduced_list m cs)) (subst (λ (x : ℕ). length l < x) g.count h)))
 
@@ -64,7 +67,7 @@ done_reply m cs l q g n h =
 
 -- `from` is what was written over the front
 pub ends_done : (m : ℕ) (cs l l' from : List ℕ) (q : ℕ) → Kept m cs q → (q ≡ 0 → ⊥) → q ≤ length l → from ≡ reduced_list m cs
-    → l' ≡ front (take (length l) from) l → Ends m cs l (Done (m - q) q) l'
+    → l' ≡ front (take (length l) from) l → Ends m cs l (Ok (record { rank = m - q; q = q })) l'
 ends_done m cs l l' from q g n h e w =
     let ranked : m - q ≡ rank cs = omega (arith, words_and_rank m cs g.columns, g.count) in
     let fits : length from ≤ length l = omega (arith, ap length e, g.count) in

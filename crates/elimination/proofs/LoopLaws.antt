@@ -1,27 +1,28 @@
 -- The start, turn and end of the loops over columns and over words. Assumes nothing.
 use mathlib.Core.Path.{◌≡◌, refl, sym, ap, ap₂, ◌∙◌, subst}
 use mathlib.Core.Bool.{Bool, true, false, ◌||◌}
-use mathlib.Core.List.{List, [], ◌++◌, append-nil}
-use Prim.Native.Nat.{ℕ, zero, suc, ◌+◌, ◌-◌, ◌^◌, ◌<◌, ◌≤◌}
-use native.Mathlib.Nat.{le_refl, lt_of_lt_of_le}
+use mathlib.Core.List.{List, [], ◌∷◌, ◌++◌, append-nil}
+use Prim.Native.Nat.{ℕ, zero, suc, min, ◌+◌, ◌-◌, ◌^◌, ◌<◌, ◌≤◌}
+use native.Mathlib.Nat.{le_refl, lt_of_lt_of_le, zero-min, min-zero, suc-min-suc}
 use native.Mathlib.Numerals.{add-one}
 use native.Mathlib.Omega.{arith}
 use borrow.Author.Tests.{lt-leb, leb-false, le-leb, leb-true}
 use lib.Bits.{bit_or, or_lt, or_add_and, and_le_l, and_le_r}
 use lib.Dec.{leb}
-use lib.ListN.{length, get_or, take, drop, length-append, length-drop, drop_of_length-le, take-append-drop}
+use lib.ListN.{length, get_or, take, drop, length-append, length-drop, drop_of_length-le, take-append-drop, length-take}
 use lib.Pow.{pow_pos, pow_mono}
 use lib.Seq.{drop-cons, take_all, take-length, take-append-le, take-append_seam, length-take-le}
 use Rattle.word.specs.Word.{beyond}
-use Rattle.word.specs.Some.{any_of, any_below}
+use Rattle.word.specs.Some.{any_of}
 use Rattle.word.specs.Reply.{front}
 use Rattle.word.specs.Zeros.{zeros, filled}
-use Rattle.word.proofs.SomeLaws.{any_of_below, any_of_none}
+use Rattle.std.specs.List.{fold}
+use Rattle.word.proofs.BoolLaws.{or_none}
+use Rattle.word.proofs.SomeLaws.{any_of_none}
 use Rattle.word.proofs.WordLaws.{not_beyond}
 use Rattle.combinations.specs.Step.{step, steps}
 use Rattle.spread_words.specs.Spread.{FirstTaken}
 use Rattle.spread_words.specs.declared.Begun.{Begun}
-use Rattle.elimination.specs.Code.{or_below}
 use Rattle.combinations.proofs.StepLaws.{steps_none, steps_append}
 use Rattle.combinations.proofs.Portions.{steps_most}
 
@@ -39,31 +40,38 @@ beyond_or m a b = go (leb (2 ^ m) a) (leb (2 ^ m) b) refl refl
     go false false ex ey =
         rw (ex, ey) (lt-leb (2 ^ m) (bit_or a b) (or_lt m a b (leb-false (2 ^ m) a ex) (leb-false (2 ^ m) b ey)))
 
-or_below_beyond : (m : ℕ) (ws : List ℕ) (i : ℕ) → beyond m (or_below ws i) ≡ any_below i (λ k. beyond m (get_or ws k 0))
-unfolding or_below any_below beyond
-or_below_beyond m ws zero = lt-leb (2 ^ m) 0 (pow_pos m)
-or_below_beyond m ws (suc i) =
-    beyond_or m (or_below ws i) (get_or ws i 0) ∙ ap (λ (b : Bool). b || beyond m (get_or ws i 0)) (or_below_beyond m ws i)
+or_from : (m a : ℕ) (ws : List ℕ) → beyond m (fold bit_or a ws) ≡ (beyond m a || any_of (beyond m) ws)
+unfolding any_of
+or_from m a [] = sym (or_none (beyond m a))
+or_from m a (w ∷ ws) =
+    or_from m (bit_or a w) ws ∙ ap (λ (b : Bool). b || any_of (beyond m) ws) (beyond_or m a w) ∙ both (beyond m a) (beyond m w) (any_of (beyond m) ws)
+  where
+    both : (a b c : Bool) → (a || b || c) ≡ (a || (b || c))
+    both true b c = refl
+    both false b c = refl
 
-pub or_all_beyond : (m : ℕ) (ws : List ℕ) → beyond m (or_below ws (length ws)) ≡ any_of (beyond m) ws
-or_all_beyond m ws = or_below_beyond m ws (length ws) ∙ sym (any_of_below (beyond m) 0 ws)
+pub or_beyond : (ws : List ℕ) (all : ℕ) → all ≡ fold bit_or 0 ws → (m : ℕ) → beyond m all ≡ any_of (beyond m) ws
+unfolding beyond
+or_beyond ws all e m =
+    ap (beyond m) e ∙ or_from m 0 ws ∙ ap (λ (b : Bool). b || any_of (beyond m) ws) (lt-leb (2 ^ m) 0 (pow_pos m))
 
 -- no word has a bit at or above 64
 pub none_beyond : (m : ℕ) (ws : List ℕ) → 64 ≤ m → ((i : ℕ) → get_or ws i 0 < 2 ^ 64) → false ≡ any_of (beyond m) ws
 none_beyond m ws h small = sym (any_of_none (beyond m) 0 ws (λ i l. not_beyond m (get_or ws i 0) (lt_of_lt_of_le (small i) (pow_mono h))))
 
-pub or_start : (ws : List ℕ) → 0 ≡ or_below ws 0
-unfolding or_below
-or_start ws = refl
+-- ---- a list copied over the front of another, as much of it as there is room for
 
-pub or_turn : (ws : List ℕ) (i all : ℕ) → all ≡ or_below ws i → bit_or all (get_or ws i 0) ≡ or_below ws (i + 1)
-unfolding or_below
-or_turn ws i all e = ap (λ (x : ℕ). bit_or x (get_or ws i 0)) e ∙ ap (or_below ws) (sym (add-one i))
+take_least : (a : ℕ) (vs : List ℕ) → take (min a (length vs)) vs ≡ take a vs
+take_least zero vs = ap (λ (k : ℕ). take k vs) (zero-min (length vs))
+take_least (suc a) [] = ap (λ (k : ℕ). take {A = ℕ} k []) (min-zero (suc a))
+take_least (suc a) (v ∷ vs) = ap (λ (k : ℕ). take k (v ∷ vs)) (suc-min-suc a (length vs)) ∙ ap (λ (x : List ℕ). v ∷ x) (take_least a vs)
 
-pub or_end : (ws : List ℕ) (i all : ℕ) → all ≡ or_below ws i → i ≤ length ws → length ws ≤ i → all ≡ or_below ws (length ws)
-or_end ws i all e a b =
-    let same : i ≡ length ws = omega arith in
-    e ∙ ap (or_below ws) same
+pub front_copied : (vs l part : List ℕ) (n : ℕ) → n ≡ min (length l) (length vs) → part ≡ take n vs → part ++ drop n l ≡ front (take (length l) vs) l
+unfolding front
+front_copied vs l part n e p =
+    let long : n ≡ length (take (length l) vs) = e ∙ sym (length-take (length l) vs) in
+    let same : take n vs ≡ take (length l) vs = ap (λ (k : ℕ). take k vs) e ∙ take_least (length l) vs in
+    ap₂ (λ (x : List ℕ) (k : ℕ). x ++ drop k l) (p ∙ same) long
 
 -- ---- the columns one after the other
 

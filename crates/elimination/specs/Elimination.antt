@@ -6,14 +6,15 @@
 --   elimination_tests     the numbers that the call meets, in order, for width m, columns cs and a lent list of k places
 --   elimination_reply     its reply
 --   said e               the paper's reading of what the function hands back
-use Rattle.std.specs.Prelude.{List, [], ◌∷◌, ℕ, ltb, length}
+use Rattle.std.specs.Prelude.{List, [], ◌∷◌, ℕ, ltb, length, Result}
 use Rattle.word.specs.Word.{beyond, bad_width}
 use Rattle.word.specs.Some.{any_of}
-use Rattle.word.specs.Reply.{Test, ◌when◌, Reply, answer, refusal, reply}
+use Rattle.word.specs.Reply.{Test, ◌when◌, Reply, reply}
 use Rattle.combinations.specs.Combination.{rank, only_empty}
 use Rattle.combinations.specs.Reduced.{reduced_list}
 use Rattle.elimination.specs.declared.Eliminated.{Eliminated}
-use Rattle.elimination.specs.declared.Eliminated.TheVariants.{Done, Refused}
+use Rattle.refusals.specs.declared.Refusal.{Refusal}
+use Rattle.refusals.specs.Refusals.{replied_by}
 
 pub record Counts : Type 0 where
   pub rank : ℕ
@@ -31,6 +32,5 @@ unfoldable pub elimination_reply : ℕ → List ℕ → ℕ → Reply Counts
 elimination_reply m cs k =
     reply (elimination_tests m cs k) (record { rank = rank cs; q = length (reduced_list m cs) })
 
-abbrev pub said : Eliminated → Reply Counts
-said (Done r n) = answer (record { rank = r; q = n })
-said (Refused n) = refusal n
+abbrev pub said : Result Eliminated Refusal → Reply Counts
+said = replied_by (λ (e : Eliminated). record { rank = e.rank; q = e.q })

@@ -1,2 +1,1 @@
 pub mod Elimination
-pub mod Code

@@ -1,21 +1,22 @@
 // The elimination: a width and columns in, the rank and the reduced X-free list out. It knows nothing of registers, sets or files.
 #![tactic(auto)]
 
-ghost use Rattle.std.specs.Prelude.{◌≡◌, ◌≤◌, length, take, drop};
+ghost use Rattle.std.specs.Prelude.{◌≡◌, ℕ, ◌≤◌, length, take, drop};
 ghost use Rattle.word.specs.Word.{beyond};
 ghost use Rattle.word.specs.Some.{any_of};
-ghost use Rattle.word.specs.Reply.{front, lent, number_of};
+ghost use Rattle.word.specs.Reply.{front, lent};
 ghost use Rattle.word.specs.Zeros.{filled};
 ghost use Rattle.combinations.specs.Reduced.{reduced_list};
 ghost use Rattle.combinations.specs.Step.{steps, units};
-ghost use Rattle.elimination.specs.Code.{or_below};
 ghost use Rattle.elimination.specs.Elimination.{elimination_reply, said};
 
-// What the elimination answers: the rank and the number of words, or the first number that applies.
-#[derive(Drop)]
-pub enum Eliminated {
-    Done { rank: u64, q: u64 },
-    Refused { number: u64 },
+use refusals::Refusal;
+
+// What the elimination answers: the rank and the number of words.
+#[derive(Clone, Copy)]
+pub struct Eliminated {
+    pub rank: u64,
+    pub q: u64,
 }
 
 // The place of the column to take next, `from` or later: the columns passed over leave the words as they are. It looks for such
@@ -43,6 +44,7 @@ fn reduce_plainly(held: &mut [u64], columns: &[u64]) -> usize
 {
     let mut left = held.len();
     let mut i: usize = 0;
+    // no plainer: `next_place` says which column comes next.
     while i < columns.len() {
         if left == 0 {
             return 0;
@@ -76,17 +78,11 @@ pub fn add_columns(words: &mut [u64], columns: &[u64]) -> usize
     left
 }
 
-// The OR of all words.
+// The OR of all words: it has a bit at or above a width exactly where one of them has.
 fn or_all(words: &[u64]) -> u64
-    ensures { result ≡ or_below words.now (length words.now) }
+    ensures { (m : ℕ) → beyond m result ≡ any_of (beyond m) words.now }
 {
-    let mut all: u64 = 0;
-    let mut i: usize = 0;
-    while i < words.len() {
-        all = all | words[i];
-        i += 1;
-    }
-    all
+    words.iter().fold(0, |all, word| all | word)
 }
 
 // Whether some column has a bit at or above m. No word has a bit at or above 64.
@@ -110,33 +106,21 @@ pub fn unit_words() -> [u64; 64]
 pub fn write_front(words: &mut [u64], from: &[u64])
     ensures { words.new ≡ front (take (length words.old) from.now) words.old }
 {
-    let mut i: usize = 0;
-    while i < from.len() {
-        if words.len() <= i {
-            return;
-        }
-        words[i] = from[i];
-        i += 1;
-    }
-}
-
-fn refused(number: u64) -> Eliminated
-    ensures { result ≡ Eliminated.Refused number }
-{
-    Eliminated::Refused { number }
+    let room = words.len().min(from.len());
+    words[..room].copy_from_slice(&from[..room]);
 }
 
 // The elimination of document 01. Answers with the rank and q, and writes the q words of the reduced list over the front of
 // `words`; the rest of it stays. Meets 2, 15, 17 and 18, in that order; a refusal writes nothing.
-pub fn eliminate(m: u64, columns: &[u64], words: &mut [u64]) -> Eliminated
+pub fn eliminate(m: u64, columns: &[u64], words: &mut [u64]) -> Result<Eliminated, Refusal>
     ensures answer { said result ≡ elimination_reply m columns.now (length words.old) }
     ensures list { words.new ≡ lent (elimination_reply m columns.now (length words.old)) (reduced_list m columns.now) words.old }
 {
     if word::is_bad_width(m) {
-        return refused(2);
+        return Err(Refusal::Width);
     }
     if has_column_beyond(m, columns) {
-        return refused(15);
+        return Err(Refusal::Column);
     }
     let width = m as usize;
     let mut held = unit_words();
@@ -144,24 +128,14 @@ pub fn eliminate(m: u64, columns: &[u64], words: &mut [u64]) -> Eliminated
     let rank = width - q;
     let is_empty = q == 0;
     if is_empty {
-        return refused(17);
+        return Err(Refusal::NoCombination);
     }
     if words.len() < q {
-        return refused(18);
+        return Err(Refusal::ShortWordList);
     }
     write_front(words, &held[..q]);
-    Eliminated::Done {
+    Ok(Eliminated {
         rank: rank as u64,
         q: q as u64,
-    }
-}
-
-// The refusal's number; 0 of an answer.
-pub fn number_of(answer: Eliminated) -> u64
-    ensures { result ≡ number_of (said answer) }
-{
-    match answer {
-        Eliminated::Done { rank: _, q: _ } => 0,
-        Eliminated::Refused { number } => number,
-    }
+    })
 }

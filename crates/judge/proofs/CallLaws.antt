@@ -1,35 +1,40 @@
 -- The loop over the plan's words, and each way out of judging. Assumes nothing.
 use mathlib.Core.Path.{◌≡◌, refl, sym, ap, ap₂, ◌∙◌, subst}
-use mathlib.Core.Bool.{Bool, true, false, not, ◌||◌}
+use mathlib.Core.Bool.{Bool, true, false, not}
 use mathlib.Core.List.{List, [], ◌∷◌}
 use Prim.Native.Nat.{ℕ, zero, suc, ◌+◌, ◌*◌, ◌%◌, ◌^◌, ◌<◌, ◌≤◌}
 use native.Mathlib.Nat.{mul-le-mul_right, mul_assoc, pow-suc, not-suc-le-zero, le_of_suc-le-suc}
 use native.Mathlib.Numerals.{add-one}
 use native.Mathlib.Omega.{arith}
-use borrow.Author.Tests.{lt-ltb, le-ltb, ltb-false}
+use borrow.Author.Tests.{not-true, not-false}
 use lib.Bits.{bit_xor}
 use lib.Count.{count_trailing_zeros}
-use lib.Dec.{ltb}
 use lib.ListN.{length, get_or, take}
 use lib.Pow.{pow_mono, shl_exact}
 use lib.Seq.{take_all, length-take-le}
 use Rattle.word.specs.Word.{beyond, parity}
 use Rattle.numbers.specs.Bytes.{word_at, words_at}
 use Rattle.word.specs.Parities.{parities}
-use Rattle.word.specs.Reply.{answer, refusal, replied, first_of, number_of, ◌when◌}
+use Rattle.word.specs.Reply.{answer, refusal, replied, first_of, ◌when◌}
 use Rattle.numbers.proofs.ByteLaws.{length_words_at}
 use Rattle.numbers.proofs.FileLaws.{word_at_place}
 use Rattle.word.proofs.Laws.{parity_lt, parities_lt}
-use Rattle.word.proofs.BoolLaws.{or_false_left, true_not_false}
+use Rattle.word.proofs.BoolLaws.{true_not_false}
 use Rattle.combinations.specs.Pass.{with_top}
 use Rattle.combinations.specs.Reduced.{is_reduced}
 use Rattle.reduced_list.specs.TopPass.{next_above}
 use Rattle.plan_file.specs.Layout.{again_at, file_width, file_count, file_words, file_expected}
 use Rattle.plan_file.specs.Checking.{Listed, PlanFileParts, file_parts, plan_check_reply, said_checked}
-use Rattle.plan_file.specs.declared.PlanCheck.{PlanCheck}
-use Rattle.plan_file.proofs.Laws.{Taken, taken_long, told_refused, told_sound, refused_plan, sound_plan}
+use Rattle.plan_file.specs.declared.PlanHead.{PlanHead}
+use Rattle.std.specs.Prelude.{Result, Ok, Err, MatchOption, IsSome, is_some}
+use Rattle.std.specs.declared.option.Option.{Option}
+use Rattle.std.specs.declared.option.Option.TheVariants.{None, Some}
+use Rattle.refusals.specs.declared.Refusal.{Refusal}
+use Rattle.refusals.specs.Refusals.{number}
+use Rattle.judge.specs.declared.Judgment.{Judgment}
+use Rattle.plan_file.proofs.Laws.{Taken, taken_long, refused_plan, sound_plan}
 use Rattle.plan_file.proofs.WordPlaces.{plan_words_length, PlanPassed, plan_passed_start, plan_passed_turn, plan_passed_stop, plan_passed_end, own_words}
-use Rattle.judge.specs.Verdict.{Outcome, passes, fails_at, verdict, Finding, judge_tests, judge_reply}
+use Rattle.judge.specs.Verdict.{Outcome, passes, fails_at, verdict, Finding, judge_tests, judge_reply, said}
 use Rattle.judge.proofs.Verdicts.{agrees_by_xor, fails_by_xor}
 
 -- ---- the cancelled bits, from the first word to the last
@@ -94,77 +99,99 @@ module _ (plan : List ℕ) (y q tops bits i : ℕ) (r : Cancelled plan y q tops 
             ∙ sym (parities_next (words plan q) y i below) ∙ ap (λ (k : ℕ). parities (take k (words plan q)) y) (sym (add-one i));
       }
 
-  module _ (bytes : (j : ℕ) → get_or plan j 0 < 256) where
+  module _ (bytes : (j : ℕ) → get_or plan j 0 < 256) (m : ℕ) where
     -- a word was met that can't follow
-    pub pass_stops : (w : ℕ) (b : Bool) → i < q → w ≡ word_at plan (4 + 8 * i) → b ≡ next_above tops w → not b ≡ true
-        → ((m : ℕ) → (ltb i q || beyond m tops) ≡ not (is_reduced m (words plan q))) × (ltb i q ≡ false → bits ≡ parities (words plan q) y)
-    pass_stops w b h a f n = (
-      λ m. ap (λ (x : Bool). x || beyond m tops) (lt-ltb i q h) ∙ plan_passed_stop plan q tops i r.passed w b h a f bytes n m,
-      λ e. let no : ⊥ = omega (arith, ltb-false i q e) in absurd no,
-    )
+    pub pass_stops : (w : ℕ) (b : Bool) → i < q → w ≡ word_at plan (4 + 8 * i) → b ≡ next_above tops w → not b ≡ true → is_reduced m (words plan q) ≡ false
+    pass_stops w b h a f n = not-true _ (sym (plan_passed_stop plan q tops i r.passed w b h a f bytes n m))
 
-    -- all words were passed
-    pub pass_ends : q ≤ i
-        → ((m : ℕ) → (ltb i q || beyond m tops) ≡ not (is_reduced m (words plan q))) × (ltb i q ≡ false → bits ≡ parities (words plan q) y)
-    pass_ends h =
-        let all : length (words plan q) ≤ i = omega (arith, length_words_at plan 4 q) in (
-          λ m. ap (λ (x : Bool). x || beyond m tops) (le-ltb i q h) ∙ plan_passed_end plan q tops i r.passed bytes h m,
-          λ e. r.done ∙ ap (λ (l : List ℕ). parities l y) (take_all i (words plan q) all),
-        )
+    -- all words were passed, and b says whether a highest bit is at or above m
+    module _ (h : q ≤ i) (b : Bool) (e : b ≡ beyond m tops) where
+      pub pass_beyond : b ≡ true → is_reduced m (words plan q) ≡ false
+      pass_beyond t = not-true _ (sym (plan_passed_end plan q tops i r.passed bytes h m) ∙ sym e ∙ t)
+
+      pub pass_ends : b ≡ false → (is_reduced m (words plan q) ≡ true) × (bits ≡ parities (words plan q) y)
+      pass_ends f =
+          let all : length (words plan q) ≤ i = omega (arith, length_words_at plan 4 q) in (
+            not-false _ (sym (plan_passed_end plan q tops i r.passed bytes h m) ∙ sym e ∙ f),
+            r.done ∙ ap (λ (l : List ℕ). parities l y) (take_all i (words plan q) all),
+          )
 
 -- ---- what the pass finds
 
--- a plan whose words aren't gone over has too many, or not all of them
-pub found_none : (plan : List ℕ) (y : ℕ) → (file_count plan ≤ 64 → again_at (file_count plan) ≤ length plan → ⊥)
-    → Listed plan true × (true ≡ false → 0 ≡ parities (file_words plan) y)
-found_none plan y never = (λ few there. absurd (never few there), λ z. absurd (true_not_false true refl z))
+-- what is known of the cancelled bits of a plan's words, where there are any
+abbrev pub BitsFound : List ℕ → ℕ → Option ℕ → Type 0
+BitsFound plan y r = MatchOption r (Listed plan true) (λ (bits : ℕ). Listed plan false × (bits ≡ parities (file_words plan) y))
 
-pub found_all : (plan : List ℕ) (y m q passed tops bits : ℕ) (b : Bool) → m ≡ file_width plan → q ≡ file_count plan → b ≡ beyond m tops
-    → ((n : ℕ) → (ltb passed q || beyond n tops) ≡ not (is_reduced n (words plan q))) × (ltb passed q ≡ false → bits ≡ parities (words plan q) y)
-    → Listed plan (ltb passed q || b) × ((ltb passed q || b) ≡ false → bits ≡ parities (file_words plan) y)
-found_all plan y m q passed tops bits b em eq eb found = (
-  λ few there. own_words plan m q _ em eq (ap (λ (x : Bool). ltb passed q || x) eb ∙ found.0 m),
-  λ e. found.1 (or_false_left (ltb passed q) b e) ∙ ap (λ (n : ℕ). parities (words plan n) y) eq,
+-- a plan whose words aren't gone over has too many, or not all of them
+pub found_none : (plan : List ℕ) → (file_count plan ≤ 64 → again_at (file_count plan) ≤ length plan → ⊥) → Listed plan true
+found_none plan never = λ few there. absurd (never few there)
+
+pub found_all : (plan : List ℕ) (y m q : ℕ) (r : Option ℕ) → m ≡ file_width plan → q ≡ file_count plan
+    → MatchOption r (is_reduced m (words plan q) ≡ false) (λ (bits : ℕ). (is_reduced m (words plan q) ≡ true) × (bits ≡ parities (words plan q) y))
+    → BitsFound plan y r
+found_all plan y m q None em eq h = λ few there. own_words plan m q true em eq (ap not (sym h))
+found_all plan y m q (Some bits) em eq h = (
+  λ few there. own_words plan m q false em eq (ap not (sym h.0)),
+  h.1 ∙ ap (λ (n : ℕ). parities (words plan n) y) eq,
 )
+
+-- whether they are missing says whether number 21 applies
+pub found_listed : (plan : List ℕ) (y : ℕ) (r : Option ℕ) (b : Bool) → is_some r ≡ not b → BitsFound plan y r → Listed plan b
+found_listed plan y None true e h = h
+found_listed plan y None false e h = absurd (true_not_false true refl (sym e))
+found_listed plan y (Some bits) true e h = absurd (true_not_false true refl e)
+found_listed plan y (Some bits) false e h = h.0
+
+found_value : (plan : List ℕ) (y : ℕ) (r : Option ℕ) (bits : ℕ) → BitsFound plan y r → r ≡ Some bits → bits ≡ parities (file_words plan) y
+found_value plan y r bits h is = (rw is at h).1
 
 -- ---- the ways out
 
 abbrev finding : List ℕ → ℕ → Finding
 finding plan y = record { cancelled = parities (file_words plan) y; outcome = verdict (file_words plan) (file_expected plan) y }
 
-module _ (plan : List ℕ) (y : ℕ) (c : PlanCheck) (h : said_checked c ≡ plan_check_reply plan) where
-  pub judged_unsound : (n k : ℕ) → c ≡ PlanCheck.Refused n → k ≡ number_of (said_checked c) → refusal k ≡ judge_reply plan y
+-- the check refused the plan
+pub judged_unsound : (plan : List ℕ) (y : ℕ) (r : Result Judgment Refusal) (e : Refusal) → r ≡ Err e → refusal (number e) ≡ plan_check_reply plan
+    → said r ≡ judge_reply plan y
+unfolding judge_reply judge_tests
+judged_unsound plan y r e is h =
+    ap said is ∙ sym (refused_plan plan (23 when beyond (file_width plan) y ∷ []) (finding plan y) (number e) (sym h))
+
+-- .. or answered for it, and b says whether the signature has a bit at or above m
+module _ (plan : List ℕ) (y : ℕ) (p : PlanHead) (h : said_checked (Ok p) ≡ plan_check_reply plan) (r : Option ℕ) (found : BitsFound plan y r) where
+  -- a sound plan's words are at most 64, all there, and a reduced list
+  sound : Taken plan × (record { m = p.m; q = p.q; expected = p.expected } ≡ file_parts plan)
+      × (judge_reply plan y ≡ replied (first_of (23 when beyond (file_width plan) y ∷ [])) (finding plan y))
   unfolding judge_reply judge_tests
-  judged_unsound n k e f =
-      sym (refused_plan plan (23 when beyond (file_width plan) y ∷ []) (finding plan y) k (told_refused plan c h n k e f))
+  sound =
+      sound_plan plan (23 when beyond (file_width plan) y ∷ []) (finding plan y) (record { m = p.m; q = p.q; expected = p.expected }) (sym h)
 
-  -- the plan is sound, and b says whether the signature has a bit at or above m
-  module _ (m q e : ℕ) (s : c ≡ PlanCheck.Sound m q e) (b : Bool) (eb : b ≡ beyond m y) where
-    sound : Taken plan × (record { m = m; q = q; expected = e } ≡ file_parts plan)
-        × (judge_reply plan y ≡ replied (first_of (23 when beyond (file_width plan) y ∷ [])) (finding plan y))
-    unfolding judge_reply judge_tests
-    sound =
-        sound_plan plan (23 when beyond (file_width plan) y ∷ []) (finding plan y) (record { m = m; q = q; expected = e }) (told_sound plan c h m q e s)
+  -- .. so their bits were found
+  pub bits_there : IsSome r
+  bits_there = there r found
+    where
+      there : (o : Option ℕ) → BitsFound plan y o → IsSome o
+      there None never =
+          let t : Taken plan = sound.0 in
+          absurd (true_not_false true refl (never (omega (arith, t.width_most, t.count_most)) (taken_long plan t) ∙ ap not t.reduced))
+      there (Some bits) f = refl
 
+  module _ (b : Bool) (eb : b ≡ beyond p.m y) where
     same_width : b ≡ beyond (file_width plan) y
-    same_width = eb ∙ ap (λ (p : PlanFileParts). beyond p.m y) sound.1
+    same_width = eb ∙ ap (λ (k : PlanFileParts). beyond k.m y) sound.1
 
     pub judged_beyond : b ≡ true → refusal 23 ≡ judge_reply plan y
     judged_beyond t = sym (rw (sym same_width ∙ t) at sound).2
 
-    -- .. and what the pass over its words found
-    module _ (within : b ≡ false) (bad : Bool) (bits : ℕ) (found : Listed plan bad × (bad ≡ false → bits ≡ parities (file_words plan) y)) where
+    module _ (within : b ≡ false) (bits : ℕ) (is : r ≡ Some bits) where
       judged_answer : judge_reply plan y ≡ answer (finding plan y)
       judged_answer = (rw (sym same_width ∙ within) at sound).2
 
-      -- a sound plan's words are at most 64, all there, and a reduced list
       cancelled : bits ≡ parities (file_words plan) y
-      cancelled =
-          let t : Taken plan = sound.0 in
-          found.1 (found.0 (omega (arith, t.width_most, t.count_most)) (taken_long plan t) ∙ ap not t.reduced)
+      cancelled = found_value plan y r bits found is
 
-      wanted : e ≡ file_expected plan
-      wanted = ap (λ (p : PlanFileParts). p.expected) sound.1
+      wanted : p.expected ≡ file_expected plan
+      wanted = ap (λ (k : PlanFileParts). k.expected) sound.1
 
       short : length (file_words plan) ≤ 64
       short = omega (arith, plan_words_length plan, sound.0.width_most, sound.0.count_most)
@@ -172,20 +199,20 @@ module _ (plan : List ℕ) (y : ℕ) (c : PlanCheck) (h : said_checked c ≡ pla
       inside : file_expected plan < 2 ^ length (file_words plan)
       inside = rw (plan_words_length plan) sound.0.expected_inside
 
-      pub judged_passes : bit_xor bits e ≡ 0 → answer (record { cancelled = bits; outcome = passes }) ≡ judge_reply plan y
+      pub judged_passes : bit_xor bits p.expected ≡ 0 → answer (record { cancelled = bits; outcome = passes }) ≡ judge_reply plan y
       judged_passes z =
           let o : verdict (file_words plan) (file_expected plan) y ≡ passes =
           agrees_by_xor (file_words plan) 64 (file_expected plan) y short inside (sym (ap₂ bit_xor cancelled wanted) ∙ z)
           in
           ap₂ (λ (x : ℕ) (v : Outcome). answer (record { cancelled = x; outcome = v })) cancelled (sym o) ∙ sym judged_answer
 
-      pub judged_fails : (bit_xor bits e ≡ 0 → ⊥)
-          → answer (record { cancelled = bits; outcome = fails_at (count_trailing_zeros 64 (bit_xor bits e)) }) ≡ judge_reply plan y
-      judged_fails n =
-          let same : bit_xor bits e ≡ bit_xor (parities (file_words plan) y) (file_expected plan) = ap₂ bit_xor cancelled wanted in
+      pub judged_fails : (bit_xor bits p.expected ≡ 0 → ⊥) → (i : ℕ) → i ≡ count_trailing_zeros 64 (bit_xor bits p.expected)
+          → answer (record { cancelled = bits; outcome = fails_at i }) ≡ judge_reply plan y
+      judged_fails n i at =
+          let same : bit_xor bits p.expected ≡ bit_xor (parities (file_words plan) y) (file_expected plan) = ap₂ bit_xor cancelled wanted in
           let o : verdict (file_words plan) (file_expected plan) y ≡ fails_at (count_trailing_zeros 64 (bit_xor (parities (file_words plan) y) (file_expected plan))) =
           fails_by_xor (file_words plan) 64 (file_expected plan) y short inside (λ z. n (same ∙ z))
           in
           ap₂ (λ (x : ℕ) (v : Outcome). answer (record { cancelled = x; outcome = v })) cancelled
-          (ap (λ (d : ℕ). fails_at (count_trailing_zeros 64 d)) same ∙ sym o)
+          (ap fails_at at ∙ ap (λ (d : ℕ). fails_at (count_trailing_zeros 64 d)) same ∙ sym o)
           ∙ sym judged_answer

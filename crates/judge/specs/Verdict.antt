@@ -8,15 +8,19 @@
 --   Finding              what judging answers: the cancelled bits and the verdict
 --   judge_tests plan y    the numbers that judging meets, in order
 --   judge_reply plan y    its reply
+--   outcome_of v         the paper's reading of a verdict
 --   said j               the paper's reading of what judging hands back
-use Rattle.std.specs.Prelude.{cond, List, [], ◌∷◌, ◌++◌, ℕ, suc, eqb}
+use Rattle.std.specs.Prelude.{cond, List, [], ◌∷◌, ◌++◌, ℕ, suc, eqb, Result}
 use Rattle.word.specs.Word.{digit, parity, beyond}
 use Rattle.word.specs.Parities.{parities}
-use Rattle.word.specs.Reply.{Test, ◌when◌, Reply, answer, refusal, reply}
+use Rattle.word.specs.Reply.{Test, ◌when◌, Reply, reply}
 use Rattle.plan_file.specs.Layout.{file_width, file_words, file_expected}
 use Rattle.plan_file.specs.Checking.{plan_file_tests}
-use Rattle.judge.specs.declared.Judged.{Judged}
-use Rattle.judge.specs.declared.Judged.TheVariants.{Passes, Fails, Refused}
+use Rattle.refusals.specs.declared.Refusal.{Refusal}
+use Rattle.refusals.specs.Refusals.{replied_by}
+use Rattle.judge.specs.declared.Verdict.{Verdict}
+use Rattle.judge.specs.declared.Verdict.TheVariants.{Passes, Fails}
+use Rattle.judge.specs.declared.Judgment.{Judgment}
 
 pub data Outcome : Type 0 where
   passes : Outcome
@@ -41,7 +45,9 @@ judge_reply plan y =
     reply (judge_tests plan y)
     (record { cancelled = parities (file_words plan) y; outcome = verdict (file_words plan) (file_expected plan) y })
 
-abbrev pub said : Judged → Reply Finding
-said (Passes b) = answer (record { cancelled = b; outcome = passes })
-said (Fails b i) = answer (record { cancelled = b; outcome = fails_at i })
-said (Refused n) = refusal n
+abbrev pub outcome_of : Verdict → Outcome
+outcome_of Passes = passes
+outcome_of (Fails i) = fails_at i
+
+abbrev pub said : Result Judgment Refusal → Reply Finding
+said = replied_by (λ (j : Judgment). record { cancelled = j.cancelled; outcome = outcome_of j.verdict })

@@ -18,17 +18,18 @@ use Rattle.set_layout.specs.Layout.{width_of}
 use Rattle.signatures.specs.Sets.{columns_of, named_of}
 use Rattle.kept_words.specs.Working.{words_of, working_places, working_test, working_after, kept_tests, kept_reply, said, named_columns_of, with_symbols}
 use Rattle.kept_words.proofs.PutLaws.{short_symbols, symbols_behind, rest_as_was}
-use Rattle.kept_words.specs.declared.Kept.{Kept}
-use Rattle.kept_words.specs.declared.Kept.TheVariants.{Words, Refused}
+use Rattle.std.specs.Prelude.{Result, Ok, Err}
+use Rattle.refusals.specs.declared.Refusal.{Refusal}
+use Rattle.refusals.specs.declared.Refusal.TheVariants.{ShortColumnList, NoCombination, ShortWordList}
 
 module _ (set : List ℕ) where
   -- what the call answers, a, and leaves in the working list w, w', and in the word list ws, ws'
-  abbrev pub KeptEnd : List ℕ → List ℕ → Kept → List ℕ → List ℕ → Type 0
+  abbrev pub KeptEnd : List ℕ → List ℕ → Result ℕ Refusal → List ℕ → List ℕ → Type 0
   KeptEnd w ws a w' ws' =
       (said a ≡ kept_reply set (length w) (length ws))
       × ((w' ≡ working_after (working_test set (length w) ∷ []) set w) × (ws' ≡ lent (kept_reply set (length w) (length ws)) (words_of set) ws))
 
-  pub ends_14 : (w w' ws : List ℕ) → length w < working_places set → w' ≡ w → KeptEnd w ws (Refused 14) w' ws
+  pub ends_14 : (w w' ws : List ℕ) → length w < working_places set → w' ≡ w → KeptEnd w ws (Err ShortColumnList) w' ws
   unfolding kept_reply kept_tests
   ends_14 w w' ws h e =
       let short : ltb (length w) (working_places set) ≡ true = lt-ltb (length w) (working_places set) h in (rw short, (e ∙ sym (rw short), rw short))
@@ -45,7 +46,7 @@ module _ (set : List ℕ) where
     unfolding words_of columns_of
     empty = only_empty_list (width_of set) (columns_of set) ∙ ap (λ (i : ℕ). eqb i 0) (sym many)
 
-    pub ends_17 : q ≡ 0 → KeptEnd w ws (Refused 17) w' ws
+    pub ends_17 : q ≡ 0 → KeptEnd w ws (Err NoCombination) w' ws
     unfolding kept_reply kept_tests
     ends_17 z =
         let only = empty ∙ eq-eqb q 0 z in
@@ -56,7 +57,7 @@ module _ (set : List ℕ) where
       others : only_empty (width_of set) (columns_of set) ≡ false
       others = empty ∙ ne_eqb q 0 some
 
-      pub ends_18 : length ws < q → KeptEnd w ws (Refused 18) w' ws
+      pub ends_18 : length ws < q → KeptEnd w ws (Err ShortWordList) w' ws
       unfolding kept_reply kept_tests
       ends_18 h =
           let short : ltb (length ws) (length (words_of set)) ≡ true = lt-ltb (length ws) (length (words_of set)) (omega arith) in
@@ -64,7 +65,7 @@ module _ (set : List ℕ) where
           let out = refusal_leaves (kept_reply set (length w) (length ws)) (refusal 18) 18 (words_of set) ws refused refl in (out.0, (left, out.1))
 
       pub ends_words : (ws' from : List ℕ) → q ≤ length ws → from ≡ words_of set → ws' ≡ front (take (length ws) from) ws
-          → KeptEnd w ws (Words q) w' ws'
+          → KeptEnd w ws (Ok q) w' ws'
       unfolding kept_reply kept_tests
       ends_words ws' from h e put =
           let long : ltb (length ws) (length (words_of set)) ≡ false = le-ltb (length ws) (length (words_of set)) (omega arith) in

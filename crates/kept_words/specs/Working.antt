@@ -13,8 +13,8 @@
 --   named_columns_of set      the columns of its named symbols
 --   with_symbols set l       the list l with these behind its first 64 places, where they fit
 --   free_words set           the reduced list for the columns of its free cells
-use Rattle.std.specs.Prelude.{cond, List, [], ◌∷◌, ◌++◌, ℕ, ◌+◌, ltb, length, take, drop}
-use Rattle.word.specs.Reply.{Test, ◌when◌, Reply, answer, refusal, reply, lent}
+use Rattle.std.specs.Prelude.{cond, List, [], ◌∷◌, ◌++◌, ℕ, ◌+◌, ltb, length, take, drop, Result}
+use Rattle.word.specs.Reply.{Test, ◌when◌, Reply, reply, lent}
 use Rattle.word.specs.Zeros.{zeros}
 use Rattle.combinations.specs.Combination.{only_empty}
 use Rattle.combinations.specs.Reduced.{reduced_list}
@@ -24,8 +24,8 @@ use Rattle.signatures.specs.Columns.{columns_below}
 use Rattle.signatures.specs.Symbols.{named_columns}
 use Rattle.signatures.specs.Given.{Given, columns_for}
 use Rattle.signatures.specs.Sets.{given, columns_of, named_of}
-use Rattle.kept_words.specs.declared.Kept.{Kept}
-use Rattle.kept_words.specs.declared.Kept.TheVariants.{Words, Refused}
+use Rattle.refusals.specs.declared.Refusal.{Refusal}
+use Rattle.refusals.specs.Refusals.{replied_by}
 
 abbrev pub words_for : Given → List ℕ
 words_for g = reduced_list g.wiring.width (columns_for g)
@@ -52,9 +52,8 @@ kept_tests set p w =
 unfoldable pub kept_reply : List ℕ → ℕ → ℕ → Reply ℕ
 kept_reply set p w = reply (kept_tests set p w) (length (words_of set))
 
-abbrev pub said : Kept → Reply ℕ
-said (Words q) = answer q
-said (Refused n) = refusal n
+abbrev pub said : Result ℕ Refusal → Reply ℕ
+said = replied_by (λ n. n)
 
 -- ---- the work
 

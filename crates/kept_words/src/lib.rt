@@ -3,7 +3,7 @@
 #![tactic(auto)]
 
 ghost use Rattle.std.specs.Prelude.{◌≡◌, [], ◌∷◌, ◌+◌, ◌*◌, ◌≤◌, length, take, drop};
-ghost use Rattle.word.specs.Reply.{lent, number_of};
+ghost use Rattle.word.specs.Reply.{lent};
 ghost use Rattle.combinations.specs.Step.{units};
 ghost use Rattle.rows.specs.Row.{row_bytes};
 ghost use Rattle.set_layout.specs.Layout.{width_of, mark_at};
@@ -11,18 +11,12 @@ ghost use Rattle.set_file.specs.Reading.{TakenFrom};
 ghost use Rattle.signatures.specs.Sets.{named_of};
 ghost use Rattle.kept_words.specs.Working.{words_of, working_test, working_after, kept_reply, said, named_columns_of, with_symbols, free_words};
 
+use refusals::Refusal;
 use rows::Rows;
 use set_file::Taken;
 
 // The places that portions of columns are worked in; the columns of named symbols stand behind them.
 const WORKING_PLACES: usize = 64;
-
-// What making the words answers: q, or the first number that applies.
-#[derive(Drop)]
-pub enum Kept {
-    Words { q: u64 },
-    Refused { number: u64 },
-}
 
 // Where the marks of the unknown cells stand, in a set of n chains.
 fn unknown_rows(n: u16) -> Rows
@@ -73,8 +67,7 @@ fn reduce_free(taken: Taken, set: &[u8], working: &mut [u64], held: &mut [u64]) 
         return set_words::reduce_cells(taken, set, marks, working, held);
     }
     let ties = set_layout::tie_bytes(set);
-    let flags = set_layout::no_words();
-    let free = free_marks::unmark(set, marks, n, s, ties, count, &flags[..0]);
+    let free = free_marks::unmark(set, marks, n, s, ties, count, &[]);
     set_words::reduce_cells(taken, &free[..], free_marks::list_rows(n), working, held)
 }
 
@@ -92,35 +85,30 @@ fn reduce_symbols(taken: Taken, set: &[u8], working: &mut [u64], held: &mut [u64
 
 // The words of a taken set. Answers with q, and writes the q words over the front of `words`. Meets 14, 17 and 18, in that order; past 14 the
 // first places of `working`, 64 and one for each named symbol, hold 0, and a refusal writes nothing else.
-pub fn fill_words(taken: Taken, set: &[u8], working: &mut [u64], words: &mut [u64]) -> Kept
+pub fn fill_words(
+    taken: Taken,
+    set: &[u8],
+    working: &mut [u64],
+    words: &mut [u64],
+) -> Result<u64, Refusal>
     ensures { TakenFrom set.now taken → (said result ≡ kept_reply set.now (length working.old) (length words.old)) × ((working.new ≡ working_after (working_test set.now (length working.old) ∷ []) set.now working.old) × (words.new ≡ lent (kept_reply set.now (length working.old) (length words.old)) (words_of set.now) words.old)) }
 {
     let symbols = put_symbols(taken, set, working);
     let places = WORKING_PLACES + symbols;
     let is_short = working.len() < places;
     if is_short {
-        return Kept::Refused { number: 14 };
+        return Err(Refusal::ShortColumnList);
     }
     let width = register::width_limit(taken.register.m) as usize;
     let mut held = elimination::unit_words();
     let q = reduce_symbols(taken, set, &mut working[..places], &mut held[..width]);
     word::clear_words(&mut working[..places]);
     if q == 0 {
-        return Kept::Refused { number: 17 };
+        return Err(Refusal::NoCombination);
     }
     if words.len() < q {
-        return Kept::Refused { number: 18 };
+        return Err(Refusal::ShortWordList);
     }
     elimination::write_front(words, &held[..q]);
-    Kept::Words { q: q as u64 }
-}
-
-// The refusal's number; 0 of an answer.
-pub fn number_of(kept: Kept) -> u64
-    ensures { result ≡ number_of (said kept) }
-{
-    match kept {
-        Kept::Words { q: _ } => 0,
-        Kept::Refused { number } => number,
-    }
+    Ok(q as u64)
 }

@@ -9,16 +9,19 @@ use lib.Dec.{ltb}
 use lib.ListN.{length, take, set}
 use Rattle.numbers.specs.Bytes.{word_at}
 use Rattle.numbers.proofs.FileLaws.{word_at_place}
-use Rattle.word.specs.Reply.{Reply, answer, refusal, replied, first_of, number_of, ◌when◌, front}
+use Rattle.word.specs.Reply.{Reply, answer, refusal, replied, first_of, ◌when◌, front}
 use Rattle.word.proofs.FrontLaws.{front_next, front_whole}
-use Rattle.word.proofs.ReplyLaws.{replied_refusal, Leaves, refusal_leaves, answer_leaves}
+use Rattle.word.proofs.ReplyLaws.{Leaves, refusal_leaves, answer_leaves}
 use Rattle.plan_file.specs.Layout.{again_at, plan_length, file_width, file_count, file_words, file_expected}
 use Rattle.plan_file.specs.Checking.{plan_file_tests, PlanFileParts, file_parts, plan_check_reply, said_checked}
 use Rattle.plan_file.specs.Reading.{plan_read_tests, plan_file_reply, said}
-use Rattle.plan_file.specs.declared.PlanCheck.{PlanCheck}
-use Rattle.plan_file.specs.declared.PlanAnswer.{PlanAnswer}
-use Rattle.plan_file.specs.declared.PlanAnswer.TheVariants.{Read, Refused}
-use Rattle.plan_file.proofs.Laws.{Taken, taken, taken_long, told_refused, told_sound, refused_plan, sound_plan}
+use Rattle.std.specs.Prelude.{Result, Ok, Err}
+use Rattle.refusals.specs.declared.Refusal.{Refusal}
+use Rattle.refusals.specs.declared.Refusal.TheVariants.{ShortWordList}
+use Rattle.refusals.specs.Refusals.{number}
+use Rattle.refusals.proofs.RefusalLaws.{refused_call}
+use Rattle.plan_file.specs.declared.PlanHead.{PlanHead}
+use Rattle.plan_file.proofs.Laws.{Taken, taken, taken_long, refused_plan, sound_plan}
 use Rattle.plan_file.proofs.WordPlaces.{plan_words_length}
 
 parts : {m w q k y e : ℕ} → m ≡ w → q ≡ k → y ≡ e
@@ -27,68 +30,65 @@ parts a b c = cc
 
 -- ---- the check
 
-pub checks_refused : (plan : List ℕ) (n : ℕ) → n ≡ first_of (plan_file_tests plan) → (n ≡ 0 → ⊥) → refusal n ≡ plan_check_reply plan
+pub checks_refused : (plan : List ℕ) (r : Result PlanHead Refusal) (e : Refusal) → r ≡ Err e → number e ≡ first_of (plan_file_tests plan)
+    → said_checked r ≡ plan_check_reply plan
 unfolding plan_check_reply
-checks_refused plan n e h = sym (ap (λ (k : ℕ). replied k (file_parts plan)) (sym e) ∙ replied_refusal n (file_parts plan) h)
+checks_refused plan r e is h =
+    refused_call (λ (p : PlanHead). record { m = p.m; q = p.q; expected = p.expected }) r e (first_of (plan_file_tests plan)) (file_parts plan) is h
 
-pub checks_sound : (plan : List ℕ) (n m q bits : ℕ) → n ≡ first_of (plan_file_tests plan) → n ≡ 0 → m ≡ file_width plan → q ≡ file_count plan
+pub checks_sound : (plan : List ℕ) (m q bits : ℕ) → 0 ≡ first_of (plan_file_tests plan) → m ≡ file_width plan → q ≡ file_count plan
     → bits ≡ file_expected plan → answer (record { m = m; q = q; expected = bits }) ≡ plan_check_reply plan
 unfolding plan_check_reply
-checks_sound plan n m q bits e z a b f =
-    let none : first_of (plan_file_tests plan) ≡ 0 = sym e ∙ z in
-    parts a b f ∙ sym (ap (λ (k : ℕ). replied k (file_parts plan)) none)
+checks_sound plan m q bits none a b f = parts a b f ∙ ap (λ (k : ℕ). replied k (file_parts plan)) none
 
 -- past the tests the expected bits end with the plan
-pub checked_bits : (plan : List ℕ) (n : ℕ) → n ≡ first_of (plan_file_tests plan) → n ≡ 0
+pub checked_bits : (plan : List ℕ) → 0 ≡ first_of (plan_file_tests plan)
     → (length plan ≡ plan_length (file_count plan)) × (1 ≤ file_count plan) × (file_count plan ≤ 64)
-checked_bits plan n e z =
-    let t : Taken plan = taken plan (sym e ∙ z) in
+checked_bits plan none =
+    let t : Taken plan = taken plan (sym none) in
     (t.exact, t.count_positive, omega (arith, t.width_most, t.count_most))
 
 -- ---- the reader
 
 -- what the reader answers, a, and leaves in the list l, l'
-abbrev pub Ends : List ℕ → List ℕ → PlanAnswer → List ℕ → Type 0
+abbrev pub Ends : List ℕ → List ℕ → Result PlanHead Refusal → List ℕ → Type 0
 Ends plan l a l' = Leaves (plan_file_reply plan (length l)) (file_words plan) (said a) l l'
 
-ends_refused : (plan l : List ℕ) (n : ℕ) → plan_file_reply plan (length l) ≡ refusal n → Ends plan l (Refused n) l
-ends_refused plan l n r = refusal_leaves _ _ n (file_words plan) l r refl
+-- the check refused the plan
+pub ends_unsound : (plan l : List ℕ) (r : Result PlanHead Refusal) (e : Refusal) → r ≡ Err e → refusal (number e) ≡ plan_check_reply plan → Ends plan l r l
+unfolding plan_file_reply plan_read_tests
+ends_unsound plan l r e is h =
+    refusal_leaves _ _ (number e) (file_words plan) l
+    (refused_plan plan (18 when ltb (length l) (file_count plan) ∷ []) (file_parts plan) (number e) (sym h)) (ap said is)
 
-module _ (plan l : List ℕ) (c : PlanCheck) (h : said_checked c ≡ plan_check_reply plan) where
-  pub ends_unsound : (n k : ℕ) → c ≡ PlanCheck.Refused n → k ≡ number_of (said_checked c) → Ends plan l (Refused k) l
+-- .. or answered for it
+module _ (plan l : List ℕ) (p : PlanHead) (h : said_checked (Ok p) ≡ plan_check_reply plan) where
+  abbrev known : PlanFileParts
+  known = record { m = p.m; q = p.q; expected = p.expected }
+
+  sound_parts : known ≡ file_parts plan
+  sound_parts = (sound_plan plan [] (file_parts plan) known (sym h)).1
+
+  sound_count : p.q ≡ file_count plan
+  sound_count = ap (λ (k : PlanFileParts). k.q) sound_parts
+
+  read_reply : plan_file_reply plan (length l) ≡ replied (first_of (18 when ltb (length l) (file_count plan) ∷ [])) (file_parts plan)
   unfolding plan_file_reply plan_read_tests
-  ends_unsound n k e f =
-      ends_refused plan l k
-      (refused_plan plan (18 when ltb (length l) (file_count plan) ∷ []) (file_parts plan) k (told_refused plan c h n k e f))
+  read_reply = (sound_plan plan (18 when ltb (length l) (file_count plan) ∷ []) (file_parts plan) known (sym h)).2
 
-  module _ (m q e : ℕ) (s : c ≡ PlanCheck.Sound m q e) where
-    sound_parts : record { m = m; q = q; expected = e } ≡ file_parts plan
-    sound_parts = (sound_plan plan [] (file_parts plan) (record { m = m; q = q; expected = e }) (told_sound plan c h m q e s)).1
+  pub ends_short : length l < p.q → Ends plan l (Err ShortWordList) l
+  ends_short short =
+      let less : length l < file_count plan = omega (arith, sound_count) in
+      refusal_leaves _ _ 18 (file_words plan) l (rw (lt-ltb (length l) (file_count plan) less) at read_reply) refl
 
-    sound_count : q ≡ file_count plan
-    sound_count = ap (λ (p : PlanFileParts). p.q) sound_parts
+  -- a sound plan has its words, and there is room for them
+  pub sound_words : p.q ≤ length l → (again_at (file_count plan) ≤ length plan) × (file_count plan ≤ length l)
+  sound_words room = (taken_long plan (sound_plan plan [] (file_parts plan) known (sym h)).0, omega (arith, sound_count))
 
-    read_reply : plan_file_reply plan (length l) ≡ replied (first_of (18 when ltb (length l) (file_count plan) ∷ [])) (file_parts plan)
-    unfolding plan_file_reply plan_read_tests
-    read_reply =
-        (sound_plan plan (18 when ltb (length l) (file_count plan) ∷ []) (file_parts plan) (record { m = m; q = q; expected = e }) (told_sound plan c h m q e s)).2
-
-    pub ends_short : length l < q → Ends plan l (Refused 18) l
-    ends_short short =
-        let less : length l < file_count plan = omega (arith, sound_count) in
-        ends_refused plan l 18 (rw (lt-ltb (length l) (file_count plan) less) at read_reply)
-
-    -- a sound plan has its words, and there is room for them
-    pub sound_words : q ≤ length l → (again_at (file_count plan) ≤ length plan) × (file_count plan ≤ length l)
-    sound_words room = (
-      taken_long plan (sound_plan plan [] (file_parts plan) (record { m = m; q = q; expected = e }) (told_sound plan c h m q e s)).0,
-      omega (arith, sound_count),
-    )
-
-    pub ends_read : (l' : List ℕ) → q ≤ length l → l' ≡ front (file_words plan) l → Ends plan l (Read m q e) l'
-    ends_read l' room w =
-        let enough : file_count plan ≤ length l = omega (arith, sound_count) in
-        answer_leaves _ _ _ (file_words plan) l l' (rw (le-ltb (length l) (file_count plan) enough) at read_reply) (ap answer sound_parts) w
+  pub ends_read : (l' : List ℕ) → p.q ≤ length l → l' ≡ front (file_words plan) l → Ends plan l (Ok p) l'
+  ends_read l' room w =
+      let enough : file_count plan ≤ length l = omega (arith, sound_count) in
+      answer_leaves _ _ _ (file_words plan) l l' (rw (le-ltb (length l) (file_count plan) enough) at read_reply) (ap answer sound_parts) w
 
 -- ---- the words copied to the lent list
 

@@ -3,8 +3,6 @@
 --   Taken, taken      what is known of a plan that meets none of the numbers 19 to 22
 --   taken_long        .. it doesn't end before its last word
 --   taken_reply       .. and the check answers for a plan of which it is known with its parts
---   told_refused      where the check handed a refusal back, it replied so
---   told_sound        .. and where it handed parts back, it replied with them
 --   refused_plan      after a plan that the check refused, a call refuses with the same number
 --   sound_plan        after one that it didn't, the plan is taken, the parts are its own, and the tests that follow decide
 --   taken_read        the reader answers for a taken plan with its parts, where the list has room
@@ -18,7 +16,7 @@ use native.Mathlib.Omega.{arith}
 use borrow.Author.Tests.{eqb-true, eq-eqb, le-ltb, ltb-false, not-false}
 use lib.Dec.{eqb, ltb}
 use lib.ListN.{length}
-use Rattle.word.specs.Reply.{Test, ◌when◌, answer, refusal, first_of, replied, reply, number_of}
+use Rattle.word.specs.Reply.{Test, ◌when◌, answer, refusal, first_of, replied, reply}
 use Rattle.word.proofs.BoolLaws.{or_false_left, or_false_right}
 use Rattle.word.proofs.ReplyLaws.{none_applies}
 use Rattle.word.specs.Word.{bad_width, beyond}
@@ -28,9 +26,8 @@ use Rattle.combinations.specs.Reduced.{is_reduced}
 use Rattle.reduced_list.specs.WordCount.{bad_word_count}
 use Rattle.reduced_list.proofs.CountLaws.{not_bad_count}
 use Rattle.plan_file.specs.Layout.{again_at, bits_at, plan_length, file_width, file_count, file_words, file_again, file_expected}
-use Rattle.plan_file.specs.Checking.{bad_plan_width, bad_plan_count, bad_plan_end, plan_file_tests, PlanFileParts, file_parts, plan_check_reply, said_checked}
+use Rattle.plan_file.specs.Checking.{bad_plan_width, bad_plan_count, bad_plan_end, plan_file_tests, PlanFileParts, file_parts, plan_check_reply}
 use Rattle.plan_file.specs.Reading.{plan_read_tests, plan_file_reply}
-use Rattle.plan_file.specs.declared.PlanCheck.{PlanCheck}
 use Rattle.plan_file.proofs.TestLaws.{width_good, count_good}
 
 -- none of the four tests applies
@@ -130,13 +127,6 @@ taken_back plan t =
     rw (a1, a2, a3, b1, b2, b3, t.reduced, d1, d2, d3, d4)
 
 -- ---- the check's reply
-
-module _ (plan : List ℕ) (c : PlanCheck) (h : said_checked c ≡ plan_check_reply plan) where
-  pub told_refused : (n k : ℕ) → c ≡ PlanCheck.Refused n → k ≡ number_of (said_checked c) → plan_check_reply plan ≡ refusal k
-  told_refused n k e f = sym h ∙ ap said_checked e ∙ ap refusal (sym (f ∙ ap (λ (x : PlanCheck). number_of (said_checked x)) e))
-
-  pub told_sound : (m q e : ℕ) → c ≡ PlanCheck.Sound m q e → plan_check_reply plan ≡ answer (record { m = m; q = q; expected = e })
-  told_sound m q e s = sym h ∙ ap said_checked s
 
 refuses_some : {A : Type 0} (n : ℕ) (a : A) (k : ℕ) → replied n a ≡ refusal k → n ≡ 0 → ⊥
 refuses_some zero a k h z = let c : ◌≡◌ {A = ℕ} 0 1 = cc in omega arith

@@ -9,14 +9,15 @@
 --   file_parts plan        .. of this one
 --   plan_check_reply plan   the reply of the check
 --   said_checked c         the paper's reading of what the check hands back
-use Rattle.std.specs.Prelude.{Bool, not, ◌||◌, List, [], ◌∷◌, ◌≡◌, ℕ, ◌≤◌, eqb, ltb, length}
+use Rattle.std.specs.Prelude.{Bool, not, ◌||◌, List, [], ◌∷◌, ◌≡◌, ℕ, ◌≤◌, eqb, ltb, length, Result}
 use Rattle.word.specs.Word.{bad_width, beyond}
-use Rattle.word.specs.Reply.{Test, ◌when◌, Reply, answer, refusal, reply}
+use Rattle.word.specs.Reply.{Test, ◌when◌, Reply, reply}
 use Rattle.combinations.specs.Reduced.{is_reduced}
 use Rattle.reduced_list.specs.WordCount.{bad_word_count}
 use Rattle.plan_file.specs.Layout.{again_at, bits_at, plan_length, file_width, file_count, file_words, file_again, file_expected}
-use Rattle.plan_file.specs.declared.PlanCheck.{PlanCheck}
-use Rattle.plan_file.specs.declared.PlanCheck.TheVariants.{Sound, Refused}
+use Rattle.refusals.specs.declared.Refusal.{Refusal}
+use Rattle.refusals.specs.Refusals.{replied_by}
+use Rattle.plan_file.specs.declared.PlanHead.{PlanHead}
 
 unfoldable pub bad_plan_width : List ℕ → Bool
 bad_plan_width plan = ltb (length plan) 2 || bad_width (file_width plan)
@@ -55,6 +56,5 @@ file_parts plan = record { m = file_width plan; q = file_count plan; expected = 
 unfoldable pub plan_check_reply : List ℕ → Reply PlanFileParts
 plan_check_reply plan = reply (plan_file_tests plan) (file_parts plan)
 
-abbrev pub said_checked : PlanCheck → Reply PlanFileParts
-said_checked (Sound w k e) = answer (record { m = w; q = k; expected = e })
-said_checked (Refused n) = refusal n
+abbrev pub said_checked : Result PlanHead Refusal → Reply PlanFileParts
+said_checked = replied_by (λ (h : PlanHead). record { m = h.m; q = h.q; expected = h.expected })

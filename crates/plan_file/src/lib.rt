@@ -4,24 +4,21 @@
 
 ghost use Rattle.std.specs.Prelude.{◌≡◌, not, ◌+◌, ◌*◌, ◌<◌, ◌≤◌, length};
 ghost use Rattle.numbers.specs.Bytes.{word_at};
-ghost use Rattle.word.specs.Reply.{first_of, front, lent, number_of};
+ghost use Rattle.word.specs.Reply.{first_of, front, lent};
+ghost use Rattle.refusals.specs.Refusals.{refused};
 ghost use Rattle.combinations.specs.Reduced.{is_reduced};
 ghost use Rattle.plan_file.specs.Layout.{words_place, again_at, plan_length, file_width, file_count, file_words, file_expected};
 ghost use Rattle.plan_file.specs.Checking.{bad_plan_width, bad_plan_count, bad_plan_end, Listed, plan_file_tests, plan_check_reply, said_checked};
 ghost use Rattle.plan_file.specs.Reading.{plan_file_reply, said};
 
-// What the check of a plan file answers: m, q and the expected bits as one word, or the first number that applies.
-#[derive(Drop)]
-pub enum PlanCheck {
-    Sound { m: u64, q: u64, expected: u64 },
-    Refused { number: u64 },
-}
+use refusals::Refusal;
 
-// What the plan reader answers: m, q and the expected bits as one word, or the first number that applies.
-#[derive(Drop)]
-pub enum PlanAnswer {
-    Read { m: u64, q: u64, expected: u64 },
-    Refused { number: u64 },
+// What a plan file holds beside its words: m, q and the expected bits as one word.
+#[derive(Clone, Copy)]
+pub struct PlanHead {
+    pub m: u64,
+    pub q: u64,
+    pub expected: u64,
 }
 
 // m, as the plan has it; a byte past the end counts as 0.
@@ -85,14 +82,12 @@ fn is_bad_word_list(plan: &[u8]) -> bool
         return true;
     }
     let mut seen: u64 = 0;
-    let mut i: u16 = 0;
-    while i < q {
+    for i in 0..q {
         let w = plan_word(plan, i);
         if !reduced_list::is_next(seen, w) {
             return true;
         }
         seen = reduced_list::with_highest(seen, w);
-        i += 1;
     }
     word::is_beyond(m, seen)
 }
@@ -111,62 +106,45 @@ fn is_bad_plan_end(plan: &[u8]) -> bool
     (numbers::read_count(plan, 4 + 8 * places) != q) | word::is_beyond(q, expected_bits(plan))
 }
 
-// The first of the numbers 19 to 22 that applies to a plan file, where `bad` says whether 21 does; 0 where none applies.
-fn plan_refusal(plan: &[u8], bad: bool) -> u64
+// Refuses a plan file by the first of the numbers 19 to 22 that applies, where `bad` says whether 21 does.
+fn check_parts(plan: &[u8], bad: bool) -> Result<(), Refusal>
     requires { Listed plan.now bad }
-    ensures { result ≡ first_of (plan_file_tests plan.now) }
+    ensures { refused result ≡ first_of (plan_file_tests plan.now) }
 {
     if is_bad_plan_width(plan) {
-        return 19;
+        return Err(Refusal::PlanWidth);
     }
     if is_bad_plan_count(plan) {
-        return 20;
+        return Err(Refusal::WordCount);
     }
     if bad {
-        return 21;
+        return Err(Refusal::WordList);
     }
     if is_bad_plan_end(plan) {
-        return 22;
+        return Err(Refusal::PlanEnd);
     }
-    0
+    Ok(())
 }
 
 // The check of a plan file, by a caller that has gone over its words: `bad` says whether 21 applies. Answers with m, q and the
 // expected bits as one word. Meets 19, 20, 21 and 22, in that order.
-pub fn check_listed(plan: &[u8], bad: bool) -> PlanCheck
+pub fn check_listed(plan: &[u8], bad: bool) -> Result<PlanHead, Refusal>
     requires { Listed plan.now bad }
     ensures { said_checked result ≡ plan_check_reply plan.now }
 {
-    let number = plan_refusal(plan, bad);
-    if number != 0 {
-        return PlanCheck::Refused { number };
-    }
-    PlanCheck::Sound {
+    check_parts(plan, bad)?;
+    Ok(PlanHead {
         m: width(plan),
         q: count(plan),
         expected: expected_bits(plan),
-    }
+    })
 }
 
 // The check of a plan file. Answers with m, q and the expected bits as one word. Meets 19, 20, 21 and 22, in that order.
-pub fn check_plan(plan: &[u8]) -> PlanCheck
+pub fn check_plan(plan: &[u8]) -> Result<PlanHead, Refusal>
     ensures { said_checked result ≡ plan_check_reply plan.now }
 {
     check_listed(plan, is_bad_word_list(plan))
-}
-
-// The refusal's number; 0 of a sound plan.
-pub fn number_of(checked: PlanCheck) -> u64
-    ensures { result ≡ number_of (said_checked checked) }
-{
-    match checked {
-        PlanCheck::Sound {
-            m: _,
-            q: _,
-            expected: _,
-        } => 0,
-        PlanCheck::Refused { number } => number,
-    }
 }
 
 // The words of a plan that doesn't end before its last one, over the front of `words`, where there is room for them.
@@ -175,29 +153,22 @@ fn copy_words(plan: &[u8], words: &mut [u64])
     ensures { words.new ≡ front (file_words plan.now) words.old }
 {
     let q = count(plan) as u16;
-    let mut i: u16 = 0;
-    while i < q {
+    for i in 0..q {
         words[i as usize] = plan_word(plan, i);
-        i += 1;
     }
 }
 
 // The plan reader of document 01. Answers with m, q and the expected bits as one word, and writes the q words over the front
 // of `words`; the rest of it stays. Meets 19, 20, 21, 22 and then 18; a refusal writes nothing.
-pub fn read_plan(plan: &[u8], words: &mut [u64]) -> PlanAnswer
+pub fn read_plan(plan: &[u8], words: &mut [u64]) -> Result<PlanHead, Refusal>
     ensures answer { said result ≡ plan_file_reply plan.now (length words.old) }
     ensures list { words.new ≡ lent (plan_file_reply plan.now (length words.old)) (file_words plan.now) words.old }
 {
-    let checked = check_plan(plan);
-    let PlanCheck::Sound { m, q, expected } = checked else {
-        return PlanAnswer::Refused {
-            number: number_of(checked),
-        };
-    };
-    let is_short = (words.len() as u64) < q;
+    let head = check_plan(plan)?;
+    let is_short = (words.len() as u64) < head.q;
     if is_short {
-        return PlanAnswer::Refused { number: 18 };
+        return Err(Refusal::ShortWordList);
     }
     copy_words(plan, words);
-    PlanAnswer::Read { m, q, expected }
+    Ok(head)
 }

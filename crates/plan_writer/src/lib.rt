@@ -42,28 +42,22 @@ fn check_content(m: u64, words: &[u64], expected: u64, room: usize) -> Result<()
     Ok(())
 }
 
-// The n low bytes of x at place `at` of out, where they fit.
+// The n low bytes of x at place `at` of out.
 fn write_low_bytes(out: &mut [u8], at: usize, n: usize, x: u64)
-    ensures { at + n ≤ length out.old → out.new ≡ sets out.old at (bytes_of n x) }
+    requires { at + n ≤ length out.old }
+    ensures { out.new ≡ sets out.old at (bytes_of n x) }
 {
-    if out.len() < n {
-        return;
-    }
-    if out.len() - n < at {
-        return;
-    }
     let mut rest = x;
-    let mut i: usize = 0;
-    while i < n {
-        written_numbers::write_byte(out, at + i, (rest % 256) as u8);
-        rest = rest / 256;
-        i += 1;
+    for byte in &mut out[at..at + n] {
+        *byte = (rest % 256) as u8;
+        rest /= 256;
     }
 }
 
-// The plan file over the front of out, where it fits.
+// The plan file over the front of out.
 fn write_file(m: u64, words: &[u64], expected: u64, out: &mut [u8])
-    ensures { plan_length (length words.now) ≤ length out.old → out.new ≡ front (plan_bytes (plan_content m words.now expected)) out.old }
+    requires { plan_length (length words.now) ≤ length out.old }
+    ensures { out.new ≡ front (plan_bytes (plan_content m words.now expected)) out.old }
 {
     let q = words.len();
     written_numbers::write_count(out, 0, m);

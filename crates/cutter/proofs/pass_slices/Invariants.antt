@@ -1,7 +1,7 @@
 -- `pass_slices` meets its contract. The loop's invariant: the runs of the first `t` slices stand at the front of `starts`, the words that
 -- the last of them leaves beside the basis, and the chains' words are undone one clock for each of those slices, in eights.
 use mathlib.Core.Path.{◌≡◌}
-use Prim.Native.Nat.{◌-◌, ◌≤◌, min}
+use Prim.Native.Nat.{◌≤◌, min}
 use lib.ListN.{length}
 use Rattle.column_basis.specs.Basis.{Basis}
 use Rattle.unclocking.specs.Unclocked.{EightBack}
@@ -13,16 +13,13 @@ use Rattle.cutter.proofs.pass_slices.Given as goal
 
 abbrev pub invariant-loop-t : goal.invariant-loop-t
 invariant-loop-t l =
-    (l.t ≤ l.slices)
-    × (l.runs ≤ l.t)
-    × Basis l.basis l.dead
-    × (length l.starts ≡ 512)
-    × (length l.words ≡ length l.initial.words)
-    × (length l.columns ≡ 256)
-    × (l.width ≡ min l.register.m 64)
-    × (EightBack (seen l.register l.initial.words l.slices l.list l.marks).wiring l.table → l.words ≡ earlier_words (seen l.register l.initial.words l.slices l.list l.marks).wiring (eights l.t) l.initial.words)
-    × (Sound (seen l.register l.initial.words l.slices l.list l.marks).wiring → EightBack (seen l.register l.initial.words l.slices l.list l.marks).wiring l.table → 1 ≤ l.k → CutHeld (seen l.register l.initial.words l.slices l.list l.marks) l.k l.t l.runs l.basis l.dead l.starts)
-
-abbrev pub decreases-loop-t : goal.decreases-loop-t
-decreases-loop-t l =
-    l.slices - l.t
+    record {
+      few : l.runs ≤ l.t;
+      order : Basis l.basis l.dead;
+      starts : length l.starts ≡ 512;
+      words : length l.words ≡ length l.initial.words;
+      columns : length l.columns ≡ 256;
+      width : l.width ≡ min l.register.m 64;
+      undone : EightBack (seen l.register l.initial.words l.slices l.list l.marks).wiring l.table → l.words ≡ earlier_words (seen l.register l.initial.words l.slices l.list l.marks).wiring (eights l.t) l.initial.words;
+      held : Sound (seen l.register l.initial.words l.slices l.list l.marks).wiring → EightBack (seen l.register l.initial.words l.slices l.list l.marks).wiring l.table → 1 ≤ l.k → CutHeld (seen l.register l.initial.words l.slices l.list l.marks) l.k l.t l.runs l.basis l.dead l.starts;
+    }

@@ -1,12 +1,13 @@
-use Rattle.elimination.proofs.LoopLaws.{or_start, or_turn, or_end}
+-- `or_all` meets its contract: the fold is the OR of all words.
+use lib.Bits.{bit_or}
 use borrow.Author.Rules.{rules}
+use borrow.Author.Tests.{tests}
+use Rattle.std.proofs.lemmas.Iterator.{YieldsList-from_slice}
+use Rattle.std.proofs.lemmas.Iterator.Consumers.{fold_from_yields_List}
+use Rattle.elimination.proofs.LoopLaws.{or_beyond}
 use Rattle.elimination.proofs.or_all.Goals as goal
 
-pub loop-i-init : goal.loop-i-init
-loop-i-init c = (search rules, or_start _)
-
-pub loop-i-preserved : goal.loop-i-preserved
-loop-i-preserved c = (search rules, or_turn _ _ _ c.loop-i.invariant.1)
-
 pub returns : goal.returns
-returns c = or_end _ _ _ c.loop-i.invariant.1 (search rules) (search rules)
+returns c =
+    or_beyond c.args.words.now c.fold.result
+    (fold_from_yields_List _ bit_or 0 c.fold.result c.fold.ensures.ran (YieldsList-from_slice c.args.words.now cc) (λ a x b q k. search (rules, tests)))

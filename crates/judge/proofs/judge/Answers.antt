@@ -1,36 +1,25 @@
 -- `judge` meets its contract: each way out by its law.
-use native.Mathlib.Omega.{arith}
-use lib.Bits.{bit_xor}
-use lib.Count.{trailing_le}
-use Rattle.judge.proofs.CallLaws.{judged_unsound, judged_beyond, judged_passes, judged_fails}
+use borrow.Author.Rules.{rules}
+use Rattle.judge.proofs.CallLaws.{found_listed, judged_unsound, bits_there, judged_beyond, judged_passes, judged_fails}
 use Rattle.judge.proofs.judge.Goals as goal
 
-pub check_listed-checked-requires : goal.check_listed-checked-requires
-check_listed-checked-requires c = c.find_bits-found.ensures.list
+pub check_listed-requires : goal.check_listed-requires
+check_listed-requires c = found_listed _ c.args.signature c.find_bits-found.result _ c.is_none.ensures c.find_bits-found.ensures
 
-pub returns-in_default : goal.returns-in_default
-returns-in_default c = judged_unsound _ _ _ c.check_listed-checked.ensures _ _ c.in_default.is c.number_of.ensures
+pub returns-in_err-head : goal.returns-in_err-head
+returns-in_err-head c = judged_unsound _ _ c.from_residual.result _ (search rules) c.in_err-head.ensures
 
 pub returns-then-is_beyond : goal.returns-then-is_beyond
 returns-then-is_beyond c =
-    let checked = c.check_listed-checked.ensures in
-    let sound = c.in-Sound.is in
-    judged_beyond _ _ _ checked _ _ _ sound _ c.is_beyond.ensures c.if-is_beyond.true
+    judged_beyond _ _ _ c.in_ok-head.ensures _ c.find_bits-found.ensures _ c.is_beyond.ensures c.if-is_beyond.true
+
+pub unwrap-cancelled-requires : goal.unwrap-cancelled-requires
+unwrap-cancelled-requires c = bits_there _ c.args.signature _ c.in_ok-head.ensures _ c.find_bits-found.ensures
 
 pub returns-then-agrees : goal.returns-then-agrees
 returns-then-agrees c =
-    let checked = c.check_listed-checked.ensures in
-    let sound = c.in-Sound.is in
-    judged_passes _ _ _ checked _ _ _ sound _ c.is_beyond.ensures c.if-is_beyond.false _ _ (c.find_bits-found.ensures.list, c.find_bits-found.ensures.cancelled) c.if-agrees.true
+    judged_passes _ _ _ c.in_ok-head.ensures _ c.find_bits-found.ensures _ c.is_beyond.ensures c.if-is_beyond.false _ c.unwrap-cancelled.ensures c.if-agrees.true
 
-pub overflow_cast-index : goal.overflow_cast-index
-overflow_cast-index c =
-    let expected = c.in-Sound.expected in
-    let found = c.find_bits-found.result in
-    omega (arith, trailing_le 64 (bit_xor found.bits expected))
-
-pub returns : goal.returns
-returns c =
-    let checked = c.check_listed-checked.ensures in
-    let sound = c.in-Sound.is in
-    judged_fails _ _ _ checked _ _ _ sound _ c.is_beyond.ensures c.if-is_beyond.false _ _ (c.find_bits-found.ensures.list, c.find_bits-found.ensures.cancelled) c.if-agrees.false
+pub returns-else-agrees : goal.returns-else-agrees
+returns-else-agrees c =
+    judged_fails _ _ _ c.in_ok-head.ensures _ c.find_bits-found.ensures _ c.is_beyond.ensures c.if-is_beyond.false _ c.unwrap-cancelled.ensures c.if-agrees.false _ c.from.ensures

@@ -4,5 +4,5 @@ use Rattle.plan_file.proofs.expected_bits.Goals as goal
 
 pub returns : goal.returns
 returns c =
-    let bytes = c.shared_slice_known-1.given in
+    let bytes = c.type_inv.plan in
     bits_to_end _ _ _ (λ i. (bytes i).fits) c.count-q.ensures.0 c.requires c.eight_bytes.ensures

@@ -12,22 +12,22 @@ pub loop-i-init : goal.loop-i-init
 loop-i-init c = plan_passed_start _ _ (search rules)
 
 pub plan_word-w-requires : goal.plan_word-w-requires
-plan_word-w-requires c = next_there _ _ _ _ c.loop-i.invariant (search rules)
+plan_word-w-requires c = next_there _ _ _ _ c.loop-i.invariant (omega arith)
 
 pub returns-then-not-is_next : goal.returns-then-not-is_next
 returns-then-not-is_next c =
-    let bytes = c.shared_slice_known-1.given in
+    let bytes = c.type_inv.plan in
     let so_far = c.loop-i.invariant in
     λ h. own_words _ _ _ _ c.width-m.ensures.0 c.count-q.ensures.0
-    (plan_passed_stop _ _ _ _ so_far _ _ (search rules) c.plan_word-w.ensures c.is_next.ensures (λ i. (bytes i).fits) (ap not c.if-not-is_next.true) _)
+    (plan_passed_stop _ _ _ _ so_far _ _ (omega arith) c.plan_word-w.ensures c.is_next.ensures (λ i. (bytes i).fits) (ap not c.if-not-is_next.true) _)
 
 pub loop-i-preserved : goal.loop-i-preserved
 loop-i-preserved c =
     let so_far = c.loop-i.invariant in
-    plan_passed_turn _ _ _ _ so_far _ _ (search rules) c.plan_word-w.ensures c.is_next.ensures _ (ap not c.if-not-is_next.false) c.with_highest-seen.ensures
+    plan_passed_turn _ _ _ _ so_far _ _ (omega arith) c.plan_word-w.ensures c.is_next.ensures _ (ap not c.if-not-is_next.false) c.with_highest-seen.ensures
 
 pub returns : goal.returns
 returns c =
-    let bytes = c.shared_slice_known-1.given in
+    let bytes = c.type_inv.plan in
     λ h. own_words _ _ _ _ c.width-m.ensures.0 c.count-q.ensures.0
-    (c.is_beyond.ensures ∙ plan_passed_end _ _ _ _ c.loop-i.invariant (λ i. (bytes i).fits) (search rules) _)
+    (c.is_beyond.ensures ∙ plan_passed_end _ _ _ _ c.loop-i.invariant (λ i. (bytes i).fits) (omega arith) _)

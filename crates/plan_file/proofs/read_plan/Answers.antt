@@ -1,23 +1,22 @@
 -- `read_plan` meets its contract: each way out by its law.
-use Rattle.plan_file.proofs.CallLaws.{ends_unsound, ends_short, sound_words, ends_read}
 use borrow.Author.Rules.{rules}
+use Rattle.plan_file.proofs.CallLaws.{ends_unsound, ends_short, sound_words, ends_read}
 use Rattle.plan_file.proofs.read_plan.Goals as goal
 
-pub returns-in_default : goal.returns-in_default
-returns-in_default c = record { answer = (ends_unsound _ _ _ c.check_plan-checked.ensures _ _ c.in_default.is c.number_of.ensures).0; list = (ends_unsound _ _ _ c.check_plan-checked.ensures _ _ c.in_default.is c.number_of.ensures).1 }
+pub returns-in_err-head : goal.returns-in_err-head
+returns-in_err-head c =
+    let ends = ends_unsound _ c.args.words.now c.from_residual.result _ (search rules) c.in_err-head.ensures in
+    record { answer = ends.0; list = ends.1 }
 
 pub returns-then-is_short : goal.returns-then-is_short
 returns-then-is_short c =
-    let checked = c.check_plan-checked.ensures in
-    record { answer = (ends_short _ _ _ checked _ _ _ c.in-Sound.is (search rules)).0; list = (ends_short _ _ _ checked _ _ _ c.in-Sound.is (search rules)).1 }
+    let ends = ends_short _ c.args.words.now _ c.in_ok-head.ensures c.if-is_short.true in
+    record { answer = ends.0; list = ends.1 }
 
 pub copy_words-requires : goal.copy_words-requires
-copy_words-requires c =
-    let checked = c.check_plan-checked.ensures in
-    sound_words _ c.args.words.now _ checked _ _ _ c.in-Sound.is (search rules)
+copy_words-requires c = sound_words _ c.args.words.now _ c.in_ok-head.ensures c.if-is_short.false
 
 pub returns : goal.returns
 returns c =
-    let checked = c.check_plan-checked.ensures in
-    let sound = c.in-Sound.is in
-    record { answer = (ends_read _ _ _ checked _ _ _ sound _ (search rules) c.copy_words.ensures).0; list = (ends_read _ _ _ checked _ _ _ sound _ (search rules) c.copy_words.ensures).1 }
+    let ends = ends_read _ c.args.words.now _ c.in_ok-head.ensures _ c.if-is_short.false c.copy_words.ensures in
+    record { answer = ends.0; list = ends.1 }

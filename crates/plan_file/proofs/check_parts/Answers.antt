@@ -1,4 +1,4 @@
--- `plan_refusal` meets its contract: one test for each number, in the order of the list.
+-- `check_parts` meets its contract: one test for each number, in the order of the list.
 use mathlib.Core.Path.{◌≡◌, sym, ◌∙◌}
 use mathlib.Core.Bool.{not}
 use Prim.Native.Nat.{◌≤◌}
@@ -7,8 +7,8 @@ use Rattle.word.proofs.ReplyLaws.{refusals}
 use Rattle.plan_file.specs.Layout.{file_width, file_count, file_words}
 use Rattle.plan_file.specs.Checking.{plan_file_tests}
 use Rattle.plan_file.proofs.TestLaws.{words_there, few_words}
-use Rattle.plan_file.proofs.plan_refusal.Goals as goal
-use Rattle.plan_file.proofs.plan_refusal.Goals.{Else-is_bad_plan_count}
+use Rattle.plan_file.proofs.check_parts.Goals as goal
+use Rattle.plan_file.proofs.check_parts.Goals.{Else-is_bad_plan_count}
 
 -- past 19 and 20
 few : (c : Else-is_bad_plan_count) → (1 ≤ file_count c.args.plan.now) × (file_count c.args.plan.now ≤ 64)
@@ -18,10 +18,8 @@ few c =
 
 listed : (c : Else-is_bad_plan_count) → c.args.bad ≡ not (is_reduced (file_width c.args.plan.now) (file_words c.args.plan.now))
 listed c =
-    let few : (1 ≤ file_count c.args.plan.now) × (file_count c.args.plan.now ≤ 64) = (let width_test = c.is_bad_plan_width.ensures in
-    few_words _ (sym width_test ∙ c.if-is_bad_plan_width.false) (sym c.is_bad_plan_count.ensures ∙ c.if-is_bad_plan_count.false)) in
     let there = words_there _ (sym c.is_bad_plan_count.ensures ∙ c.if-is_bad_plan_count.false) in
-    c.requires (few).1 there
+    c.requires (few c).1 there
 
 pub returns-then-is_bad_plan_width : goal.returns-then-is_bad_plan_width
 unfolding plan_file_tests
