@@ -38,16 +38,13 @@ fn write_any_slices(out: &mut [u8], n: u16, s: u16, values: &[u8], marks: &[u8])
         return;
     }
     let bytes = rows::row_bytes(n as usize);
-    let mut to = set_layout::rows_at(n);
-    let mut from = 0;
-    let mut t: u16 = 0;
-    while t < s {
+    let start = set_layout::rows_at(n);
+    for t in 0..s {
+        let from = bytes * t as usize;
         let end = from + bytes;
+        let to = start + 2 * from;
         written_numbers::write_bytes(out, to, &values[from..end]);
         written_numbers::write_bytes(out, to + bytes, &marks[from..end]);
-        to += 2 * bytes;
-        from = end;
-        t += 1;
     }
 }
 
@@ -56,15 +53,12 @@ fn write_wide_slices(out: &mut [u8], n: u16, s: u16, values: &[u8], marks: &[u8]
     requires { (row_bytes n ≡ 32) × (32 * s ≤ length values.now) × (32 * s ≤ length marks.now) × (rows_at n + 64 * s ≤ length out.old) }
     ensures { out.new ≡ sets out.old (rows_at n) (joined (slice_bytes n values.now marks.now) s) }
 {
-    let mut to = set_layout::rows_at(n);
-    let mut from: usize = 0;
-    let mut t: u16 = 0;
-    while t < s {
+    let start = set_layout::rows_at(n);
+    for t in 0..s {
+        let from = 32 * t as usize;
+        let to = start + 2 * from;
         written_numbers::put_32(out, to, values, from);
         written_numbers::put_32(out, to + 32, marks, from);
-        to += 64;
-        from += 32;
-        t += 1;
     }
 }
 
