@@ -137,14 +137,11 @@ fn has_valued_unknown(set: &[u8]) -> bool
     let n = set_layout::chain_count(set);
     let s = set_layout::slice_count(set);
     let at = set_layout::rows_at(n);
-    let slices = s as usize;
-    if rows::row_bytes(n as usize) != 32 {
-        return finds_valued_unknown(set);
+    let end = at + 64 * s as usize;
+    if rows::row_bytes(n as usize) == 32 && end <= set.len() {
+        return rows::pairs_share_a_bit(set, at, s);
     }
-    if set.len() < at + 64 * slices {
-        return finds_valued_unknown(set);
-    }
-    rows::pairs_share_a_bit(set, at, s)
+    finds_valued_unknown(set)
 }
 
 // Refuses the set's first `count` ties by the first of 29, 30 and 31 that applies. A set without an entry is done at once.

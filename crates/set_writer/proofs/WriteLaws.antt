@@ -78,8 +78,8 @@ pub slices_all : (n : ℕ) (v k l₀ l : List ℕ) (at t s : ℕ) → l ≡ sets
 slices_all n v k l₀ l at t s done e ea = done ∙ ap₂ (λ (i j : ℕ). sets l₀ i (joined (slice_bytes n v k) j)) ea e
 
 -- a list of s rows holds row t
-pub row_inside : (n b s t i all : ℕ) → b ≡ row_bytes n → all ≡ row_bytes n * s → all ≤ i → t < s → b * t + b ≤ i
-row_inside n b s t i all eb ea room h = omega (arith, ap (λ (x : ℕ). x * s) eb, row_step b t s h)
+pub row_inside : (n b s t i : ℕ) → b ≡ row_bytes n → row_bytes n * s ≤ i → t < s → b * t + b ≤ i
+row_inside n b s t i eb room h = omega (arith, ap (λ (x : ℕ). x * s) eb, row_step b t s h)
 
 pub both_inside : (a b e : ℕ) → (ltb a e || ltb b e) ≡ false → (e ≤ a) × (e ≤ b)
 both_inside a b e h = (ltb-false a e (or_false_left (ltb a e) (ltb b e) h), ltb-false b e (or_false_right (ltb a e) (ltb b e) h))

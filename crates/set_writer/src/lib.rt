@@ -31,12 +31,9 @@ fn write_head(out: &mut [u8], m: u64, taps: u64, inversion: u64, spread: &[u64],
 // The first s value rows and mark rows of n chains, in turn, where a set of n chains has its rows; rows of any length, and nothing past
 // the end of out.
 fn write_any_slices(out: &mut [u8], n: u16, s: u16, values: &[u8], marks: &[u8])
-    ensures { length values.now ≡ row_bytes n * s → length marks.now ≡ row_bytes n * s → out.new ≡ sets out.old (rows_at n) (joined (slice_bytes n values.now marks.now) s) }
+    requires { (row_bytes n * s ≤ length values.now) × (row_bytes n * s ≤ length marks.now) }
+    ensures { out.new ≡ sets out.old (rows_at n) (joined (slice_bytes n values.now marks.now) s) }
 {
-    let all = set_layout::rows_length(n, s);
-    if (values.len() < all) | (marks.len() < all) {
-        return;
-    }
     let bytes = rows::row_bytes(n as usize);
     let start = set_layout::rows_at(n);
     for t in 0..s {
@@ -70,15 +67,11 @@ fn write_slices(out: &mut [u8], n: u16, s: u16, values: &[u8], marks: &[u8])
     if (values.len() < all) | (marks.len() < all) {
         return;
     }
-    if rows::row_bytes(n as usize) != 32 {
-        write_any_slices(out, n, s, values, marks);
+    if rows::row_bytes(n as usize) == 32 && out.len() >= set_layout::tie_count_at(n, s) {
+        write_wide_slices(out, n, s, values, marks);
         return;
     }
-    if out.len() < set_layout::tie_count_at(n, s) {
-        write_any_slices(out, n, s, values, marks);
-        return;
-    }
-    write_wide_slices(out, n, s, values, marks);
+    write_any_slices(out, n, s, values, marks);
 }
 
 // The count of ties and their entries, where a set of n chains and s slices has them; nothing past the end of out.

@@ -17,12 +17,10 @@ use Rattle.signatures.proofs.SignatureLaws.{signature_ext}
 use Rattle.signing.specs.Signing.{value_cells}
 
 -- the limit on chains, where the words are 256
-pub signed_limited : (m t v n chains y s : ℕ) (spread words : List ℕ) (x : Response) → y ≡ signature (circuit (min m 64) t v (take chains words)) x s
-    → chains ≡ min n 256 → (words ≡ spread) × (length words ≡ 256) → y ≡ signature (circuit (min m 64) t v (take n spread)) x s
-signed_limited m t v n chains y s spread words x ey ec ew =
-    ey
-    ∙ ap (λ (ws : List ℕ). signature (circuit (min m 64) t v ws) x s) (take_limit words n chains (ec ∙ ap (min n) (sym ew.1)))
-    ∙ ap (λ (ws : List ℕ). signature (circuit (min m 64) t v (take n ws)) x s) ew.0
+pub signed_limited : (m t v n chains y s : ℕ) (spread : List ℕ) (x : Response) → y ≡ signature (circuit (min m 64) t v (take chains spread)) x s
+    → chains ≡ min n 256 → length spread ≡ 256 → y ≡ signature (circuit (min m 64) t v (take n spread)) x s
+signed_limited m t v n chains y s spread x ey ec long =
+    ey ∙ ap (λ (ws : List ℕ). signature (circuit (min m 64) t v ws) x s) (take_limit spread n chains (ec ∙ ap (min n) (sym long)))
 
 -- ---- rows of a set, and of a record
 

@@ -19,11 +19,8 @@ pub fn sign_rows(taken: Taken, list: &[u8], rows: Rows) -> u64
     ensures { result ≡ signature (taken_circuit taken) (cells_of list.now rows) taken.s }
 {
     let chains = register::chain_limit(taken.n);
-    let words = taken.spread;
-    let spread = chains::all_words(words);
-    let given = taken.register;
-    let s = taken.s;
-    slice_signing::sign_slices(given, &spread[..chains], list, rows, s)
+    let spread = taken.spread;
+    slice_signing::sign_slices(taken.register, &spread[..chains], list, rows, taken.s)
 }
 
 // The signature of a taken set's value rows as they stand: an unknown cell's value bit is 0. It meets no number.

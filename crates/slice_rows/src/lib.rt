@@ -21,7 +21,7 @@ pub struct Place {
 fn is_past_slices(set: &[u8], slice: u64) -> bool
     ensures { result ≡ not (ltb slice (slices_of set.now)) }
 {
-    !(slice < set_layout::slice_count(set) as u64)
+    slice >= set_layout::slice_count(set) as u64
 }
 
 // Refuses what isn't a slice of the set, by the first number that applies.
