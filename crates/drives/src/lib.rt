@@ -67,9 +67,9 @@ fn add_looked(drives: &mut [u64], table: &[u64; 2048], list: &[u8], rows: Rows, 
 {
     if are_whole(list, rows, from, s) {
         add_of_whole(drives, table, list, rows.at as usize + from, rows.stride, s);
-        return;
+    } else {
+        add_of_any(drives, table, list, rows, from, s);
     }
-    add_of_any(drives, table, list, rows, from, s);
 }
 
 // What the chains drive in each of the first s slices, 512 at most, by the spread words of 64 chains after the other: the table of their

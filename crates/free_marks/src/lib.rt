@@ -45,10 +45,9 @@ fn clear_cell(copy: &mut [u8], n: u16, t: u16, c: u16)
         return;
     }
     let at = bytes * (t as usize) + byte;
-    if copy.len() <= at {
-        return;
+    if at < copy.len() {
+        copy[at] &= !(1 << (c % 8));
     }
-    copy[at] &= !(1 << (c % 8));
 }
 
 // Clears the cell that entry i names, where its flag is 0; an entry past the flags' end has flag 0.
@@ -56,10 +55,9 @@ fn clear_entry(copy: &mut [u8], n: u16, ties: &[u8], flags: &[u64], i: u16)
     ensures { (k u d : ℕ) → cell (list_row n copy.new u) d ≡ cond (names (ties_in ties.now k) i u d && eqb (get_or flags.now i 0) 0) 0 (cell (list_row n copy.old u) d) }
 {
     let is_flagged = word::word_at(flags, i as usize) != 0;
-    if is_flagged {
-        return;
+    if !is_flagged {
+        clear_cell(copy, n, ties::tie_slice(ties, i), ties::tie_chain(ties, i));
     }
-    clear_cell(copy, n, ties::tie_slice(ties, i), ties::tie_chain(ties, i));
 }
 
 // The rows of marks of s slices of n chains, one after the other, without the marks of the cells that the first `count` entries name whose

@@ -17,12 +17,12 @@ overflow_mul-at c = record { fits = omega (arith, place_small c.row_bytes-bytes.
 pub overflow_add-at : goal.overflow_add-at
 overflow_add-at c = record { fits = omega (arith, place_small c.row_bytes-bytes.result c.args.t (omega arith) (omega arith)) }
 
-pub returns-then-copy-at : goal.returns-then-copy-at
-returns-then-copy-at c =
+pub returns-else-at-copy : goal.returns-else-at-copy
+returns-else-at-copy c =
     let args = c.args in
-    cleared_end args.n args.copy.now args.t args.c _ c.row_bytes-bytes.ensures (search rules) c.if-copy-at.true
+    cleared_end args.n args.copy.now args.t args.c _ c.row_bytes-bytes.ensures (search rules) c.if-at-copy.false
 
-pub returns : goal.returns
-returns c =
+pub returns-then-at-copy : goal.returns-then-at-copy
+returns-then-at-copy c =
     let args = c.args in
     cleared_cell args.n args.copy.now _ args.t args.c _ _ c.row_bytes-bytes.ensures refl (search rules) (search rules) refl
