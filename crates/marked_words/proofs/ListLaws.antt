@@ -29,10 +29,6 @@ use Rattle.rows.proofs.DigitLaws.{word_cell}
 use Rattle.marked_rows.proofs.CountLaws.{total_digits}
 use Rattle.rows.proofs.MarkLaws.{length_listed}
 
-empty : (l : List ℕ) → length l ≡ 0 → l ≡ []
-empty [] e = refl
-empty (x ∷ l) e = let z : ⊥ = omega arith in absurd z
-
 -- ---- the marks of 64 chains
 
 -- the highest bit of a word and the power of two at it
@@ -155,10 +151,9 @@ module _ (ws : List ℕ) where
       → start ≡ length l - length (marked_words ws (bits marks) 64)
   putting_place marks l start h e = e ∙ ap (λ (x : ℕ). length l - x) (sym (words_of_length marks h) ∙ ap length (words_of_lem marks))
 
-  -- a bit is left for each place that is left
-  pub putting_some : (marks : ℕ) (l₀ l : List ℕ) (place left : ℕ) → Putting marks l₀ l place left → place < length l₀ → left ≡ 0 → ⊥
+  pub putting_room : (marks : ℕ) (l₀ l : List ℕ) (place left low : ℕ) → Putting marks l₀ l place left → Lowest left low → place < length l
   unfolding Putting
-  putting_some marks l₀ l place left p h e = omega (arith, p.1, ap length (ap words_of e ∙ words_of_none))
+  putting_room marks l₀ l place left low p t = omega (arith, p.0, p.1, ap length (words_of_low left low t))
 
   pub putting_long : (marks : ℕ) (l₀ l : List ℕ) (place left : ℕ) → Putting marks l₀ l place left → length l ≡ length l₀
   unfolding Putting
@@ -178,11 +173,11 @@ module _ (ws : List ℕ) where
             ∙ append_snoc (take place l) w (words_of (bit_and left (left - 1))) ∙ ap (λ (x : List ℕ). take place l ++ x) (sym words) ∙ p.2,
       )
 
-  pub putting_ends : (marks : ℕ) (l₀ l : List ℕ) (place left : ℕ) → Putting marks l₀ l place left → length l₀ ≤ place
+  pub putting_ends : (marks : ℕ) (l₀ l : List ℕ) (place left : ℕ) → Putting marks l₀ l place left → left ≡ 0
       → l ≡ back (marked_words ws (bits marks) 64) l₀
   unfolding Putting
-  putting_ends marks l₀ l place left p h =
-      let none : words_of left ≡ [] = empty (words_of left) (omega (arith, p.1)) in
+  putting_ends marks l₀ l place left p e =
+      let none : words_of left ≡ [] = ap words_of e ∙ words_of_none in
       let all : length l ≤ place = omega (arith, p.0, p.1, ap length none) in
       sym (ap₂ (λ (x y : List ℕ). x ++ y) (take_all place l all) none ∙ append-nil l) ∙ p.2 ∙ ap (λ (x : List ℕ). back x l₀) (words_of_lem marks)
 
