@@ -32,10 +32,11 @@ pub fn skip_by_table(table: &[u64; 2048], columns: &[u64], from: usize) -> usize
     ensures { result ≡ from + table_run table.now (drop from columns.now) }
 {
     let rest = &columns[from.min(columns.len())..];
-    from + rest
+    let even = rest
         .iter()
         .take_while(|x| byte_tables::looked_up(table, **x) == 0)
-        .count()
+        .count();
+    from + even
 }
 
 // The same for the first 64 words, whose table is made for it, here and not by `byte_table`: a table handed back is copied.
@@ -71,10 +72,10 @@ fn is_even(words: &[u64], column: u64) -> bool
 fn has_odd(columns: &[u64], w: u64) -> bool
     ensures { result ≡ false → (j : ℕ) → j < length columns.now → parity (get_or columns.now j 0) w ≡ 0 }
 {
-    columns
+    let odd = columns
         .iter()
-        .fold(0, |odd, x| odd | word::shared_parity(*x, w))
-        != 0
+        .fold(0, |odd, x| odd | word::shared_parity(*x, w));
+    odd != 0
 }
 
 // Whether all columns are even with every word.
@@ -92,11 +93,11 @@ fn even_blocks(words: &[u64], columns: &[u64]) -> usize
     ensures within { result ≤ length columns.now }
     ensures even { (j : ℕ) → j < result → x_free words.now (get_or columns.now j 0) ≡ true }
 {
-    BLOCK
-        * columns
-            .chunks_exact(BLOCK)
-            .take_while(|block| are_even(words, block))
-            .count()
+    let blocks = columns
+        .chunks_exact(BLOCK)
+        .take_while(|block| are_even(words, block))
+        .count();
+    BLOCK * blocks
 }
 
 // The place of the first column, from place `from` on, that is odd with one of the words, without a table; the end where none is. For a few
@@ -106,9 +107,9 @@ pub fn skip_plainly(words: &[u64], columns: &[u64], from: usize) -> usize
 {
     let rest = &columns[from.min(columns.len())..];
     let even = even_blocks(words, rest);
-    from + even
-        + rest[even..]
-            .iter()
-            .take_while(|x| is_even(words, **x))
-            .count()
+    let behind = rest[even..]
+        .iter()
+        .take_while(|x| is_even(words, **x))
+        .count();
+    from + even + behind
 }

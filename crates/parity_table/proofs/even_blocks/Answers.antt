@@ -40,7 +40,7 @@ in_blocks ws cs rest n j P o o' y e same size all at h part even =
 pub returns-clause-even : goal.returns-clause-even
 returns-clause-even c =
     λ j l.
-    let whole = c.count.ensures.runs in
+    let whole = c.count-blocks.ensures.runs in
     let p = whole.0 in
     let front = c.take_while.ensures.runs p p.seen whole.1 in
     let q = front.0 in
@@ -48,5 +48,5 @@ returns-clause-even c =
     let size : q.from.size ≡ 64 = cc front.1 in
     let rest : q.from.rest.now ≡ c.args.columns.now = cc front.1 in
     let block = c.chunks_exact.ensures.runs q q.seen (omega (arith, size)) in
-    in_blocks c.args.words.now c.args.columns.now _ _ j _ (p.at (j / 64)) (q.at (j / 64)) _ (p.reads (j / 64) c.args.columns below) (front.2.1 (j / 64) below) size rest (omega arith)
+    in_blocks c.args.words.now c.args.columns.now q.from.rest.now q.from.size j _ (p.at (j / 64)) (q.at (j / 64)) _ (p.reads (j / 64) c.args.columns below) (front.2.1 (j / 64) below) size rest (omega arith)
     ((front.2.2 (λ a r f k. search rules)).0 (j / 64)) (block.2 (j / 64)) (λ x k. search rules)

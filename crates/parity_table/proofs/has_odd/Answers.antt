@@ -14,5 +14,5 @@ returns c =
     λ e.
     none_odd_fold c.args.w c.args.columns.now
     (sym
-    (fold_from_yields_List _ (λ a x. bit_or a (parity x c.args.w)) _ _ c.fold.ensures.ran (YieldsList-from_slice c.args.columns.now cc) (λ a x b q k. search (rules, tests)))
+    (fold_from_yields_List _ (λ a x. bit_or a (parity x c.args.w)) _ _ c.fold-odd.ensures.ran (YieldsList-from_slice c.args.columns.now cc) (λ a x b q k. search (rules, tests)))
     ∙ eqb-true _ 0 (not-false _ e))

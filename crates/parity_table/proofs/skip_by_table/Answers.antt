@@ -15,7 +15,7 @@ use Rattle.parity_table.proofs.skip_by_table.Goals as goal
 pub returns : goal.returns
 returns c =
     ap (λ (n : ℕ). c.args.from + n)
-    (count_from_yields_List c.take_while.result _ c.count.ensures.ran
+    (count_from_yields_List c.take_while.result _ c.count-even.ensures.ran
     (YieldsList-from_take_while _ (λ x. eqb (looked c.args.table.now x 8) 0)
     (YieldsList-at c.take_while.ensures.source (YieldsList-from_slice _ c.iter.ensures.rest))
     c.take_while.ensures.closure c.take_while.ensures.done (λ x b q k. search (rules, tests)))

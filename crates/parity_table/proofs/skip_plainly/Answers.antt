@@ -13,7 +13,7 @@ pub returns : goal.returns
 returns c =
     run_behind (x_free c.args.words.now) _ _ _ _ _ (from_part c.args.columns.now c.args.from c.min.result c.min.ensures) c.even_blocks-even.ensures.within
     c.even_blocks-even.ensures.even
-    (count_from_yields_List c.take_while.result _ c.count.ensures.ran
+    (count_from_yields_List c.take_while.result _ c.count-behind.ensures.ran
     (YieldsList-from_take_while _ (x_free c.args.words.now) (YieldsList-at c.take_while.ensures.source (YieldsList-from_slice _ c.iter.ensures.rest))
     c.take_while.ensures.closure c.take_while.ensures.done (λ x b q k. search (rules, tests)))
     ∙ run_prefix _ _)
