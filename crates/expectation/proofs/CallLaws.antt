@@ -8,9 +8,13 @@ use native.Mathlib.Omega.{arith}
 use lib.Bits.{bit_xor}
 use lib.ListN.{length, take}
 use lib.Seq.{take_all}
+use Rattle.std.specs.Prelude.{Result, Err}
+use Rattle.refusals.specs.declared.Refusal.{Refusal}
+use Rattle.refusals.specs.Refusals.{number}
+use Rattle.refusals.proofs.RefusalLaws.{not_zero, refused_call}
 use Rattle.word.specs.Parities.{parities}
 use Rattle.word.specs.Reply.{answer, refusal, first_of}
-use Rattle.word.proofs.ReplyLaws.{replied_answered, refused_reply}
+use Rattle.word.proofs.ReplyLaws.{replied_answered}
 use Rattle.word.proofs.TestLaws.{none_and_rest, first_of_later, first_sooner}
 use Rattle.combinations.specs.Reduced.{is_reduced}
 use Rattle.reduced_list.specs.WordCount.{bad_word_count}
@@ -20,16 +24,17 @@ use Rattle.ties.specs.Symbols.{Within}
 use Rattle.chains.specs.Driven.{bad_spread}
 use Rattle.register.specs.Circuit.{Circuit, chains}
 use Rattle.set_layout.specs.Layout.{width_of, circuit_of, slices_of, values, value_row, tie_count_of, tie_bytes, ties_of}
-use Rattle.set_file.specs.Reading.{set_tests, taken_circuit, TakenFrom}
+use Rattle.set_file.specs.Reading.{set_tests, set_reply, taken_circuit, TakenFrom}
 use Rattle.set_file.specs.declared.Taken.{Taken}
 use Rattle.set_file.proofs.Laws.{accepted, accepted_width, set_numbered}
+use Rattle.set_file.proofs.ReadLaws.{refused_set}
 use Rattle.signatures.specs.Signature.{signature}
 use Rattle.signatures.specs.Symbols.{side_columns}
 use Rattle.signatures.specs.Sets.{zero_signature}
 use Rattle.signatures.proofs.SetLaws.{zero_of_values}
 use Rattle.signatures.proofs.TakenLaws.{own_slices, own_spread, own_ties, own_within}
 use Rattle.signing.specs.Signing.{value_cells}
-use Rattle.expectation.specs.Expecting.{expected_for, word_tests, expect_tests, expect_reply}
+use Rattle.expectation.specs.Expecting.{expected_for, word_tests, expect_tests, expect_reply, said_expected}
 
 -- the columns of a taken set's cells that are tied as opposite
 pub opposite_taken : (set : List ℕ) (k : Taken) (ties : List ℕ) (count r : ℕ) → TakenFrom set k → ties ≡ tie_bytes set → count ≡ tie_count_of set
@@ -56,10 +61,12 @@ zero_taken set k y r taken e er =
 pub expected_taken : (set ws : List ℕ) (y : ℕ) → length ws ≤ 64 → y ≡ parities (take 64 ws) (zero_signature set) → y ≡ expected_for set ws
 expected_taken set ws y few e = e ∙ ap (λ (l : List ℕ). parities l (zero_signature set)) (take_all 64 ws few)
 
--- the set is refused with the number n
-pub expect_set_refused : (set ws : List ℕ) (n : ℕ) → n ≡ first_of (set_tests set) → (n ≡ 0 → ⊥) → refusal n ≡ expect_reply set ws
+-- the set is refused
+pub expect_set_refused : (set ws : List ℕ) (r : Result ℕ Refusal) (e : Refusal) → r ≡ Err e → refusal (number e) ≡ set_reply set
+    → said_expected r ≡ expect_reply set ws
 unfolding expect_reply expect_tests
-expect_set_refused set ws n e h = refused_reply _ n _ (first_sooner (set_tests set) _ n e h) h
+expect_set_refused set ws r e is h =
+    refused_call (λ n. n) r e _ _ is (first_sooner (set_tests set) _ (number e) (refused_set set (number e) h) (not_zero e))
 
 -- ---- past the set's numbers
 
@@ -68,11 +75,12 @@ module _ (set ws : List ℕ) (none : first_of (set_tests set) ≡ 0) where
   unfolding expect_tests
   expect_later = first_of_later (set_tests set) (word_tests (width_of set) ws) (set_numbered set) none
 
-  -- the words are refused with the number n
-  pub expect_words_refused : (m n : ℕ) → m ≡ width_of set → n ≡ first_of (word_tests m ws) → (n ≡ 0 → ⊥) → refusal n ≡ expect_reply set ws
+  -- the words are refused
+  pub expect_words_refused : (m : ℕ) (r : Result ℕ Refusal) (e : Refusal) → r ≡ Err e → m ≡ width_of set → number e ≡ first_of (word_tests m ws)
+      → said_expected r ≡ expect_reply set ws
   unfolding expect_reply
-  expect_words_refused m n em e h =
-      refused_reply _ n _ (e ∙ ap (λ (x : ℕ). first_of (word_tests x ws)) em ∙ sym expect_later) h
+  expect_words_refused m r e is em h =
+      refused_call (λ n. n) r e _ _ is (h ∙ ap (λ (x : ℕ). first_of (word_tests x ws)) em ∙ sym expect_later)
 
   -- words that meet neither number get their expected bits, whichever set they were made of
   pub expect_answered : first_of (word_tests (width_of set) ws) ≡ 0 → expect_reply set ws ≡ answer (expected_for set ws)
@@ -90,9 +98,9 @@ unfolding word_tests
 words_limited m ws h none =
     omega (arith, (good_count m (length ws) (none_and_rest (bad_word_count m (length ws)) 19 _ none).0).1)
 
-pub expect_answers : (set ws : List ℕ) (k : Taken) (n y : ℕ) → TakenFrom set k → n ≡ first_of (word_tests k.register.m ws) → n ≡ 0
+pub expect_answers : (set ws : List ℕ) (k : Taken) (y : ℕ) → TakenFrom set k → 0 ≡ first_of (word_tests k.register.m ws)
     → y ≡ parities (take 64 ws) (zero_signature set) → answer y ≡ expect_reply set ws
-expect_answers set ws k n y taken e z ey =
-    let neither : first_of (word_tests (width_of set) ws) ≡ 0 = ap (λ (x : ℕ). first_of (word_tests x ws)) (sym taken.width) ∙ sym e ∙ z in
+expect_answers set ws k y taken none ey =
+    let neither : first_of (word_tests (width_of set) ws) ≡ 0 = ap (λ (x : ℕ). first_of (word_tests x ws)) (sym taken.width) ∙ sym none in
     let few : length ws ≤ 64 = words_limited (width_of set) ws (accepted_width set (accepted set taken.none)).1 neither in
     ap answer (expected_taken set ws y few ey) ∙ sym (expect_answered set ws taken.none neither)

@@ -8,16 +8,16 @@
 --   expect_tests set ws   the numbers that the call meets, in order: the set's, then these
 --   expect_reply set ws   its reply: the expected bits
 --   said_expected e       the paper's reading of what the call hands back
-use Rattle.std.specs.Prelude.{not, List, [], ◌∷◌, ◌++◌, ℕ, length}
+use Rattle.std.specs.Prelude.{not, List, [], ◌∷◌, ◌++◌, ℕ, length, Result}
 use Rattle.word.specs.Parities.{parities}
-use Rattle.word.specs.Reply.{Test, ◌when◌, Reply, answer, refusal, reply}
+use Rattle.word.specs.Reply.{Test, ◌when◌, Reply, reply}
 use Rattle.combinations.specs.Reduced.{is_reduced}
 use Rattle.reduced_list.specs.WordCount.{bad_word_count}
 use Rattle.set_layout.specs.Layout.{width_of}
 use Rattle.set_file.specs.Reading.{set_tests}
 use Rattle.signatures.specs.Sets.{zero_signature}
-use Rattle.expectation.specs.declared.Expected.{Expected}
-use Rattle.expectation.specs.declared.Expected.TheVariants.{Bits, Refused}
+use Rattle.refusals.specs.declared.Refusal.{Refusal}
+use Rattle.refusals.specs.Refusals.{replied_by}
 
 abbrev pub expected_for : List ℕ → List ℕ → ℕ
 expected_for set ws = parities ws (zero_signature set)
@@ -34,6 +34,5 @@ expect_tests set ws = set_tests set ++ word_tests (width_of set) ws
 unfoldable pub expect_reply : List ℕ → List ℕ → Reply ℕ
 expect_reply set ws = reply (expect_tests set ws) (expected_for set ws)
 
-abbrev pub said_expected : Expected → Reply ℕ
-said_expected (Bits e) = answer e
-said_expected (Refused n) = refusal n
+abbrev pub said_expected : Result ℕ Refusal → Reply ℕ
+said_expected = replied_by (λ n. n)

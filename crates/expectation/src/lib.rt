@@ -5,6 +5,7 @@
 ghost use Rattle.std.specs.Prelude.{◌≡◌, not, take};
 ghost use Rattle.word.specs.Reply.{first_of};
 ghost use Rattle.word.specs.Parities.{parities};
+ghost use Rattle.refusals.specs.Refusals.{refused};
 ghost use Rattle.combinations.specs.Reduced.{is_reduced};
 ghost use Rattle.set_layout.specs.Layout.{circuit_of, slices_of, ties_of};
 ghost use Rattle.set_file.specs.Reading.{TakenFrom};
@@ -12,14 +13,8 @@ ghost use Rattle.signatures.specs.Symbols.{side_columns};
 ghost use Rattle.signatures.specs.Sets.{zero_signature};
 ghost use Rattle.expectation.specs.Expecting.{word_tests, expect_reply, said_expected};
 
-use set_file::{SetAnswer, Taken};
-
-// What the call answers: the expected bits as one word, or the first number that applies.
-#[derive(Drop)]
-pub enum Expected {
-    Bits { expected: u64 },
-    Refused { number: u64 },
-}
+use refusals::Refusal;
+use set_file::Taken;
 
 // The XOR of the columns of a taken set's cells that are tied as opposite.
 fn opposite_cells(taken: Taken, set: &[u8]) -> u64
@@ -56,43 +51,25 @@ fn is_unreduced(m: u64, words: &[u64]) -> bool
     !reduced_list::is_reduced(m, words)
 }
 
-// The first of 20 and 21 that applies to a list of words for a register of m bits; 0 where neither does.
-fn words_refusal(m: u64, words: &[u64]) -> u64
-    ensures { result ≡ first_of (word_tests m words.now) }
+// Refuses a list of words for a register of m bits by the first of 20 and 21 that applies.
+fn check_words(m: u64, words: &[u64]) -> Result<(), Refusal>
+    ensures { refused result ≡ first_of (word_tests m words.now) }
 {
     if reduced_list::is_bad_word_count(m, words.len() as u64) {
-        return 20;
+        return Err(Refusal::WordCount);
     }
     if is_unreduced(m, words) {
-        return 21;
+        return Err(Refusal::WordList);
     }
-    0
+    Ok(())
 }
 
 // The expected bits of a set for a list of words, of document 02: each word's parity, whichever set the words were made of. It meets
 // the set's numbers, then 20 for how many words there are and 21 for a list that isn't reduced for m.
-pub fn expect(set: &[u8], words: &[u64]) -> Expected
+pub fn expect(set: &[u8], words: &[u64]) -> Result<u64, Refusal>
     ensures { said_expected result ≡ expect_reply set.now words.now }
 {
-    let read = set_file::read_set(set);
-    let answer = read.answer;
-    let SetAnswer::Read { register, n, s } = answer else {
-        return Expected::Refused {
-            number: set_file::number_of(answer),
-        };
-    };
-    let number = words_refusal(register.m, words);
-    if number != 0 {
-        return Expected::Refused { number };
-    }
-    let spread = read.spread;
-    let taken = Taken {
-        register,
-        n,
-        s,
-        spread,
-    };
-    Expected::Bits {
-        expected: expected_bits(taken, set, words),
-    }
+    let taken = set_file::read_set(set)?;
+    check_words(taken.register.m, words)?;
+    Ok(expected_bits(taken, set, words))
 }

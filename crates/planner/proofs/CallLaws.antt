@@ -8,47 +8,59 @@ use Prim.Native.Nat.{ℕ, zero, suc, ◌≤◌}
 use native.Mathlib.Omega.{arith}
 use lib.Dec.{ltb}
 use lib.ListN.{length, take}
-use Rattle.word.specs.Reply.{Reply, answer, refusal, replied, first_of, number_of, lent}
+use Rattle.word.specs.Reply.{Reply, answer, refusal, replied, first_of, lent}
 use Rattle.word.specs.Zeros.{zeros}
 use Rattle.word.proofs.ReplyLaws.{refused_reply, refusal_leaves, refused_leaves, answered_part}
 use Rattle.word.proofs.TestLaws.{replied_answer, replied_alike}
-use Rattle.set_file.specs.Reading.{set_tests, TakenFrom}
+use Rattle.set_file.specs.Reading.{set_tests, set_reply, TakenFrom}
 use Rattle.set_file.specs.declared.Taken.{Taken}
 use Rattle.set_file.proofs.Laws.{accepted}
 use Rattle.kept_words.specs.Working.{words_of, working_places, working_test, kept_tests, kept_reply, said as kept_said}
-use Rattle.kept_words.specs.declared.Kept.{Kept}
 use Rattle.kept_words.proofs.KeptLaws.{KeptEnd}
 use Rattle.expectation.specs.Expecting.{expected_for}
-use Rattle.planner.specs.Planning.{earlier_tests, working_left, expected_of, plan_tests, WordParts, word_parts_of, words_reply, said_worded, PlanParts, parts_of, plan_reply, said}
-use Rattle.planner.specs.declared.Worded.{Worded}
+use Rattle.planner.specs.Planning.{earlier_tests, working_left, expected_of, plan_tests, WordParts, word_parts_of, words_reply, said_made, PlanParts, parts_of, plan_reply, said}
+use Rattle.planner.specs.declared.Made.{Made}
 use Rattle.planner.specs.declared.Planned.{Planned}
-use Rattle.planner.specs.declared.Planned.TheVariants.{Plan, Refused}
-use Rattle.planner.proofs.NumberLaws.{later, plan_sooner, plan_later, earlier_past_set, words_few, planned_none}
+use Rattle.std.specs.Prelude.{Result, Ok, Err}
+use Rattle.refusals.specs.declared.Refusal.{Refusal}
+use Rattle.refusals.specs.Refusals.{number}
+use Rattle.refusals.proofs.RefusalLaws.{not_zero}
+use Rattle.set_file.proofs.ReadLaws.{refused_set}
+use Rattle.planner.proofs.NumberLaws.{later, set_first, plan_sooner, plan_later, earlier_past_set, words_few, planned_none}
 
--- what the call that gives the words answers, w, and leaves in the working list cs, cs', and in the word list ws, ws'
-abbrev pub WordsEnd : List ℕ → List ℕ → List ℕ → Worded → List ℕ → List ℕ → Type 0
-WordsEnd set cs ws w cs' ws' =
-    (said_worded w ≡ words_reply set (length cs) (length ws))
+-- what the call that gives the words answers, a, and leaves in the working list cs, cs', and in the word list ws, ws'
+abbrev pub WordsEnd : List ℕ → List ℕ → List ℕ → Reply WordParts → List ℕ → List ℕ → Type 0
+WordsEnd set cs ws a cs' ws' =
+    (a ≡ words_reply set (length cs) (length ws))
     × ((cs' ≡ working_left set cs) × (ws' ≡ lent (words_reply set (length cs) (length ws)) (words_of set) ws))
 
 -- .. and planning, p
-abbrev pub Ends : List ℕ → List ℕ → List ℕ → Planned → List ℕ → List ℕ → Type 0
+abbrev pub Ends : List ℕ → List ℕ → List ℕ → Result Planned Refusal → List ℕ → List ℕ → Type 0
 Ends set cs ws p cs' ws' =
     (said p ≡ plan_reply set (length cs) (length ws))
     × ((cs' ≡ working_left set cs) × (ws' ≡ lent (plan_reply set (length cs) (length ws)) (words_of set) ws))
 
 words_refused : (set cs ws cs' : List ℕ) (k : ℕ) → words_reply set (length cs) (length ws) ≡ refusal k → cs' ≡ working_left set cs
-    → WordsEnd set cs ws (Worded.Refused k) cs' ws
+    → WordsEnd set cs ws (refusal k) cs' ws
 words_refused set cs ws cs' k h e = let left = refusal_leaves _ _ k (words_of set) ws h refl in (left.0, (e, left.1))
 
 -- ---- the words: the set is refused, or 14
 
-pub words_early : (set cs ws : List ℕ) (k : ℕ) → k ≡ first_of (earlier_tests set (length cs)) → (k ≡ 0 → ⊥) → WordsEnd set cs ws (Worded.Refused k) cs ws
+pub words_early : (set cs ws : List ℕ) (k : ℕ) → k ≡ first_of (earlier_tests set (length cs)) → (k ≡ 0 → ⊥) → WordsEnd set cs ws (refusal k) cs ws
 unfolding words_reply
 words_early set cs ws k e some =
     let number : k ≡ first_of (plan_tests set (length cs) (length ws)) = e ∙ sym (plan_sooner set (length cs) (length ws) (λ z. some (e ∙ z))) in
     words_refused set cs ws cs k (sym (refused_reply _ k (word_parts_of set) number some))
     (refused_leaves (first_of (earlier_tests set (length cs))) k (working_places set) (zeros (working_places set)) cs e some).1
+
+-- .. of which the first is that the set reader refuses it
+set_early : (set cs : List ℕ) (e : Refusal) → refusal (number e) ≡ set_reply set → number e ≡ first_of (earlier_tests set (length cs))
+set_early set cs e h = set_first set (length cs) (number e) (refused_set set (number e) h) (not_zero e)
+
+pub words_unread : (set cs ws : List ℕ) (r : Result Made Refusal) (e : Refusal) → r ≡ Err e → refusal (number e) ≡ set_reply set
+    → WordsEnd set cs ws (said_made r) cs ws
+words_unread set cs ws r e is h =
+    let early = words_early set cs ws (number e) (set_early set cs e h) (not_zero e) in (ap said_made is ∙ early.0, early.1)
 
 -- ---- the words: past the set's numbers, of the taken set k
 
@@ -77,12 +89,12 @@ module _ (set : List ℕ) (k : Taken) (taken : TakenFrom set k) where
           let there : first_of (kept_tests set p l) ≡ first_of (later set l) = rw h in
           plan_later set p l none ∙ sym there
 
-  module _ (cs ws cs' ws' : List ℕ) (kept : Kept) (end : KeptEnd set cs ws kept cs' ws') where
-    number : ℕ
-    number = first_of (plan_tests set (length cs) (length ws))
+  module _ (cs ws cs' ws' : List ℕ) (kept : Result ℕ Refusal) (end : KeptEnd set cs ws kept cs' ws') where
+    first : ℕ
+    first = first_of (plan_tests set (length cs) (length ws))
 
-    reply_there : kept_reply set (length cs) (length ws) ≡ replied number (length (words_of set))
-    unfolding kept_reply number
+    reply_there : kept_reply set (length cs) (length ws) ≡ replied first (length (words_of set))
+    unfolding kept_reply first
     reply_there = ap (λ (n : ℕ). replied n (length (words_of set))) (sym (same_first (length cs) (length ws)))
 
     working_left_lem : cs' ≡ working_left set cs
@@ -91,24 +103,22 @@ module _ (set : List ℕ) (k : Taken) (taken : TakenFrom set k) where
         ∙ ap (λ (n : ℕ). lent (replied n (working_places set)) (zeros (working_places set)) cs) (sym (earlier_past_set set (length cs) taken.none))
 
     words_left_lem : ws' ≡ lent (words_reply set (length cs) (length ws)) (words_of set) ws
-    unfolding words_reply number
+    unfolding words_reply first
     words_left_lem =
         end.1.1 ∙ ap (λ (a : Reply ℕ). lent a (words_of set) ws) reply_there
-        ∙ lent_alike number (length (words_of set)) (word_parts_of set) (words_of set) ws
+        ∙ lent_alike first (length (words_of set)) (word_parts_of set) (words_of set) ws
 
-    -- j is the number that `number_of` gives
-    pub words_unkept : (n j : ℕ) → kept ≡ Kept.Refused n → j ≡ number_of (kept_said kept) → WordsEnd set cs ws (Worded.Refused j) cs' ws'
-    unfolding words_reply number
-    words_unkept n j ek h =
-        let refused : replied number (length (words_of set)) ≡ refusal n = sym reply_there ∙ sym end.0 ∙ ap kept_said ek in
-        let same : j ≡ n = h ∙ ap (λ (x : Kept). number_of (kept_said x)) ek in
-        (ap refusal same ∙ sym (replied_alike number (length (words_of set)) (word_parts_of set) n refused), (working_left_lem, words_left_lem))
+    pub words_unkept : (r : Result Made Refusal) (e : Refusal) → r ≡ Err e → kept ≡ Err e → WordsEnd set cs ws (said_made r) cs' ws'
+    unfolding words_reply first
+    words_unkept r e is ek =
+        let refused : replied first (length (words_of set)) ≡ refusal (number e) = sym reply_there ∙ sym end.0 ∙ ap kept_said ek in
+        (ap said_made is ∙ sym (replied_alike first (length (words_of set)) (word_parts_of set) (number e) refused), (working_left_lem, words_left_lem))
 
-    pub words_kept : (m q : ℕ) → m ≡ k.register.m → kept ≡ Kept.Words q → WordsEnd set cs ws (Worded.Words m q) cs' ws'
-    unfolding words_reply number
-    words_kept m q em ek =
-        let both = replied_answer number (length (words_of set)) q (sym reply_there ∙ sym end.0 ∙ ap kept_said ek) in
-        (ap₂ (λ (x y : ℕ). answer (record { m = x; q = y })) (em ∙ taken.width) both.1 ∙ sym (ap (λ (x : ℕ). replied x (word_parts_of set)) both.0), (working_left_lem, words_left_lem))
+    pub words_kept : (q : ℕ) → kept ≡ Ok q → WordsEnd set cs ws (answer (record { m = k.register.m; q = q })) cs' ws'
+    unfolding words_reply first
+    words_kept q ek =
+        let both = replied_answer first (length (words_of set)) q (sym reply_there ∙ sym end.0 ∙ ap kept_said ek) in
+        (ap₂ (λ (x y : ℕ). answer (record { m = x; q = y })) taken.width both.1 ∙ sym (ap (λ (x : ℕ). replied x (word_parts_of set)) both.0), (working_left_lem, words_left_lem))
 
 -- ---- planning, by what the call that gives the words answers and leaves
 
@@ -118,26 +128,24 @@ parts {w = w} {q = q} {k = k} {y = y} a b c =
     ∙ ap (λ (x : ℕ). answer (record { m = w; q = x; expected = y })) b
     ∙ ap (λ (x : ℕ). answer (record { m = w; q = k; expected = x })) c
 
-module _ (set cs ws cs' ws' : List ℕ) (w : Worded) (end : WordsEnd set cs ws w cs' ws') where
+module _ (set cs ws cs' ws' : List ℕ) (a : Reply WordParts) (end : WordsEnd set cs ws a cs' ws') where
   same_list_lem : ws' ≡ lent (plan_reply set (length cs) (length ws)) (words_of set) ws
   unfolding words_reply plan_reply
   same_list_lem = end.1.1 ∙ lent_alike (first_of (plan_tests set (length cs) (length ws))) (word_parts_of set) (parts_of set) (words_of set) ws
 
-  -- there are no words; k is the number that `words_number` gives
-  pub ends_refused : (n k : ℕ) → w ≡ Worded.Refused n → k ≡ number_of (said_worded w) → Ends set cs ws (Refused k) cs' ws'
+  -- there are no words
+  pub ends_refused : (r : Result Planned Refusal) (e : Refusal) → r ≡ Err e → a ≡ refusal (number e) → Ends set cs ws r cs' ws'
   unfolding words_reply plan_reply
-  ends_refused n k e h =
-      let refused : words_reply set (length cs) (length ws) ≡ refusal n = sym end.0 ∙ ap said_worded e in
-      let number : k ≡ n = h ∙ ap (λ (x : Worded). number_of (said_worded x)) e in (
-        ap refusal number
-            ∙ sym (replied_alike (first_of (plan_tests set (length cs) (length ws))) (word_parts_of set) (parts_of set) n refused),
-        (end.1.0, same_list_lem),
-      )
+  ends_refused r e is ea = (
+    ap said is
+        ∙ sym (replied_alike (first_of (plan_tests set (length cs) (length ws))) (word_parts_of set) (parts_of set) (number e) (sym end.0 ∙ ea)),
+    (end.1.0, same_list_lem),
+  )
 
   -- there are: they stand at the front of the word list
-  module _ (m q : ℕ) (e : w ≡ Worded.Words m q) where
+  module _ (m q : ℕ) (e : a ≡ answer (record { m = m; q = q })) where
     worded : words_reply set (length cs) (length ws) ≡ answer (record { m = m; q = q })
-    worded = sym end.0 ∙ ap said_worded e
+    worded = sym end.0 ∙ e
 
     worded_both : (first_of (plan_tests set (length cs) (length ws)) ≡ 0) × (record { m = m; q = q } ≡ word_parts_of set)
     unfolding words_reply
@@ -156,7 +164,7 @@ module _ (set cs ws cs' ws' : List ℕ) (w : Worded) (end : WordsEnd set cs ws w
     worded_few =
         omega (arith, ap length worded_words.1, words_few set (accepted set worded_set))
 
-    pub ends_planned : (y : ℕ) → y ≡ expected_for set (take q ws') → Ends set cs ws (Plan m q y) cs' ws'
+    pub ends_planned : (y : ℕ) → y ≡ expected_for set (take q ws') → Ends set cs ws (Ok (record { m = m; q = q; expected = y })) cs' ws'
     unfolding plan_reply expected_of
     ends_planned y ey = (
       parts (ap (λ (x : WordParts). x.m) worded_both.1) (ap (λ (x : WordParts). x.q) worded_both.1) (ey ∙ ap (expected_for set) worded_words.1)
@@ -164,9 +172,10 @@ module _ (set cs ws cs' ws' : List ℕ) (w : Worded) (end : WordsEnd set cs ws w
       (end.1.0, same_list_lem),
     )
 
--- the set is refused, or 14
-pub ends_early : (set cs ws : List ℕ) (k : ℕ) → k ≡ first_of (earlier_tests set (length cs)) → (k ≡ 0 → ⊥) → Ends set cs ws (Refused k) cs ws
-ends_early set cs ws k e some = ends_refused set cs ws cs ws (Worded.Refused k) (words_early set cs ws k e some) k k refl refl
+-- the set reader refuses the set
+pub ends_unread : (set cs ws : List ℕ) (r : Result Planned Refusal) (e : Refusal) → r ≡ Err e → refusal (number e) ≡ set_reply set → Ends set cs ws r cs ws
+ends_unread set cs ws r e is h =
+    ends_refused set cs ws cs ws (refusal (number e)) (words_early set cs ws (number e) (set_early set cs e h) (not_zero e)) r e is refl
 
 -- ---- what a caller knows of an answer
 

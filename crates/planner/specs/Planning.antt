@@ -14,21 +14,23 @@
 --   WordParts               what the call that gives the words answers: m and q
 --   words_reply set k l      its reply
 --   said_worded w            the paper's reading of what it hands back
+--   said_made k              .. of what both calls make
 --   PlanParts               what planning answers
 --   plan_reply set k l       its reply
 --   said p                  the paper's reading of what planning hands back
-use Rattle.std.specs.Prelude.{List, [], ◌∷◌, ◌++◌, ℕ, ltb, length}
-use Rattle.word.specs.Reply.{Test, ◌when◌, Reply, answer, refusal, reply}
+use Rattle.std.specs.Prelude.{List, [], ◌∷◌, ◌++◌, ℕ, ltb, length, Result}
+use Rattle.word.specs.Reply.{Test, ◌when◌, Reply, reply}
 use Rattle.combinations.specs.Combination.{only_empty}
 use Rattle.set_layout.specs.Layout.{width_of}
 use Rattle.signatures.specs.Sets.{columns_of}
 use Rattle.set_file.specs.Reading.{set_tests}
 use Rattle.kept_words.specs.Working.{words_of, working_test, working_after}
 use Rattle.expectation.specs.Expecting.{expected_for}
-use Rattle.planner.specs.declared.Worded.{Worded}
-use Rattle.planner.specs.declared.Worded.TheVariants.{Words, Refused as Unworded}
+use Rattle.refusals.specs.declared.Refusal.{Refusal}
+use Rattle.refusals.specs.Refusals.{replied_by}
+use Rattle.planner.specs.declared.Words.{Words}
+use Rattle.planner.specs.declared.Made.{Made}
 use Rattle.planner.specs.declared.Planned.{Planned}
-use Rattle.planner.specs.declared.Planned.TheVariants.{Plan, Refused}
 
 unfoldable pub expected_of : List ℕ → ℕ
 expected_of set = expected_for set (words_of set)
@@ -58,9 +60,11 @@ word_parts_of set = record { m = width_of set; q = length (words_of set) }
 unfoldable pub words_reply : List ℕ → ℕ → ℕ → Reply WordParts
 words_reply set k l = reply (plan_tests set k l) (word_parts_of set)
 
-abbrev pub said_worded : Worded → Reply WordParts
-said_worded (Words w k) = answer (record { m = w; q = k })
-said_worded (Unworded n) = refusal n
+abbrev pub said_worded : Result Words Refusal → Reply WordParts
+said_worded = replied_by (λ (w : Words). record { m = w.m; q = w.q })
+
+abbrev pub said_made : Result Made Refusal → Reply WordParts
+said_made = replied_by (λ (k : Made). record { m = k.taken.register.m; q = k.q })
 
 pub record PlanParts : Type 0 where
   pub m : ℕ
@@ -73,6 +77,5 @@ parts_of set = record { m = width_of set; q = length (words_of set); expected = 
 unfoldable pub plan_reply : List ℕ → ℕ → ℕ → Reply PlanParts
 plan_reply set k l = reply (plan_tests set k l) (parts_of set)
 
-abbrev pub said : Planned → Reply PlanParts
-said (Plan w k e) = answer (record { m = w; q = k; expected = e })
-said (Refused n) = refusal n
+abbrev pub said : Result Planned Refusal → Reply PlanParts
+said = replied_by (λ (p : Planned). record { m = p.m; q = p.q; expected = p.expected })

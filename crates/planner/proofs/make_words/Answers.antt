@@ -1,19 +1,23 @@
--- `make_words` meets its contract: the set is refused, or its words are made.
-use mathlib.Core.Path.{◌∙◌}
-use Rattle.set_file.proofs.ReadLaws.{refused_set, taken_set}
-use Rattle.planner.proofs.NumberLaws.{set_first}
-use Rattle.planner.proofs.CallLaws.{words_early}
+-- `make_words` meets its contract: the set is refused, or there are no words, or they are the set's.
+use mathlib.Core.Path.{refl}
+use borrow.Author.Rules.{rules}
+use Rattle.planner.proofs.CallLaws.{words_unread, words_unkept, words_kept}
 use Rattle.planner.proofs.make_words.Goals as goal
 
-pub returns-in_default : goal.returns-in_default
-returns-in_default c =
-    let args = c.args in
-    let refused = refused_set _ _ _ _ _ (c.read_set-read.ensures.answer, (c.read_set-read.ensures.spread, c.read_set-read.ensures.start)) c.in_default.is c.number_of-number.ensures in
-    let early = words_early args.set.now args.working.now args.words.now c.number_of-number.result (set_first _ _ _ refused.0 refused.1) refused.1 in
-    record { taken = λ z. absurd (refused.1 (refused.0 ∙ z)); answer = early.0; working = early.1.0; words = early.1.1 }
+pub returns-in_err-taken : goal.returns-in_err-taken
+returns-in_err-taken c =
+    let ends = words_unread _ c.args.working.now c.args.words.now c.from_residual.result _ (search rules) c.in_err-taken.ensures.answer in
+    record { taken = search rules; answer = ends.0; working = ends.1.0; words = ends.1.1 }
+
+pub returns-in_err-q : goal.returns-in_err-q
+returns-in_err-q c =
+    let taken = c.in_ok-taken.ensures.taken in
+    let ends =
+    words_unkept _ _ taken c.args.working.now c.args.words.now _ _ _ (c.in_err-q.ensures taken) c.from_residual-in_err-q.result _ (search rules) refl in
+    record { taken = search rules; answer = ends.0; working = ends.1.0; words = ends.1.1 }
 
 pub returns : goal.returns
 returns c =
-    let taken = taken_set _ _ _ _ _ _ (c.read_set-read.ensures.answer, (c.read_set-read.ensures.spread, c.read_set-read.ensures.start)) c.in-Read.is in
-    let made = c.fill_words-worded.ensures taken in
-    record { taken = λ z. taken; answer = made.0; working = made.1.0; words = made.1.1 }
+    let taken = c.in_ok-taken.ensures.taken in
+    let ends = words_kept _ _ taken c.args.working.now c.args.words.now _ _ _ (c.in_ok-q.ensures taken) _ refl in
+    record { taken = taken; answer = ends.0; working = ends.1.0; words = ends.1.1 }

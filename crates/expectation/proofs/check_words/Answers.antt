@@ -1,7 +1,7 @@
--- `words_refusal` meets its contract: one test for each number, in the order of the list.
+-- `check_words` meets its contract: one test for each number, in the order of the list.
 use Rattle.word.proofs.ReplyLaws.{refusals}
 use Rattle.expectation.specs.Expecting.{word_tests}
-use Rattle.expectation.proofs.words_refusal.Goals as goal
+use Rattle.expectation.proofs.check_words.Goals as goal
 
 pub returns-then-is_bad_word_count : goal.returns-then-is_bad_word_count
 unfolding word_tests
