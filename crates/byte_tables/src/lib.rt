@@ -4,15 +4,7 @@
 #![tactic(auto)]
 
 ghost use Rattle.std.specs.Prelude.{◌≡◌, ◌+◌, ◌≤◌, length};
-ghost use Rattle.word.specs.Zeros.{zeros};
 ghost use Rattle.byte_tables.specs.Table.{Filled, ByteTable, looked};
-
-// An empty table.
-pub fn no_entries() -> [u64; 2048]
-    ensures { result ≡ zeros 2048 }
-{
-    [0u64; 2048]
-}
 
 // The 256 entries from e on, by the words from place i on: word i + t doubles the entries so far.
 fn fill_byte(table: &mut [u64], words: &[u64], e: usize, i: usize)

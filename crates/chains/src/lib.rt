@@ -41,13 +41,6 @@ pub fn driven_word(spread: &[u64], row: &[u8]) -> u64
     drive
 }
 
-// The words as they came. An array read out of a struct's field is known to have all its places once it was handed over by itself.
-pub fn all_words(words: [u64; 256]) -> [u64; 256]
-    ensures { (result ≡ words) × (length result ≡ 256) }
-{
-    words
-}
-
 // The table of half bytes: for each four chains of the first 256, the XORs of some of their spread words, by which of their
 // cells are 1. With it a slice costs one look for each half byte of its row.
 pub fn half_bytes(spread: &[u64]) -> [u64; 1024]

@@ -30,6 +30,7 @@ fn reduced(basis: &[u64], dead: u64, column: u64) -> u64
 {
     let mut rest = column;
     let mut left = rest & dead;
+    // no plainer: it goes from one bit to the next
     while left != 0 {
         let d = left.trailing_zeros() as usize;
         rest ^= basis[d];

@@ -85,10 +85,3 @@ pub fn read_word(s: &[u8], i: usize) -> u64
         read_short_word(s, i)
     }
 }
-
-// The shorter of two lengths.
-pub fn shorter(a: usize, b: usize) -> usize
-    ensures { result ≡ min a b }
-{
-    a.min(b)
-}

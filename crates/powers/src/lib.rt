@@ -3,7 +3,7 @@
 // Every function is total.
 #![tactic(auto)]
 
-ghost use Rattle.std.specs.Prelude.{◌≡◌, [], map, ℕ, min, ◌<◌, get_or, replicate};
+ghost use Rattle.std.specs.Prelude.{◌≡◌, [], map, ℕ, min, ◌<◌, get_or};
 ghost use Rattle.register.specs.Circuit.{circuit, advanced};
 ghost use Rattle.signatures.specs.Later.{later};
 ghost use Rattle.powers.specs.Powers.{from_powers};
@@ -24,13 +24,6 @@ pub fn advance_words(register: Register, words: &mut [u64])
     for word in words.iter_mut() {
         *word = next_state(register, *word);
     }
-}
-
-// 576 zeros.
-pub fn no_powers() -> [u64; 576]
-    ensures { result ≡ replicate 576 0 }
-{
-    [0; 576]
 }
 
 // The powers of the register: the word 1 after 0 clocks, 1 and so on, `count` of them, and no more than 576, which is enough for 512 slices and a

@@ -131,13 +131,6 @@ pub fn tie_bytes(set: &[u8]) -> &[u8]
     numbers::part(set, ties_at(n, s), ties::ENTRY_BYTES * entries)
 }
 
-// 256 zero words.
-pub fn no_words() -> [u64; 256]
-    ensures { result ≡ no_words }
-{
-    [0u64; 256]
-}
-
 // The same as `spread_words`, for a set of at most 256 chains whose spread words are all there.
 fn whole_spread_words(set: &[u8]) -> [u64; 256]
     requires { (chains_of set.now ≤ 256) × (slices_at (chains_of set.now) ≤ length set.now) }

@@ -201,8 +201,7 @@ fn reduce_marked(
     let register = taken.register;
     let s = taken.s;
     let chains = register::chain_limit(taken.n);
-    let spread = taken.spread;
-    let mut words = chains::all_words(spread);
+    let mut words = taken.spread;
     let unknowns = marked_rows::estimate_marks(list, marks, s);
     let source = Source { register, marks, s };
     let count = unknowns as usize;

@@ -10,6 +10,7 @@ pub fn xor_into(words: &mut [u64], marks: u64, x: u64)
     ensures { XoredInto words.old words.new marks x }
 {
     let mut left = marks & word::low_mask(words.len() as u64);
+    // no plainer: it goes from one bit to the next
     while left != 0 {
         let low = left.trailing_zeros() as usize;
         words[low] ^= x;

@@ -85,6 +85,7 @@ pub fn xor_marked(words: &[u64], marks: u64) -> u64
 {
     let mut left = marks & low_mask(words.len() as u64);
     let mut sum: u64 = 0;
+    // no plainer: it goes from one bit to the next
     while left != 0 {
         let low = left.trailing_zeros() as usize;
         sum ^= words[low];
