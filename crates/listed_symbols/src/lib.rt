@@ -2,24 +2,21 @@
 // their flags, the columns of symbols and a taken set. Every public function is total.
 #![tactic(auto)]
 
-ghost use Rattle.std.specs.Prelude.{◌≡◌, ℕ, ◌+◌, ◌<◌, ◌≤◌, min, length};
-ghost use Rattle.std.proofs.lemmas.List.Edits.{sets};
+ghost use Rattle.std.specs.Prelude.{◌≡◌, ℕ, ◌≤◌, min};
 ghost use Rattle.rows.specs.Row.{cell};
 ghost use Rattle.rows.specs.Lists.{cells_of};
-ghost use Rattle.rows.specs.Marks.{listed, total};
+ghost use Rattle.rows.specs.Marks.{total};
 ghost use Rattle.ties.specs.Ties.{ties_in};
-ghost use Rattle.ties.specs.Symbols.{flag};
 ghost use Rattle.register.specs.Circuit.{Circuit, chains};
 ghost use Rattle.set_file.specs.Reading.{taken_circuit};
 ghost use Rattle.signatures.specs.Signature.{column};
-ghost use Rattle.signatures.specs.Symbols.{symbol_column, column_at, listing};
-ghost use Rattle.symbol_columns.specs.Powered.{FlagsIn};
-ghost use Rattle.symbol_columns.specs.Made.{SymbolsOf};
+ghost use Rattle.signatures.specs.Symbols.{column_at, listing};
+ghost use Rattle.symbol_columns.specs.Powered.{SymbolsFrom, FlagsIn};
 ghost use Rattle.listed_symbols.specs.Heads.{HeadsIn};
 
 use rows::Rows;
 use set_file::Taken;
-use symbol_columns::SymbolColumns;
+use symbol_columns::{CellColumns, SymbolColumns};
 
 // The number of marked cells before chain c in a row.
 fn cells_before(row: &[u8], c: u16) -> u64
@@ -45,12 +42,12 @@ fn slices_before(list: &[u8], rows: Rows, at: u16, before: u64, t: u16) -> u64
 
 // Writes the columns of the named symbols at the places of their first cells, from the flags of the entries. The rows of the list mark the
 // cells that the columns are listed for.
-fn set_named(symbols: &SymbolColumns, flags: &[u64], list: &[u8], rows: Rows, columns: &mut [u64])
-    ensures { (k : Circuit) (count : ℕ) → SymbolsOf k count symbols.now → let e = ties_in symbols.now.ties.now count in FlagsIn flags.now e → HeadsIn k symbols.now.cells.slices (cells_of list.now rows) e → columns.old ≡ listing (column k symbols.now.cells.slices) (cells_of list.now rows) (chains k) symbols.now.cells.slices → columns.new ≡ listing (column_at k symbols.now.cells.slices e) (cells_of list.now rows) (chains k) symbols.now.cells.slices }
+fn set_named(symbols: SymbolColumns, flags: &[u64], list: &[u8], rows: Rows, columns: &mut [u64])
+    ensures { (k : Circuit) (count : ℕ) → SymbolsFrom k symbols.entry.cells.slices symbols.entry.cells.powers.now symbols.entry.cells.spread.now symbols.entry.cells.width symbols.entry.numbers.now (ties_in symbols.entry.ties.now count) → FlagsIn flags.now (ties_in symbols.entry.ties.now count) → HeadsIn k symbols.entry.cells.slices (cells_of list.now rows) (ties_in symbols.entry.ties.now count) → columns.old ≡ listing (column k symbols.entry.cells.slices) (cells_of list.now rows) (chains k) symbols.entry.cells.slices → columns.new ≡ listing (column_at k symbols.entry.cells.slices (ties_in symbols.entry.ties.now count)) (cells_of list.now rows) (chains k) symbols.entry.cells.slices }
 {
     let mut at = 0;
     let mut before = 0;
-    for i in 0..symbols.count {
+    for i in 0..symbols.count() {
         let is_later = word::word_at(flags, i as usize) == 0;
         if is_later {
             continue;
@@ -81,11 +78,13 @@ pub fn set_symbols(
 )
     ensures { HeadsIn (taken_circuit taken) (min taken.s 512) (cells_of list.now rows) (ties_in ties.now count) → FlagsIn flags.now (ties_in ties.now count) → columns.old ≡ listing (column (taken_circuit taken) (min taken.s 512)) (cells_of list.now rows) (chains (taken_circuit taken)) (min taken.s 512) → columns.new ≡ listing (column_at (taken_circuit taken) (min taken.s 512) (ties_in ties.now count)) (cells_of list.now rows) (chains (taken_circuit taken)) (min taken.s 512) }
 {
-    set_named(
-        &SymbolColumns::of(taken, ties, count),
-        flags,
-        list,
-        rows,
-        columns,
-    );
+    let powers = powers::powers(taken.register, 576);
+    let cells = CellColumns::of(&taken, &powers);
+    let numbers = symbol_flags::symbol_numbers(ties, count);
+    let symbols = SymbolColumns {
+        cells,
+        ties,
+        numbers: &numbers[..symbol_flags::tie_limit(count) as usize],
+    };
+    set_named(symbols, flags, list, rows, columns);
 }

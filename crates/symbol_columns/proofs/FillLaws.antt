@@ -7,34 +7,37 @@
 --   named_room, named_ends   the loop that writes these
 --   named_length            there are as many columns as named symbols
 --   taken_powered           a taken set's powers and spread words
+--   taken_within            its ties' cells lie in its slices and chains
+--   taken_symbols           .. and its ties' symbol numbers
 -- Assumes nothing.
 use mathlib.Core.Path.{◌≡◌, refl, sym, ap, ap₂, subst, ◌∙◌}
 use mathlib.Core.Bool.{Bool, true, false, cond}
 use mathlib.Core.Logic.{⊎_elim}
 use mathlib.Core.List.{List, [], ◌∷◌, ◌++◌}
-use Prim.Native.Nat.{ℕ, zero, suc, ◌+◌, ◌≤◌, ◌<◌, min}
+use Prim.Native.Nat.{ℕ, zero, suc, ◌+◌, ◌*◌, ◌≤◌, ◌<◌, min}
 use native.Mathlib.Nat.{eq-or-lt_of_le, le_of_suc-le-suc}
 use native.Mathlib.Numerals.{add-one}
 use native.Mathlib.Omega.{arith}
 use lib.ListN.{length, get_or, take, set, length-append}
-use lib.Seq.{sets, length-sets}
+use lib.Seq.{sets, length-sets, length-take-le, get_or-take}
 use Rattle.std.proofs.lemmas.List.{append-nil}
 use Rattle.word.specs.Reply.{front}
+use Rattle.numbers.specs.Bytes.{count_at}
 use Rattle.numbers.specs.Joined.{joined}
 use Rattle.numbers.proofs.FileLaws.{sets_parts, front_sets}
 use Rattle.numbers.proofs.PartLaws.{take_limit}
 use Rattle.rows.specs.Marks.{listed, total}
 use Rattle.rows.proofs.MarkLaws.{length_listed}
-use Rattle.ties.specs.Ties.{Ties}
-use Rattle.ties.specs.Symbols.{opens, flag, named_symbols}
+use Rattle.ties.specs.Ties.{Ties, entry_bytes, ties_in}
+use Rattle.ties.specs.Symbols.{opens, flag, named_symbols, Within}
 use Rattle.chains.specs.Driven.{bad_spread}
-use Rattle.register.specs.Circuit.{Circuit, circuit}
+use Rattle.register.specs.Circuit.{Circuit, circuit, chains}
 use Rattle.set_file.specs.Reading.{taken_circuit}
 use Rattle.set_file.specs.declared.Taken.{Taken}
 use Rattle.signatures.specs.Later.{later}
 use Rattle.signatures.specs.Symbols.{symbol_column, named_columns}
 use Rattle.powers.proofs.PowerLaws.{later_same}
-use Rattle.symbol_columns.specs.Powered.{Powered}
+use Rattle.symbol_columns.specs.Powered.{Powered, SymbolsFrom}
 
 -- ---- one word, where its flag is set
 
@@ -156,3 +159,25 @@ module _ (k : Taken) (m n s : ℕ) (words table : List ℕ) (em : m ≡ min k.re
       narrow = omega arith;
       slices = omega arith;
     }
+
+module _ (k : Taken) (s : ℕ) (ws : List ℕ) (es : s ≡ min k.s 512) (ew : ws ≡ take k.n k.spread) where
+  pub taken_within : (e : Ties) → Within (min k.s 512) (chains (taken_circuit k)) e → Within s (length ws) e
+  taken_within e w = record {
+    few = w.few;
+    slices = λ i h. omega (arith, w.slices i h);
+    chains = λ i h. omega (arith, w.chains i h, ap length ew);
+  }
+
+  pub taken_symbols : (ps : List ℕ) (m : ℕ) → Powered (taken_circuit k) s ps ws m → (l : List ℕ) (count limit : ℕ) (ns : List ℕ) → limit ≡ min count 256
+      → length ns ≡ 256 → ((i : ℕ) → i < min count 256 → get_or ns i 0 ≡ count_at l (entry_bytes * i + 4))
+      → Within (min k.s 512) (chains (taken_circuit k)) (ties_in l count) → SymbolsFrom (taken_circuit k) s ps ws m (take limit ns) (ties_in l count)
+  taken_symbols ps m powered l count limit ns el long numbered w =
+      let few : count ≤ 256 = w.few in
+      record {
+        powered = powered;
+        within = taken_within (ties_in l count) w;
+        numbered = record {
+          long = length-take-le limit ns (omega arith) ∙ omega arith;
+          numbers = λ i h. get_or-take limit ns i 0 (omega arith) ∙ numbered i (omega arith);
+        };
+      }

@@ -13,15 +13,15 @@ use mathlib.Core.Path.{◌≡◌, refl, sym, ap, ap₂, subst, ◌∙◌}
 use mathlib.Core.Bool.{Bool, true, false, not, ◌||◌, cond}
 use mathlib.Core.Logic.{dite}
 use mathlib.Core.List.{List, [], ◌∷◌, ◌++◌}
-use Prim.Native.Nat.{ℕ, zero, suc, ◌+◌, ◌-◌, ◌≤◌, ◌<◌}
+use Prim.Native.Nat.{ℕ, zero, suc, ◌+◌, ◌-◌, ◌<◌}
 use native.Mathlib.Numerals.{add-one}
 use native.Mathlib.Decide.{dec_lt}
 use native.Mathlib.Omega.{arith}
 use borrow.Author.Tests.{eq-eqb, ne_eqb, eqb-true, not-false}
 use lib.Bits.{bit_xor, xor_zero_r}
 use lib.Dec.{eqb}
-use lib.ListN.{length, get_or, take, drop, length-take, length-drop}
-use lib.Seq.{get_or-take, get_or-drop}
+use lib.ListN.{length, get_or, take, drop, length-drop}
+use lib.Seq.{length-take-le, get_or-take, get_or-drop}
 use Rattle.std.specs.List.{list_any, range_with_len}
 use Rattle.std.proofs.lemmas.List.{map-id}
 use Rattle.std.proofs.lemmas.List.Folds.{list_any-append}
@@ -46,17 +46,17 @@ use Rattle.symbol_columns.specs.Powered.{Powered, NumbersIn}
 -- ---- one cell
 
 module _ (k : Circuit) (s : ℕ) (ps ws : List ℕ) (m : ℕ) (p : Powered k s ps ws m) where
-  pub power_column : (t c from w r : ℕ) → t < s → c < length ws → from ≡ s - 1 - t → w ≡ get_or ws c 0
-      → r ≡ from_powers (take (from + m - from) (drop from ps)) w → r ≡ column k s t c
-  power_column t c from w r ht hc ef ew er =
-      er ∙ ap (λ (x : List ℕ). from_powers x w) part
+  pub power_column : (t c to w r : ℕ) (x : List ℕ) → t < s → c < length ws → to ≡ s - 1 - t + m → x ≡ take (to - (s - 1 - t)) (drop (s - 1 - t) ps)
+      → w ≡ get_or ws c 0 → r ≡ from_powers x w → r ≡ column k s t c
+  power_column t c to w r x ht hc et ex ew er =
+      er ∙ ap (λ (y : List ℕ). from_powers y w) part
       ∙ ap (from_powers (take k.width (drop (s - 1 - t) ps))) word
       ∙ from_powers_lem k (take k.width (drop (s - 1 - t) ps)) (s - 1 - t) (get_or k.spread c 0) powered.1 powered.0
       (good_spread k.width k.spread p.good c)
       ∙ sym (column_closed k s t c ht chain)
     where
-      part : take (from + m - from) (drop from ps) ≡ take k.width (drop (s - 1 - t) ps)
-      part = ap₂ (λ (x y : ℕ). take x (drop y ps)) (omega (arith, p.width)) ef
+      part : x ≡ take k.width (drop (s - 1 - t) ps)
+      part = ex ∙ ap (λ (y : ℕ). take y (drop (s - 1 - t) ps)) (omega (arith, p.width))
 
       word : w ≡ get_or k.spread c 0
       word = ew ∙ ap (λ (x : List ℕ). get_or x c 0) p.spread
@@ -98,51 +98,47 @@ module _ (k : Circuit) (s : ℕ) (e : Ties) where
   pub symbol_starts : (i : ℕ) → opens e i ≡ true → 0 ≡ xor_below i (symbol_term k s e (e.symbol i))
   symbol_starts i o = sym (xor_below_zero i (symbol_term k s e (e.symbol i)) (none_before i o))
 
-  module _ (l : List ℕ) (m : ℕ) (n : NumbersIn (take m l) e) where
-    number_at : (h : ℕ) → h < e.count → get_or l h 0 ≡ e.symbol h
-    number_at h lh = sym (get_or-take m l h 0 (omega (arith, n.long, length-take m l))) ∙ n.numbers h lh
+  module _ (ns : List ℕ) (n : NumbersIn ns e) (i h j sum : ℕ) (lh : h < e.count) (ej : j ≡ e.symbol i)
+      (es : sum ≡ xor_below h (symbol_term k s e (e.symbol i))) where
+    pub symbol_added : (w : ℕ) → get_or ns h 0 ≡ j → w ≡ column k s (e.slice h) (e.chain h) → bit_xor sum w ≡ xor_below (h + 1) (symbol_term k s e (e.symbol i))
+    symbol_added w same ew =
+        xor_grows (symbol_term k s e (e.symbol i)) h sum w es
+        (ew ∙ ap (λ (b : Bool). cond {A = ℕ} b (column k s (e.slice h) (e.chain h)) 0) (sym (eq-eqb (e.symbol h) (e.symbol i) (sym (n.numbers h lh) ∙ same ∙ ej))))
 
-    module _ (i h sum : ℕ) (li : i < e.count) (lh : h < e.count) (es : sum ≡ xor_below h (symbol_term k s e (e.symbol i))) where
-      pub symbol_added : (w : ℕ) → get_or l h 0 ≡ get_or l i 0 → w ≡ column k s (e.slice h) (e.chain h)
-          → bit_xor sum w ≡ xor_below (h + 1) (symbol_term k s e (e.symbol i))
-      symbol_added w same ew =
-          xor_grows (symbol_term k s e (e.symbol i)) h sum w es
-          (ew ∙ ap (λ (b : Bool). cond {A = ℕ} b (column k s (e.slice h) (e.chain h)) 0) (sym (eq-eqb (e.symbol h) (e.symbol i) (sym (number_at h lh) ∙ same ∙ number_at i li))))
-
-      pub symbol_passed : (get_or l h 0 ≡ get_or l i 0 → ⊥) → sum ≡ xor_below (h + 1) (symbol_term k s e (e.symbol i))
-      symbol_passed other =
-          xor_stays (symbol_term k s e (e.symbol i)) h sum es
-          (ap (λ (b : Bool). cond {A = ℕ} b (column k s (e.slice h) (e.chain h)) 0)
-          (ne_eqb (e.symbol h) (e.symbol i) (λ (same : e.symbol h ≡ e.symbol i). other (number_at h lh ∙ same ∙ sym (number_at i li)))))
+    pub symbol_passed : (get_or ns h 0 ≡ j → ⊥) → sum ≡ xor_below (h + 1) (symbol_term k s e (e.symbol i))
+    symbol_passed other =
+        xor_stays (symbol_term k s e (e.symbol i)) h sum es
+        (ap (λ (b : Bool). cond {A = ℕ} b (column k s (e.slice h) (e.chain h)) 0)
+        (ne_eqb (e.symbol h) (e.symbol i) (λ (same : e.symbol h ≡ e.symbol i). other (n.numbers h lh ∙ same ∙ sym ej))))
 
   pub symbol_ends : (i h sum : ℕ) → sum ≡ xor_below h (symbol_term k s e (e.symbol i)) → h ≡ e.count → sum ≡ symbol_column k s e (e.symbol i)
   unfolding symbol_column
   symbol_ends i h sum es eh = es ∙ ap (λ (x : ℕ). xor_below x (symbol_term k s e (e.symbol i))) eh
 
   -- no entry behind it has its number either
-  module _ (l : List ℕ) (m : ℕ) (n : NumbersIn (take m l) e) where
+  module _ (ns : List ℕ) (n : NumbersIn ns e) where
     pub symbol_alone : (i r : ℕ) (b : Bool) → i < e.count → opens e i ≡ true
-        → b ≡ any_below (length (take (m - (i + 1)) (drop (i + 1) l))) (λ h. eqb (get_or (take (m - (i + 1)) (drop (i + 1) l)) h 0) (get_or l i 0)) → b ≡ false
-        → r ≡ column k s (e.slice i) (e.chain i) → r ≡ symbol_column k s e (e.symbol i)
+        → b ≡ any_below (length (take (length ns - (i + 1)) (drop (i + 1) ns))) (λ h. eqb (get_or (take (length ns - (i + 1)) (drop (i + 1) ns)) h 0) (get_or ns i 0))
+        → b ≡ false → r ≡ column k s (e.slice i) (e.chain i) → r ≡ symbol_column k s e (e.symbol i)
     unfolding symbol_column
     symbol_alone i r b li o eb off er =
         er ∙ ap (λ (x : Bool). cond {A = ℕ} x (column k s (e.slice i) (e.chain i)) 0) (sym (eq-eqb (e.symbol i) (e.symbol i) refl))
         ∙ sym (xor_below_one e.count (symbol_term k s e (e.symbol i)) i li others)
       where
         rest : List ℕ
-        rest = take (m - (i + 1)) (drop (i + 1) l)
+        rest = take (length ns - (i + 1)) (drop (i + 1) ns)
 
-        long : e.count - (i + 1) ≤ length rest
-        long = omega (arith, n.long, length-take m l, length-take (m - (i + 1)) (drop (i + 1) l), length-drop (i + 1) l)
+        long : length rest ≡ length ns - (i + 1)
+        long = length-take-le (length ns - (i + 1)) (drop (i + 1) ns) (omega (arith, length-drop (i + 1) ns))
 
         behind : (h : ℕ) → h < e.count → i < h → eqb (e.symbol h) (e.symbol i) ≡ false
         behind h lh q =
             let on : i + 1 + (h - (i + 1)) ≡ h = omega arith in
-            let there : h - (i + 1) < m - (i + 1) = omega (arith, n.long, length-take m l) in
+            let there : h - (i + 1) < length ns - (i + 1) = omega (arith, n.long) in
             sym (ap₂ eqb
-            (get_or-take (m - (i + 1)) (drop (i + 1) l) (h - (i + 1)) 0 there ∙ get_or-drop (i + 1) l (h - (i + 1)) 0 ∙ ap (λ (x : ℕ). get_or l x 0) on ∙ number_at l m n h lh)
-            (number_at l m n i li))
-            ∙ any_below_false (length rest) (λ h. eqb (get_or rest h 0) (get_or l i 0)) (sym eb ∙ off) (h - (i + 1)) (omega (arith, long))
+            (get_or-take (length ns - (i + 1)) (drop (i + 1) ns) (h - (i + 1)) 0 there ∙ get_or-drop (i + 1) ns (h - (i + 1)) 0 ∙ ap (λ (x : ℕ). get_or ns x 0) on ∙ n.numbers h lh)
+            (n.numbers i li))
+            ∙ any_below_false (length rest) (λ h. eqb (get_or rest h 0) (get_or ns i 0)) (sym eb ∙ off) (h - (i + 1)) (omega (arith, long))
 
         others : (h : ℕ) → h < e.count → (h ≡ i → ⊥) → symbol_term k s e (e.symbol i) h ≡ 0
         others h lh ne =

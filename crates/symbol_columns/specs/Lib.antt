@@ -1,2 +1,1 @@
 pub mod Powered
-pub mod Made

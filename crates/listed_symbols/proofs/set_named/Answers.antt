@@ -1,7 +1,6 @@
 use mathlib.Core.Path.{refl, sym, ap, ◌∙◌}
 use Prim.Native.Nat.{◌+◌, ◌<◌}
 use native.Mathlib.Omega.{arith}
-use lib.ListN.{length-take}
 use lib.Seq.{set_out}
 use Rattle.rows.specs.Row.{cell}
 use Rattle.rows.proofs.MarkLaws.{total_none}
@@ -22,11 +21,11 @@ pub loop-i-preserved-then-is_later : goal.loop-i-preserved-then-is_later
 loop-i-preserved-then-is_later c =
     let args = c.args in
     let at = c.loop-i in
-    let symbols = args.symbols.now in
+    let symbols = args.symbols in
     record {
       before = at.invariant.before;
       set = λ k count from flagged heads own.
-          let h : at.i < count = omega (arith, from.numbered.long, length-take symbols.count symbols.numbers) in
+          let h : at.i < count = omega (arith, c.count-i-end.ensures, from.numbered.long, from.within.few) in
           set_later k _ (ties_in symbols.ties.now count) _ (cells_lt args.list.now args.rows) heads _ h _ (c.word_at-is_later.ensures ∙ flagged _ h) _
           (at.invariant.set k count from flagged heads own) c.if-is_later.true;
     }
@@ -35,13 +34,13 @@ pub loop-i-preserved : goal.loop-i-preserved
 loop-i-preserved c =
     let args = c.args in
     let at = c.loop-i in
-    let symbols = args.symbols.now in
+    let symbols = args.symbols in
     let rows = c.slices_before-before in
     let row = c.row_of-row in
     record {
       before = rows.ensures.0;
       set = λ k count from flagged heads own.
-          let h : at.i < count = omega (arith, from.numbered.long, length-take symbols.count symbols.numbers) in
+          let h : at.i < count = omega (arith, c.count-i-end.ensures, from.numbered.long, from.within.few) in
           let opened =
           set_opened k symbols.cells.slices (ties_in symbols.ties.now count) _ (cells_lt args.list.now args.rows) heads at.i h c.word_at-is_later.result (c.word_at-is_later.ensures ∙ flagged _ h) at.columns
           (at.invariant.set k count from flagged heads own) c.if-is_later.false rows.result c.tie_slice-t.result (rows.result + c.cells_before.result)
@@ -59,6 +58,6 @@ loop-i-preserved c =
 
 pub returns : goal.returns
 returns c k count from flagged heads own =
-    let symbols = c.args.symbols.now in
-    set_ends k _ (ties_in _ count) _ _ _ (omega (arith, from.numbered.long, length-take symbols.count symbols.numbers))
+    let symbols = c.args.symbols in
+    set_ends k _ (ties_in _ count) _ _ _ (omega (arith, c.count-i-end.ensures, from.numbered.long, from.within.few))
     (c.loop-i.invariant.set k count from flagged heads own)

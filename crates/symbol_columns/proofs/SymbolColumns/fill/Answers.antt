@@ -2,7 +2,6 @@ use mathlib.Core.Path.{◌≡◌, refl, ◌∙◌}
 use Prim.Native.Nat.{◌<◌}
 use native.Mathlib.Omega.{arith}
 use mathlib.Core.List.{[]}
-use lib.ListN.{length-take}
 use Rattle.ties.specs.Ties.{ties_in}
 use Rattle.ties.specs.Symbols.{flag}
 use Rattle.symbol_columns.proofs.FillLaws.{filled_starts, filled_stays, filled_grows, named_part, named_none, named_one, named_room, named_ends}
@@ -15,11 +14,11 @@ loop-i-init c k count from flagged room = filled_starts _ _
 pub loop-i-preserved : goal.loop-i-preserved
 loop-i-preserved c k count from flagged room =
     let at = c.loop-i in
-    let symbols = c.args.self.now in
+    let symbols = c.args.self in
     let s = symbols.cells.slices in
     let e = ties_in symbols.ties.now count in
     let before = at.invariant k count from flagged room in
-    let h : at.i < count = omega (arith, from.numbered.long, length-take symbols.count symbols.numbers) in
+    let h : at.i < count = omega (arith, c.count-i-end.ensures, from.numbered.long, from.within.few) in
     let read : c.word_at-opens.result ≡ flag e at.i = c.word_at-opens.ensures ∙ flagged _ h in
     elim c.if-opens.branch [
       | then-opens+then-place-places w ↦
@@ -36,6 +35,6 @@ loop-i-preserved c k count from flagged room =
 
 pub returns : goal.returns
 returns c k count from flagged room =
-    let symbols = c.args.self.now in
+    let symbols = c.args.self in
     named_ends k _ (ties_in _ count) _ room _ _ _ (c.loop-i.invariant k count from flagged room)
-    (omega (arith, from.numbered.long, length-take symbols.count symbols.numbers))
+    (omega (arith, c.count-i-end.ensures, from.numbered.long, from.within.few))
