@@ -34,7 +34,7 @@ use register::Register;
 pub extern "C" fn canceller_read_set(set: &[u8]) -> CSet
     ensures { result ≡ set_of (set_reply set.now) (spread_beside set.now) }
 {
-    crossing::set_of(set_file::read_set(set))
+    CSet::from(set_file::read_set(set))
 }
 
 // Where a slice's value row stands in the set. Meets the set's numbers and 11.
@@ -42,7 +42,7 @@ pub extern "C" fn canceller_read_set(set: &[u8]) -> CSet
 pub extern "C" fn canceller_value_row(set: &[u8], slice: u64) -> CStretch
     ensures { result ≡ stretch_of (value_reply set.now slice) }
 {
-    crossing::stretch_of(slice_rows::value_place(set, slice))
+    CStretch::from(slice_rows::value_place(set, slice))
 }
 
 // Where a slice's row of unknown marks stands in the set. Meets the set's numbers and 11.
@@ -50,7 +50,7 @@ pub extern "C" fn canceller_value_row(set: &[u8], slice: u64) -> CStretch
 pub extern "C" fn canceller_mark_row(set: &[u8], slice: u64) -> CStretch
     ensures { result ≡ stretch_of (mark_reply set.now slice) }
 {
-    crossing::stretch_of(slice_rows::mark_place(set, slice))
+    CStretch::from(slice_rows::mark_place(set, slice))
 }
 
 // Where the entries of a set's ties stand in it, without their count. Meets the set's numbers.
@@ -58,7 +58,7 @@ pub extern "C" fn canceller_mark_row(set: &[u8], slice: u64) -> CStretch
 pub extern "C" fn canceller_ties(set: &[u8]) -> CStretch
     ensures { result ≡ stretch_of (ties_reply set.now) }
 {
-    crossing::stretch_of(slice_rows::ties_place(set))
+    CStretch::from(slice_rows::ties_place(set))
 }
 
 // The set writer. Meets 2, 3, 25, 4, 6, 7, 8, 9, 10, 29, 30, 31 and 24; the file over the front of `out`.
@@ -78,7 +78,7 @@ pub extern "C" fn canceller_write_set(
     ensures file { out.new ≡ lent (set_write_reply (set_content m taps inversion spread.now values.now marks.now s ties.now) (length out.old)) (set_bytes (set_content m taps inversion spread.now values.now marks.now s ties.now)) out.old }
 {
     let written = set_writer::write_set(m, taps, inversion, spread, values, marks, s, ties, out);
-    crossing::set_written_of(written)
+    CWritten::from(written)
 }
 
 // One clock of a register. Meets 2, 3, 25, 4, 6, 8, 9 and 23; a refusal hands the state back as it came.
@@ -107,7 +107,7 @@ pub extern "C" fn canceller_clock(
 pub extern "C" fn canceller_sign(set: &[u8], record: &[u8]) -> CSigned
     ensures { result ≡ signed_of (sign_reply set.now «record».now) }
 {
-    crossing::signed_of(signing::sign_record(set, record))
+    CSigned::from(signing::sign_record(set, record))
 }
 
 // The columns of a set. Meets the set's numbers and 14; the columns over the front of the list.
@@ -116,7 +116,7 @@ pub extern "C" fn canceller_list_columns(set: &[u8], columns: &mut [u64]) -> CLi
     ensures answer { result ≡ listed_of (list_reply set.now (length columns.old)) }
     ensures list { columns.new ≡ columns_after set.now columns.old }
 {
-    crossing::listed_of(columns::list_columns(set, columns))
+    CListed::from(columns::list_columns(set, columns))
 }
 
 // The elimination. Meets 2 and 15 to 18; the words over the front of the list.
@@ -125,7 +125,7 @@ pub extern "C" fn canceller_eliminate(m: u64, columns: &[u64], words: &mut [u64]
     ensures answer { result ≡ eliminated_of (elimination_reply m columns.now (length words.old)) }
     ensures list { words.new ≡ lent (elimination_reply m columns.now (length words.old)) (reduced_list m columns.now) words.old }
 {
-    crossing::eliminated_of(elimination::eliminate(m, columns, words))
+    CEliminated::from(elimination::eliminate(m, columns, words))
 }
 
 // The words of a set, without expected bits. Meets the set's numbers, 14, 17 and 18; the lists as planning leaves them.
@@ -139,7 +139,7 @@ pub extern "C" fn canceller_plan_words(
     ensures working { working.new ≡ working_left set.now working.old }
     ensures words { words.new ≡ lent (words_reply set.now (length working.old) (length words.old)) (words_of set.now) words.old }
 {
-    crossing::worded_of(planner::plan_words(set, working, words))
+    CWorded::from(planner::plan_words(set, working, words))
 }
 
 // The expected bits of a list of words for a set. Meets the set's numbers, 20 and 21.
@@ -147,7 +147,7 @@ pub extern "C" fn canceller_plan_words(
 pub extern "C" fn canceller_expect(set: &[u8], words: &[u64]) -> CExpected
     ensures { result ≡ expected_to (expect_reply set.now words.now) }
 {
-    crossing::expected_of(expectation::expect(set, words))
+    CExpected::from(expectation::expect(set, words))
 }
 
 // Planning. Meets the set's numbers, 14, 17 and 18; the words over the front of their list; past 14 the first places of the working list,
@@ -158,7 +158,7 @@ pub extern "C" fn canceller_plan(set: &[u8], working: &mut [u64], words: &mut [u
     ensures working { working.new ≡ working_left set.now working.old }
     ensures words { words.new ≡ lent (plan_reply set.now (length working.old) (length words.old)) (words_of set.now) words.old }
 {
-    crossing::planned_of(planner::plan(set, working, words))
+    CPlanned::from(planner::plan(set, working, words))
 }
 
 // Cutting: the runs of a set that leave at least k words each. Meets the set's numbers, 26, 27 and 28; the first slice of each run over
@@ -168,7 +168,7 @@ pub extern "C" fn canceller_cut(set: &[u8], k: u64, cuts: &mut [u64]) -> CCuttin
     ensures answer { result ≡ cutting_of (cut_reply set.now k (length cuts.old)) }
     ensures list { cuts.new ≡ cuts_after set.now k cuts.old }
 {
-    crossing::cutting_of(cutter::cut(set, k, cuts))
+    CCutting::from(cutter::cut(set, k, cuts))
 }
 
 // The plan writer. Meets 19, 20, 21, 22 and 24; the file over the front of `out`.
@@ -182,7 +182,7 @@ pub extern "C" fn canceller_write_plan(
     ensures answer { result ≡ written_of (plan_write_reply (plan_content m words.now expected) (length out.old)) }
     ensures file { out.new ≡ lent (plan_write_reply (plan_content m words.now expected) (length out.old)) (plan_bytes (plan_content m words.now expected)) out.old }
 {
-    crossing::plan_written_of(plan_writer::write_plan(m, words, expected, out))
+    CWritten::from(plan_writer::write_plan(m, words, expected, out))
 }
 
 // The plan reader. Meets 19 to 22 and then 18; the words over the front of the list.
@@ -191,7 +191,7 @@ pub extern "C" fn canceller_read_plan(plan: &[u8], words: &mut [u64]) -> CPlanne
     ensures answer { result ≡ read_of (plan_file_reply plan.now (length words.old)) }
     ensures list { words.new ≡ lent (plan_file_reply plan.now (length words.old)) (file_words plan.now) words.old }
 {
-    crossing::read_of(plan_file::read_plan(plan, words))
+    CPlanned::from(plan_file::read_plan(plan, words))
 }
 
 // Judging. Meets 19 to 23.
@@ -199,5 +199,5 @@ pub extern "C" fn canceller_read_plan(plan: &[u8], words: &mut [u64]) -> CPlanne
 pub extern "C" fn canceller_judge(plan: &[u8], signature: u64) -> CJudged
     ensures { result ≡ judged_of (judge_reply plan.now signature) }
 {
-    crossing::judged_of(judge::judge(plan, signature))
+    CJudged::from(judge::judge(plan, signature))
 }

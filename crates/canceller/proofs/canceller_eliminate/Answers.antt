@@ -3,4 +3,4 @@ use Rattle.crossing.specs.Boundary.{eliminated_of}
 use Rattle.canceller.proofs.canceller_eliminate.Goals as goal
 
 pub returns : goal.returns
-returns c = record { answer = c.eliminated_of.ensures ∙ ap eliminated_of c.eliminate.ensures.answer; list = c.eliminate.ensures.list }
+returns c = record { answer = c.from.ensures ∙ ap eliminated_of c.eliminate.ensures.answer; list = c.eliminate.ensures.list }

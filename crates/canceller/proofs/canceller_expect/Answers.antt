@@ -3,4 +3,4 @@ use Rattle.crossing.specs.Boundary.{expected_to}
 use Rattle.canceller.proofs.canceller_expect.Goals as goal
 
 pub returns : goal.returns
-returns c = c.expected_of.ensures ∙ ap expected_to c.expect.ensures
+returns c = c.from.ensures ∙ ap expected_to c.expect.ensures

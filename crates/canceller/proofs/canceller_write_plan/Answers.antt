@@ -3,4 +3,4 @@ use Rattle.crossing.specs.Boundary.{written_of}
 use Rattle.canceller.proofs.canceller_write_plan.Goals as goal
 
 pub returns : goal.returns
-returns c = record { answer = c.plan_written_of.ensures ∙ ap written_of c.write_plan.ensures.answer; file = c.write_plan.ensures.output }
+returns c = record { answer = c.from.ensures ∙ ap written_of c.write_plan.ensures.answer; file = c.write_plan.ensures.output }
