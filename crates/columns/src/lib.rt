@@ -67,7 +67,7 @@ fn list_named(taken: Taken, set: &[u8], count: u16, columns: &mut [u64]) -> Resu
     let flags = symbol_flags::opening_flags(ties, count);
     let marks = set_layout::mark_rows(n);
     let heads = free_marks::unmark(set, marks, n, s, ties, count, &flags[..]);
-    let rows = free_marks::list_rows(n);
+    let rows = Rows::packed(n);
     let found = marked_rows::count_marks(&heads[..], rows, s);
     if (columns.len() as u64) < found {
         return Err(Refusal::ShortColumnList);

@@ -10,18 +10,6 @@ ghost use Rattle.ties.specs.Symbols.{names, unmarked};
 
 use rows::Rows;
 
-// Where the rows of n chains stand in a list of nothing else.
-pub fn list_rows(n: u16) -> Rows
-    ensures { (result.at ≡ 0) × (result.stride ≡ row_bytes n) × (result.bytes ≡ row_bytes n) }
-{
-    let bytes = rows::row_bytes(n as usize) as u32;
-    Rows {
-        at: 0,
-        stride: bytes,
-        bytes,
-    }
-}
-
 // The rows of s slices of n chains, one after the other.
 fn copy_rows(list: &[u8], marks: Rows, n: u16, s: u16) -> [u8; 16384]
     ensures { n ≤ 256 → s ≤ 512 → marks.bytes ≡ row_bytes n → (t c : ℕ) → t < s → cell (list_row n result t) c ≡ cells_of list.now marks t c }

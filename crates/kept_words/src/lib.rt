@@ -68,7 +68,7 @@ fn reduce_free(taken: Taken, set: &[u8], working: &mut [u64], held: &mut [u64]) 
     }
     let ties = set_layout::tie_bytes(set);
     let free = free_marks::unmark(set, marks, n, s, ties, count, &[]);
-    set_words::reduce_cells(taken, &free[..], free_marks::list_rows(n), working, held)
+    set_words::reduce_cells(taken, &free[..], Rows::packed(n), working, held)
 }
 
 // All the words of a taken set, where the columns of its named symbols stand behind the first 64 places of `working`, and nothing behind them.

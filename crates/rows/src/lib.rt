@@ -10,12 +10,27 @@ ghost use Rattle.rows.specs.Row.{row_bytes, cell, spare_set};
 ghost use Rattle.rows.specs.Lists.{list_row, row_of, shares_bit, spare_in};
 
 // Where a response's rows stand in a list of bytes: `bytes` bytes each, the first at place `at` and each `stride` bytes after the
-// one before.
+// one before. The list goes beside it as a parameter. No plainer as a field: a clause would say `cells_of rows.entry.list.now rows.entry.rows`
+// in place of `cells_of list.now rows`.
 #[derive(Clone, Copy)]
 pub struct Rows {
     pub at: u32,
     pub stride: u32,
     pub bytes: u32,
+}
+
+impl Rows {
+    // Where the rows of n chains stand in a list of nothing else.
+    pub fn packed(n: u16) -> Rows
+        ensures { (result.at ≡ 0) × (result.stride ≡ row_bytes n) × (result.bytes ≡ row_bytes n) }
+    {
+        let bytes = row_bytes(n as usize) as u32;
+        Rows {
+            at: 0,
+            stride: bytes,
+            bytes,
+        }
+    }
 }
 
 // B, the bytes of a row of n chains: n ÷ 8 rounded up, for every n.

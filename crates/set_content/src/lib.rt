@@ -44,23 +44,11 @@ fn has_spare_list(n: usize, s: usize, values: &[u8], marks: &[u8]) -> bool
     rows::has_spare_row(n, values, s) | rows::has_spare_row(n, marks, s)
 }
 
-// The rows of n chains of a list that has them one after the other.
-fn list_rows(n: u16) -> Rows
-    ensures { (result.at ≡ 0) × (result.stride ≡ row_bytes n) × (result.bytes ≡ row_bytes n) }
-{
-    let bytes = rows::row_bytes(n as usize) as u32;
-    Rows {
-        at: 0,
-        stride: bytes,
-        bytes,
-    }
-}
-
 // Refuses the first `count` entries of ties, with the mark rows of s slices and n chains, by the first of 29, 30 and 31 that applies.
 fn check_ties(ties: &[u8], count: u16, marks: &[u8], n: u16, s: u16) -> Result<(), Refusal>
     ensures { refused result ≡ first_of (tie_tests s n (λ t. cell (list_row n marks.now t)) (ties_in ties.now count)) }
 {
-    ties::check_ties(ties, count, marks, list_rows(n), n, s)
+    ties::check_ties(ties, count, marks, Rows::packed(n), n, s)
 }
 
 // Number 24: whether `room` bytes are too few for a set of n chains, s slices and `count` entries of ties.

@@ -3,7 +3,6 @@
 #![tactic(auto)]
 
 ghost use Rattle.std.specs.Prelude.{◌≡◌};
-ghost use Rattle.rows.specs.Row.{row_bytes};
 ghost use Rattle.rows.specs.Lists.{cells_of};
 ghost use Rattle.set_file.specs.Reading.{taken_circuit};
 ghost use Rattle.signatures.specs.Signature.{signature};
@@ -30,18 +29,6 @@ pub fn sign_values(taken: Taken, set: &[u8]) -> u64
     sign_rows(taken, set, set_layout::value_rows(taken.n))
 }
 
-// Where the rows of a record of n chains stand.
-fn record_rows(n: u16) -> Rows
-    ensures { (result.at ≡ 0) × (result.stride ≡ row_bytes n) × (result.bytes ≡ row_bytes n) }
-{
-    let bytes = rows::row_bytes(n as usize) as u32;
-    Rows {
-        at: 0,
-        stride: bytes,
-        bytes,
-    }
-}
-
 // The signature of a record: all its cells as recorded, those of unknown cells too. It meets the set's numbers, then 12 and 13.
 pub fn sign_record(set: &[u8], record: &[u8]) -> Result<u64, Refusal>
     ensures { said_signed result ≡ sign_reply set.now «record».now }
@@ -56,5 +43,5 @@ pub fn sign_record(set: &[u8], record: &[u8]) -> Result<u64, Refusal>
     if rows::has_spare_row(n as usize, record, s as usize) {
         return Err(Refusal::RecordSpareBit);
     }
-    Ok(sign_rows(taken, record, record_rows(n)))
+    Ok(sign_rows(taken, record, Rows::packed(n)))
 }

@@ -12,7 +12,8 @@ ghost use Rattle.ties.specs.Ties.{entry_bytes, ties_in, wrong_cell, wrong_cells,
 use refusals::Refusal;
 use rows::Rows;
 
-// The bytes of an entry, and the most entries that a set has.
+// The bytes of an entry, and the most entries that a set has. Entries go as a list of bytes and how many count, two parameters. No plainer as
+// one value: a clause would say `ties_in ties.entry.bytes.now ties.entry.count` in place of `ties_in ties.now count`.
 pub const ENTRY_BYTES: usize = 7;
 
 pub const MOST_TIES: u16 = 256;

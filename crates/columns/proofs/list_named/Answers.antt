@@ -12,7 +12,7 @@ returns-then-columns-found c taken ec =
     let flags = c.opening_flags-flags in
     let marks = c.mark_rows-marks in
     let heads = c.unmark-heads in
-    let rows = c.list_rows-rows in
+    let rows = c.packed-rows in
     heads_short args.set.now args.taken taken marks.result marks.ensures ties.result.now flags.result heads.result args.count rows.result ec ties.ensures
     flags.ensures.flags heads.ensures rows.ensures _ c.count_marks-found.ensures args.columns.now c.if-columns-found.true
 
@@ -26,6 +26,6 @@ returns c taken ec =
     let flags = c.opening_flags-flags in
     let marks = c.mark_rows-marks in
     let heads = c.unmark-heads in
-    let rows = c.list_rows-rows in
+    let rows = c.packed-rows in
     heads_listed args.set.now args.taken taken marks.result marks.ensures ties.result.now flags.result heads.result args.count rows.result ec ties.ensures
     flags.ensures.flags heads.ensures rows.ensures _ c.count_marks-found.ensures args.columns.now _ c.if-columns-found.false c.fill_named.ensures

@@ -24,7 +24,7 @@ returns c =
       left = reduced.ensures.left;
       words = (λ taken room start.
           let words =
-          copied_words _ _ taken _ c.unknown_rows-marks.ensures _ _ _ _ c.list_rows.ensures c.tie_count-count.ensures c.tie_bytes-ties.ensures
+          copied_words _ _ taken _ c.unknown_rows-marks.ensures _ _ _ _ c.packed.ensures c.tie_count-count.ensures c.tie_bytes-ties.ensures
           c.unmark-free.ensures
           in
           let both = reduced.ensures.words room (start ∙ ap units (sym (own_width _ _ taken))) in

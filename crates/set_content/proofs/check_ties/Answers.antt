@@ -3,4 +3,4 @@ use Rattle.set_content.proofs.ContentLaws.{tied_lists}
 use Rattle.set_content.proofs.check_ties.Goals as goal
 
 pub returns : goal.returns
-returns c = tied_lists _ _ _ _ _ _ _ c.list_rows.ensures c.check_ties.ensures
+returns c = tied_lists _ _ _ _ _ _ _ c.packed.ensures c.check_ties.ensures

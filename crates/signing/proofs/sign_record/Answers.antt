@@ -20,4 +20,4 @@ returns-then-has_spare_row c =
 pub returns : goal.returns
 returns c =
     sign_answers _ _ _ c.in_ok-taken.ensures.taken _ c.rows_length.ensures.0 c.if-is_misfit.false _ c.has_spare_row.ensures _ c.if-has_spare_row.false
-    (c.sign_rows.ensures ∙ record_rows_cells _ _ _ c.record_rows.ensures _ _)
+    (c.sign_rows.ensures ∙ record_rows_cells _ _ _ c.packed.ensures _ _)
