@@ -86,7 +86,7 @@ pub struct SymbolColumns<'a, 'b> {
     pub numbers: &'a [u16],
 }
 
-impl<'a, 'b> SymbolColumns<'a, 'b> {
+impl SymbolColumns<'_, '_> {
     // The number of entries whose symbol numbers are there, of 256 at most.
     pub fn count(self) -> u16
         ensures { result ≡ min (length self.entry.numbers.now) 256 }
