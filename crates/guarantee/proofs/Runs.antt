@@ -21,7 +21,7 @@ use Rattle.numbers.proofs.JoinLaws.{joined_length, joined_row}
 use Rattle.rows.specs.Row.{cell, row_bytes, spare_set}
 use Rattle.rows.specs.Lists.{list_row}
 use Rattle.ties.specs.Ties.{wrong_cells, wrong_order, wrong_sides}
-use Rattle.register.specs.Circuit.{Circuit, chains}
+use Rattle.register.specs.Circuit.{Circuit}
 use Rattle.set_layout.specs.Layout.{width_of, chains_of, slices_of, circuit_of, value_row, mark_row, marks, ties_of, set_length}
 use Rattle.set_layout.proofs.LayoutLaws.{spread_length}
 use Rattle.set_layout.proofs.SliceLaws.{tie_bytes_length}

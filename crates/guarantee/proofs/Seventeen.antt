@@ -10,11 +10,10 @@
 --   text_seventeen      the plan printer's text, for any working places and word places: its line `refused 17`
 -- Assumes nothing.
 use mathlib.Core.Path.{◌≡◌, refl, sym, ap, ◌∙◌}
-use mathlib.Core.Bool.{true}
 use mathlib.Core.List.{List}
 use Prim.Native.Nat.{ℕ, ◌^◌, ◌<◌}
 use native.Mathlib.Omega.{arith}
-use Rattle.word.specs.Reply.{Test, Reply, answer, refusal, replied, first_of, after}
+use Rattle.word.specs.Reply.{Reply, answer, refusal, first_of, after}
 use Rattle.word.proofs.ReplyLaws.{after_after, after_number}
 use Rattle.word.proofs.TestLaws.{never}
 use Rattle.set_layout.specs.Layout.{width_of}

@@ -2,23 +2,24 @@
 use mathlib.Core.Path.{◌≡◌, refl, sym, ap, ap₂, ◌∙◌, subst}
 use mathlib.Core.List.{List}
 use Prim.Native.Nat.{ℕ, ◌≤◌}
-use native.Mathlib.Omega.{arith}
 use lib.ListN.{length, take}
 use Rattle.word.specs.Parities.{parities}
-use Rattle.word.specs.Reply.{Reply, answer, refusal, first_of, lent, number_of, after}
+use Rattle.word.specs.Reply.{Reply, answer, refusal, first_of, lent, after}
 use Rattle.word.proofs.ReplyLaws.{answered_part, after_answer}
 use Rattle.word.proofs.TestLaws.{replied_answer}
 use Rattle.signing.specs.Signing.{sign_reply, said_signed}
-use Rattle.signing.specs.declared.Signed.{Signed}
 use Rattle.kept_words.specs.Working.{words_of}
 use Rattle.planner.specs.Planning.{expected_of, working_left, PlanParts, parts_of, plan_reply, said as said_planned}
 use Rattle.planner.specs.declared.Planned.{Planned}
 use Rattle.planner.proofs.CallLaws.{Ends, words_front}
 use Rattle.plan_file.specs.Layout.{plan_length}
 use Rattle.plan_writer.specs.Writing.{plan_content, word_count, plan_bytes, plan_write_tests, plan_write_reply, said as said_written}
-use Rattle.plan_writer.specs.declared.Written.{Written}
 use Rattle.plan_writer.proofs.WriteLaws.{length_plan_bytes}
-use Rattle.judge.specs.Verdict.{Finding, verdict, judge_reply}
+use Rattle.judge.specs.Verdict.{Finding, verdict, judge_reply, said}
+use Rattle.judge.specs.declared.Judgment.{Judgment}
+use Rattle.std.specs.Prelude.{Result, Ok, Err}
+use Rattle.refusals.specs.declared.Refusal.{Refusal}
+use Rattle.refusals.specs.Refusals.{number}
 use Rattle.guarantee.specs.Demand.{AlikeObeying, plan_file}
 use Rattle.guarantee.specs.AtWork.{made_reply, plan_of, file_after, signed_reply, record_reply}
 use Rattle.guarantee.proofs.Theorems.{planned_parts, plan_written, plan_judged, signed_within, same_for_alike_records}
@@ -36,18 +37,26 @@ abbrev pub Made : List ℕ → List ℕ → List ℕ → List ℕ → Reply ℕ 
 Made set cs ws file a cs' ws' file' =
     (a ≡ made_reply set (length cs) (length ws) (length file)) × Left set cs ws file cs' ws' file'
 
-module _ (set cs ws cs' ws' : List ℕ) (p : Planned) (ends : Ends set cs ws p cs' ws') where
+module _ (set cs ws cs' ws' : List ℕ) (p : Result Planned Refusal) (ends : Ends set cs ws p cs' ws') where
   -- planning refused
-  pub made_unplanned : (file : List ℕ) (n k : ℕ) → p ≡ Planned.Refused n → k ≡ number_of (said_planned p) → Made set cs ws file (refusal k) cs' ws' file
+  pub made_unplanned : (file : List ℕ) (r : Result ℕ Refusal) (e : Refusal) → r ≡ Err e → p ≡ Err e → Made set cs ws file (said_written r) cs' ws' file
   unfolding made_reply file_after
-  made_unplanned file n k e h =
-      let refused : plan_reply set (length cs) (length ws) ≡ refusal n = sym ends.0 ∙ ap said_planned e in
-      let number : k ≡ n = h ∙ ap (λ (x : Planned). number_of (said_planned x)) e in
-      let made : made_reply set (length cs) (length ws) (length file) ≡ refusal n = rw refused in
-      (ap refusal number ∙ sym made, (ends.1.0, (ends.1.1, sym (ap (λ (x : Reply ℕ). lent x (plan_of set) file) made))))
+  made_unplanned file r e is h =
+      let refused : plan_reply set (length cs) (length ws) ≡ refusal (number e) = sym ends.0 ∙ ap said_planned h in
+      let made : made_reply set (length cs) (length ws) (length file) ≡ refusal (number e) = rw refused in
+      (ap said_written is ∙ sym made, (ends.1.0, (ends.1.1, sym (ap (λ (x : Reply ℕ). lent x (plan_of set) file) made))))
 
   -- planning answered
-  module _ (m q e : ℕ) (h : p ≡ Planned.Plan m q e) where
+  module _ (k : Planned) (h : p ≡ Ok k) where
+    abbrev m : ℕ
+    m = k.m
+
+    abbrev q : ℕ
+    q = k.q
+
+    abbrev e : ℕ
+    e = k.expected
+
     abbrev parts : PlanParts
     parts = record { m = m; q = q; expected = e }
 
@@ -80,14 +89,13 @@ module _ (set cs ws cs' ws' : List ℕ) (p : Planned) (ends : Ends set cs ws p c
 
 -- ---- judging a record's signature by a plan file
 
-module _ (set r plan : List ℕ) (s : Signed) (es : said_signed s ≡ sign_reply set r) where
-  pub signed_refused : (n k : ℕ) → s ≡ Signed.Refused n → k ≡ number_of (said_signed s) → refusal k ≡ signed_reply set r plan
+module _ (set r plan : List ℕ) (s : Result ℕ Refusal) (es : said_signed s ≡ sign_reply set r) where
+  pub signed_refused : (x : Result Judgment Refusal) (e : Refusal) → x ≡ Err e → s ≡ Err e → said x ≡ signed_reply set r plan
   unfolding signed_reply
-  signed_refused n k e h =
-      let refused : sign_reply set r ≡ refusal n = sym es ∙ ap said_signed e in
-      ap refusal (h ∙ ap (λ (x : Signed). number_of (said_signed x)) e) ∙ sym (ap (λ (x : Reply ℕ). after x (λ y. judge_reply plan y)) refused)
+  signed_refused x e is h =
+      ap said is ∙ sym (ap (λ (a : Reply ℕ). after a (λ y. judge_reply plan y)) (sym es ∙ ap said_signed h))
 
-  pub signed_judged : (y : ℕ) (a : Reply Finding) → s ≡ Signed.Signature y → a ≡ judge_reply plan y → a ≡ signed_reply set r plan
+  pub signed_judged : (y : ℕ) (a : Reply Finding) → s ≡ Ok y → a ≡ judge_reply plan y → a ≡ signed_reply set r plan
   unfolding signed_reply
   signed_judged y a e h =
       h ∙ sym (ap (λ (x : Reply ℕ). after x (λ y. judge_reply plan y)) (sym es ∙ ap said_signed e))
@@ -125,19 +133,18 @@ made_length set k l room n h =
     (replied_answer (first_of (plan_write_tests written room)) (plan_length (word_count written)) n step.2).1
     ∙ sym (length_plan_bytes (plan_content (parts_of set).m (words_of set) (parts_of set).expected))
 
-module _ (set cs ws file cs' ws' file' : List ℕ) (w : Written) (made : Made set cs ws file (said_written w) cs' ws' file') where
+module _ (set cs ws file cs' ws' file' : List ℕ) (w : Result ℕ Refusal) (made : Made set cs ws file (said_written w) cs' ws' file') where
   -- what a record r gets: a
   abbrev pub Got : List ℕ → Reply Finding → Type 0
   Got r a = a ≡ record_reply set r (length cs) (length ws) (length file)
 
   -- no plan was made
-  pub got_refused : (r : List ℕ) (n k : ℕ) → w ≡ Written.Refused n → k ≡ number_of (said_written w) → Got r (refusal k)
+  pub got_refused : (r : List ℕ) (x : Result Judgment Refusal) (e : Refusal) → x ≡ Err e → w ≡ Err e → Got r (said x)
   unfolding record_reply
-  got_refused r n k e h =
-      ap refusal (h ∙ ap (λ (x : Written). number_of (said_written x)) e)
-      ∙ sym (ap (λ (x : Reply ℕ). after x (λ n. signed_reply set r (plan_of set))) (sym made.0 ∙ ap said_written e))
+  got_refused r x e is h =
+      ap said is ∙ sym (ap (λ (a : Reply ℕ). after a (λ n. signed_reply set r (plan_of set))) (sym made.0 ∙ ap said_written h))
 
-  module _ (n : ℕ) (e : w ≡ Written.Done n) where
+  module _ (n : ℕ) (e : w ≡ Ok n) where
     answered : made_reply set (length cs) (length ws) (length file) ≡ answer n
     answered = sym made.0 ∙ ap said_written e
 

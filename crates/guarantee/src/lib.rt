@@ -2,8 +2,8 @@
 #![tactic(auto)]
 
 ghost use Rattle.std.specs.Prelude.{◌≡◌, ℕ, length};
-ghost use Rattle.word.specs.Reply.{answer, number_of, lent};
-ghost use Rattle.signing.specs.Signing.{sign_reply, said_signed};
+ghost use Rattle.word.specs.Reply.{answer, lent};
+ghost use Rattle.signing.specs.Signing.{sign_reply};
 ghost use Rattle.kept_words.specs.Working.{words_of};
 ghost use Rattle.planner.specs.Planning.{working_left, plan_reply};
 ghost use Rattle.plan_writer.specs.Writing.{said as said_written};
@@ -11,66 +11,39 @@ ghost use Rattle.judge.specs.Verdict.{said};
 ghost use Rattle.guarantee.specs.Demand.{AlikeObeying};
 ghost use Rattle.guarantee.specs.AtWork.{made_reply, file_after, signed_reply, record_reply};
 
-use judge::Judged;
-use plan_writer::Written;
-use planner::Planned;
-use signing::Signed;
+use judge::Judgment;
+use refusals::Refusal;
 
 // What two records get from one plan.
 #[derive(Drop)]
 pub struct Pair {
-    pub first: Judged,
-    pub second: Judged,
-}
-
-// The number of a refusal of the plan writer; 0 of an answer.
-fn writing_number(written: Written) -> u64
-    ensures { result ≡ number_of (said_written written) }
-{
-    match written {
-        Written::Done { length: _ } => 0,
-        Written::Refused { number } => number,
-    }
-}
-
-// The number of a refusal to sign a record; 0 of an answer.
-fn signing_number(signed: Signed) -> u64
-    ensures { result ≡ number_of (said_signed signed) }
-{
-    match signed {
-        Signed::Signature { signature: _ } => 0,
-        Signed::Refused { number } => number,
-    }
+    pub first: Result<Judgment, Refusal>,
+    pub second: Result<Judgment, Refusal>,
 }
 
 // Makes the plan of a set: planning, then the plan writer. Answers with the length of the plan file and writes it over the front
 // of `file`; planning writes to `working` and `words`. Meets planning's numbers, then the writer's.
-fn make_plan(set: &[u8], working: &mut [u64], words: &mut [u64], file: &mut [u8]) -> Written
+fn make_plan(
+    set: &[u8],
+    working: &mut [u64],
+    words: &mut [u64],
+    file: &mut [u8],
+) -> Result<usize, Refusal>
     ensures answer { said_written result ≡ made_reply set.now (length working.old) (length words.old) (length file.old) }
     ensures working { working.new ≡ working_left set.now working.old }
     ensures words { words.new ≡ lent (plan_reply set.now (length working.old) (length words.old)) (words_of set.now) words.old }
     ensures file { file.new ≡ file_after set.now (length working.old) (length words.old) file.old }
 {
-    let planned = planner::plan(set, working, words);
-    let Planned::Plan { m, q, expected } = planned else {
-        return Written::Refused {
-            number: planner::number_of(planned),
-        };
-    };
-    let count = q as usize;
-    plan_writer::write_plan(m, &words[..count], expected, file)
+    let planned = planner::plan(set, working, words)?;
+    let count = planned.q as usize;
+    plan_writer::write_plan(planned.m, &words[..count], planned.expected, file)
 }
 
 // Judges a record's signature by a plan file. Meets the set's numbers, 12 and 13, then judging's 19 to 23.
-fn judge_signed(set: &[u8], response: &[u8], plan: &[u8]) -> Judged
+fn judge_signed(set: &[u8], response: &[u8], plan: &[u8]) -> Result<Judgment, Refusal>
     ensures { said result ≡ signed_reply set.now response.now plan.now }
 {
-    let signed = signing::sign_record(set, response);
-    let Signed::Signature { signature } = signed else {
-        return Judged::Refused {
-            number: signing_number(signed),
-        };
-    };
+    let signature = signing::sign_record(set, response)?;
     judge::judge(plan, signature)
 }
 
@@ -84,18 +57,13 @@ pub fn judge_record(
     working: &mut [u64],
     words: &mut [u64],
     file: &mut [u8],
-) -> Judged
+) -> Result<Judgment, Refusal>
     ensures answer { said result ≡ record_reply set.now response.now (length working.old) (length words.old) (length file.old) }
     ensures working { working.new ≡ working_left set.now working.old }
     ensures words { words.new ≡ lent (plan_reply set.now (length working.old) (length words.old)) (words_of set.now) words.old }
     ensures file { file.new ≡ file_after set.now (length working.old) (length words.old) file.old }
 {
-    let made = make_plan(set, working, words, file);
-    let Written::Done { length } = made else {
-        return Judged::Refused {
-            number: writing_number(made),
-        };
-    };
+    let length = make_plan(set, working, words, file)?;
     judge_signed(set, response, &file[..length])
 }
 
@@ -117,17 +85,17 @@ pub fn judge_records(
     ensures words { words.new ≡ lent (plan_reply set.now (length working.old) (length words.old)) (words_of set.now) words.old }
     ensures file { file.new ≡ file_after set.now (length working.old) (length words.old) file.old }
 {
-    let made = make_plan(set, working, words, file);
-    let Written::Done { length } = made else {
-        let number = writing_number(made);
-        return Pair {
-            first: Judged::Refused { number },
-            second: Judged::Refused { number },
-        };
-    };
-    let plan = &file[..length];
-    Pair {
-        first: judge_signed(set, first, plan),
-        second: judge_signed(set, second, plan),
+    match make_plan(set, working, words, file) {
+        Ok(length) => {
+            let plan = &file[..length];
+            Pair {
+                first: judge_signed(set, first, plan),
+                second: judge_signed(set, second, plan),
+            }
+        }
+        Err(refusal) => Pair {
+            first: Err(refusal),
+            second: Err(refusal),
+        },
     }
 }

@@ -1,16 +1,10 @@
--- The bytes read lie within the buffer, and the text is that for the places lent. Assumes nothing.
-use mathlib.Core.Path.{◌≡◌, ap, ap₂, subst, ◌∙◌}
+-- The text is that for the places lent. Assumes nothing.
+use mathlib.Core.Path.{◌≡◌, ap, ap₂, ◌∙◌}
 use mathlib.Core.List.{List}
-use Prim.Native.Nat.{ℕ, ◌≤◌}
+use Prim.Native.Nat.{ℕ}
 use lib.ListN.{length}
 use Rattle.word.specs.Reply.{front}
 use Rattle.plan_text.specs.PlanText.{plan_text, printed_text}
-use Rattle.plan_printer.specs.Reading.{count_of}
-use Rattle.plan_printer.specs.declared.Input.{Input}
-use Rattle.plan_printer.specs.declared.Input.TheVariants.{Read}
-
-pub read_within : (r : Input) (n room : ℕ) → r ≡ Read n → count_of r ≤ room → n ≤ room
-read_within r n room e h = subst (λ (k : ℕ). k ≤ room) (ap count_of e) h
 
 pub lent_places : (set cs ws l : List ℕ) (r : ℕ) (l' : List ℕ) → length cs ≡ 4096 → length ws ≡ 64 → r ≡ length (plan_text set (length cs) (length ws))
     → l' ≡ front (plan_text set (length cs) (length ws)) l → (r ≡ length (printed_text set)) × (l' ≡ front (printed_text set) l)

@@ -1,20 +1,12 @@
 // The plan printer: reads a set from standard input and prints its plan. It sees the plan's text, and what reads and writes.
 #![tactic(auto)]
 
-ghost use Rattle.std.specs.Prelude.{◌≡◌, suc, ◌≤◌, length};
+ghost use Rattle.std.specs.Prelude.{◌≡◌, suc, ◌≤◌, length, IfOk};
 ghost use Rattle.word.specs.Reply.{front};
 ghost use Rattle.plan_text.specs.PlanText.{longest, printed_text};
-ghost use Rattle.plan_printer.specs.Reading.{count_of};
 
 use std::io;
 use std::io::{Print, Read, Stderr, Stdin};
-
-// What reading answers: how many bytes there were, or that a read failed.
-#[derive(Drop)]
-enum Input {
-    Read { count: usize },
-    Failed,
-}
 
 // So many bytes of the input are read: one more than the longest set has. A longer input prints what these print (plan_text,
 // proofs/InputLaws.antt, long_printed).
@@ -26,22 +18,11 @@ const WORKING_PLACES: usize = 4096;
 // A set has no more words than its register has bits.
 const WORD_PLACES: usize = 64;
 
+// Room for these bytes.
 fn no_bytes() -> [u8; MOST_BYTES]
     ensures { length result ≡ suc longest }
 {
     [0u8; MOST_BYTES]
-}
-
-fn no_places() -> [u64; WORKING_PLACES]
-    ensures { length result ≡ 4096 }
-{
-    [0u64; WORKING_PLACES]
-}
-
-fn no_words() -> [u64; WORD_PLACES]
-    ensures { length result ≡ 64 }
-{
-    [0u64; WORD_PLACES]
 }
 
 // The text of a set, with the places that the plan printer lends. Answers with its length and writes it over the front of `out`.
@@ -49,33 +30,26 @@ fn print_set(set: &[u8], out: &mut [u8; 4096]) -> usize
     ensures count { result ≡ length (printed_text set.now) }
     ensures text { out.new ≡ front (printed_text set.now) out.old }
 {
-    let mut working = no_places();
-    let mut words = no_words();
+    let mut working = [0; WORKING_PLACES];
+    let mut words = [0; WORD_PLACES];
     plan_text::print_plan(set, &mut working, &mut words, out)
 }
 
 // Reads standard input over the front of `bytes`, until it is full or the input ends. A read that fails is told apart from the
 // end of the input; one that a signal interrupts counts as failed.
-fn read_input(stdin: &mut Stdin, bytes: &mut [u8]) -> Input
-    ensures { count_of result ≤ length bytes.new }
+fn read_input(stdin: &mut Stdin, bytes: &mut [u8]) -> io::Result<usize>
+    ensures { IfOk result (λ count. count ≤ length bytes.new) }
 {
     let mut count: usize = 0;
+    // no plainer: each read says how many bytes came.
     while count < bytes.len() {
-        let Ok(more) = stdin.read(&mut bytes[count..]) else {
-            return Input::Failed;
-        };
+        let more = stdin.read(&mut bytes[count..])?;
         if more == 0 {
-            return Input::Read { count };
+            return Ok(count);
         }
         count += more;
     }
-    Input::Read { count }
-}
-
-fn no_text() -> [u8; 4096]
-    ensures { length result ≡ 4096 }
-{
-    [0u8; 4096]
+    Ok(count)
 }
 
 fn tell_unread(stderr: Stderr) -> io::Result<()> {
@@ -88,11 +62,10 @@ fn tell_unwritten(stderr: Stderr) -> io::Result<()> {
 
 fn main(rt: HostRuntime) -> io::Result<()> {
     let mut bytes = no_bytes();
-    let input = read_input(&mut rt.stdin(), &mut bytes);
-    let Input::Read { count } = input else {
+    let Ok(count) = read_input(&mut rt.stdin(), &mut bytes) else {
         return tell_unread(rt.stderr());
     };
-    let mut out = no_text();
+    let mut out = [0; 4096];
     let end = print_set(&bytes[..count], &mut out);
     if rt.stdout().write_all(&out[..end]).is_err() {
         return tell_unwritten(rt.stderr());

@@ -2,14 +2,13 @@
 use mathlib.Core.Path.{sym}
 use lib.Seq.{length-take-le}
 use Rattle.word.proofs.ReplyLaws.{front_part}
-use Rattle.plan_printer.proofs.Laws.{read_within}
 use Rattle.plan_printer.proofs.main.Goals as goal
 
 pub slice_bounds-bytes-end : goal.slice_bounds-bytes-end
-slice_bounds-bytes-end c = read_within _ _ _ c.in-Read.is c.read_input-input.ensures
+slice_bounds-bytes-end c = c.in-Ok.ensures
 
 pub slice_bounds-print_set-end : goal.slice_bounds-print_set-end
-slice_bounds-print_set-end c = sym (length-take-le _ _ (read_within _ _ _ c.in-Read.is c.read_input-input.ensures))
+slice_bounds-print_set-end c = sym (length-take-le _ _ c.in-Ok.ensures)
 
 pub slice_bounds-out-end : goal.slice_bounds-out-end
 slice_bounds-out-end c = (front_part _ _ _ _ c.print_set-end.ensures.text c.print_set-end.ensures.count).0
