@@ -60,7 +60,8 @@ fn is_closed(register: Register, words: &[u64]) -> bool
 }
 
 // The place of the first column, from place `from` on, that is odd with one of the words; the end where none is. By a table where so many
-// columns and words make up for the time that it takes.
+// columns and words make up for the time that it takes. No plainer as
+// an Option: what is asked is whether the place is the end.
 fn first_odd(words: &[u64], columns: &[u64], from: usize) -> usize
     ensures { result ≡ from + even_run words.now (drop from columns.now) }
 {

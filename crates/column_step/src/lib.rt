@@ -9,7 +9,8 @@ ghost use Rattle.word.specs.Reply.{front};
 ghost use Rattle.combinations.specs.Step.{by_parity, step};
 ghost use Rattle.column_step.specs.Pivot.{first_odd};
 
-// The place of the first word that is odd with the column; the number of words where none is.
+// The place of the first word that is odd with the column; the number of words where none is. No plainer as an Option: `add_column` answers with
+// that number.
 fn first_odd(words: &[u64], column: u64) -> usize
     ensures { result ≡ first_odd column words.now }
 {

@@ -195,7 +195,7 @@ impl From<Result<usize, Refusal>> for CWritten {
     }
 }
 
-// The clock's answer: the successor's state, or in a refusal the state that was handed in.
+// The clock's answer: the successor's state, or in a refusal the state that was handed in. No plainer as a `From`: that state comes beside the answer.
 pub fn clocked_of(clocked: Result<Register, Refusal>, state: u64) -> CClocked
     ensures { result ≡ clocked_of (said_clocked clocked) state }
 {

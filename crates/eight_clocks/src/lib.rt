@@ -39,7 +39,8 @@ pub fn look_eight(m: u64, table: &[u64], words: &mut [u64])
     }
 }
 
-// Looks each word up for so many clocks, without whole eights of them: 0 to 7, in the same table.
+// Looks each word up for so many clocks, without whole eights of them: 0 to 7, in the same table. No plainer as one function with the other: its 8
+// and its 256 would be values, and a table of fewer clocks be looked up with a mask.
 pub fn look_few(m: u64, clocks: usize, table: &[u64], words: &mut [u64])
     ensures { 256 ≤ length table.now → words.new ≡ map (looked_on (min m 64) table.now (clocks % 8)) words.old }
 {

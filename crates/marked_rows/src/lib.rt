@@ -13,7 +13,8 @@ ghost use Rattle.marked_rows.specs.Estimate.{estimate};
 
 use rows::Rows;
 
-// The last marked row among some: how many rows there are up to it and with it, 0 where none is marked, and how many cells it marks.
+// The last marked row among some: how many rows there are up to it and with it, 0 where none is marked, and how many cells it marks. No plainer as
+// an Option: a caller goes on with the first t rows, of which there may be none.
 #[derive(Drop)]
 pub struct Marked {
     pub t: u16,
@@ -70,7 +71,8 @@ fn last_by<F: Fn(u16) -> u64>(t: u16, count_of: F) -> Marked
     Marked { t: 0, count: 0 }
 }
 
-// Whether the first t rows are of 32 bytes and all there.
+// Whether the first t rows are of 32 bytes and all there. The four private functions that ask for it say so. No plainer as a type: it would hold the
+// list, and their clauses would read `rows.entry.list.now` for it.
 pub fn are_whole_32(list: &[u8], rows: Rows, t: u16) -> bool
     ensures { result ≡ true → (rows.bytes ≡ 32) × (rows.at + rows.stride * t + 32 ≤ length list.now + rows.stride) }
 {

@@ -27,7 +27,8 @@ pub fn byte_table(words: &[u64]) -> [u64; 2048]
 }
 
 // The place of the first column, from place `from` on, for which the table doesn't give 0; the end where none is. By the table of some
-// words that is the first column that is odd with one of them (proofs/SkipLaws.antt, table_run_lem).
+// words that is the first column that is odd with one of them (proofs/SkipLaws.antt, table_run_lem). No plainer as an Option, here and
+// in the two below: a caller goes on from the place, and stops at the end.
 pub fn skip_by_table(table: &[u64; 2048], columns: &[u64], from: usize) -> usize
     ensures { result ≡ from + table_run table.now (drop from columns.now) }
 {

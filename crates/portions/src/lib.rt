@@ -12,7 +12,8 @@ use marked_words::Fitted;
 use register::Register;
 use rows::Rows;
 
-// Where marked cells come from: the register that their chains drive, the rows of marks and how many slices there are.
+// Where marked cells come from: the register that their chains drive, the rows of marks and how many slices there are. The list goes beside it, as it
+// goes beside `Rows`.
 #[derive(Clone, Copy)]
 pub struct Source {
     pub register: Register,

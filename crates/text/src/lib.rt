@@ -13,7 +13,7 @@ pub fn put(out: &mut [u8], at: usize, text: &[u8]) -> usize
     numbers::moved(at, text.len(), out.len())
 }
 
-// A number's digits at the end of 20 bytes: they start at place `from`.
+// A number's digits at the end of 20 bytes: they start at place `from`. Fixed memory: there is no heap.
 #[derive(Drop)]
 struct Digits {
     bytes: [u8; 20],
@@ -37,7 +37,8 @@ fn digits_of(n: u64) -> Digits
     Digits { bytes, from: i }
 }
 
-// The decimal digits of n into `out` from place `at`; answers with the place behind them as `put` does.
+// The decimal digits of n into `out` from place `at`; answers with the place behind them as `put` does. No plainer as a `Display`: `fmt` says nothing
+// of the bytes that it writes, and they are what is promised.
 pub fn put_decimal(out: &mut [u8], at: usize, n: u64) -> usize
     ensures { Put out.old at (decimal n) result out.new }
 {
