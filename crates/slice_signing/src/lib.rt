@@ -21,6 +21,8 @@ const FEW_SLICES: u16 = 8;
 const MANY_SLICES: u16 = 192;
 
 // The signature of the first s rows that stand in `list`, from a register that holds 0: each row is lent to the chains as it stands there.
+// Three loops stay for what may not change: in this one each row is lent to the clock where it stands, and one loop for all would lend it to the
+// chains.
 fn sign_by_cells(register: Register, spread: &[u64], list: &[u8], rows: Rows, s: u16) -> u64
     requires { register.state ≡ 0 }
     ensures { result ≡ signature (circuit (min register.m 64) register.taps register.inversion spread.now) (cells_of list.now rows) s }
