@@ -7,14 +7,16 @@ use native.Mathlib.Omega.{arith}
 use lib.Bits.{bit_xor}
 use lib.ListN.{length, get_or, take, drop, set, drop_of_length-le}
 use lib.Seq.{drop-cons}
+use Rattle.word.specs.Word.{digit}
 use Rattle.word.specs.Parities.{parities}
 use Rattle.word.proofs.LowestLaws.{Lowest}
 use Rattle.combinations.specs.Step.{cleared, step, steps, units}
 use Rattle.combinations.proofs.StepLaws.{steps_none}
-use Rattle.combinations.proofs.Units.{one_bit, next_taken}
+use Rattle.combinations.proofs.Units.{one_bit, next_taken, length_units, units_at, power_top}
 use Rattle.turned_words.specs.Turned.{kept}
 use Rattle.column_basis.specs.Basis.{Basis, Slots, Held}
 use Rattle.turned_words.proofs.KeptLaws.{kept_full}
+use Rattle.turned_words.proofs.TurnedLaws.{power_other}
 use Rattle.column_basis.proofs.BasisLaws.{column_even, column_odd, basis_grown}
 
 -- ---- the loop over the places: those passed hold their bits
@@ -28,6 +30,19 @@ unfolding units
 units_turn ws i long h e =
     next_taken ws (units i) i ((1 * 2 ^ i) % 18446744073709551616) (2 ^ i) (subst (λ (n : ℕ). i < n) (sym long) h) e (one_bit i h)
     ∙ ap units (sym (add-one i))
+
+-- ---- the words of single bits are a basis, with any bits dead
+
+units_basis : (dead : ℕ) → Basis (units 64) dead
+units_basis dead =
+    record {
+      long = length_units 64;
+      one = λ d ld e. ap (digit d) (units_at 64 d ld) ∙ ap (λ (x : ℕ). x % 2) (power_top d);
+      clear = λ d j ld e lj. ap (digit j) (units_at 64 d ld) ∙ power_other j d (λ (q : j ≡ d). (let z : ⊥ = omega arith in z));
+    }
+
+pub singles_basis : (basis : List ℕ) (dead : ℕ) → basis ≡ units 64 → Basis basis dead
+singles_basis basis dead e = subst (λ (x : List ℕ). Basis x dead) (sym e) (units_basis dead)
 
 -- ---- one column
 

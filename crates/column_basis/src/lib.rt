@@ -6,7 +6,7 @@
 ghost use Rattle.std.specs.Prelude.{◌≡◌, List, ℕ, ◌+◌, ◌<◌, length};
 ghost use Rattle.word.specs.Parities.{parities};
 ghost use Rattle.combinations.specs.Step.{step, steps, units};
-ghost use Rattle.turned_words.specs.Turned.{kept};
+ghost use Rattle.turned_words.specs.Turned.{kept, dead_behind};
 ghost use Rattle.column_basis.specs.Basis.{Basis, Slots, Held, Settled};
 
 // Every bit is dead.
@@ -21,53 +21,6 @@ pub fn unit_words() -> [u64; 64]
         *w = 1u64 << i;
     }
     words
-}
-
-// What is left of a column without its dead bits.
-fn reduced(basis: &[u64], dead: u64, column: u64) -> u64
-    requires { Basis basis.now dead }
-    ensures { (l ws : List ℕ) → Slots l ws basis.now dead → (result ≡ parities ws column) × (parities ws result ≡ result) }
-{
-    let mut rest = column;
-    let mut left = rest & dead;
-    // no plainer: it goes from one bit to the next
-    while left != 0 {
-        let d = left.trailing_zeros() as usize;
-        rest ^= basis[d];
-        left = rest & dead;
-    }
-    rest
-}
-
-// One column more. Answers with the bits that are dead then: where a word is odd with the column, that of the first such word too.
-fn add_to_basis(basis: &mut [u64], dead: u64, column: u64) -> u64
-    requires { Basis basis.old dead }
-    ensures order { Basis basis.new result }
-    ensures list { (l : List ℕ) → Held l basis.old dead → Held (step column l) basis.new result }
-{
-    let rest = reduced(basis, dead, column);
-    if rest == 0 {
-        return dead;
-    }
-    let k = rest.trailing_zeros() as usize;
-    basis[k] = rest;
-    dead ^ (1u64 << k)
-}
-
-// The columns one after the other, until every bit is dead. Answers with the bits that are.
-pub fn take_columns(basis: &mut [u64], dead: u64, columns: &[u64]) -> u64
-    requires { Basis basis.old dead }
-    ensures order { Basis basis.new result }
-    ensures list { (l : List ℕ) → Held l basis.old dead → Held (steps columns.now l) basis.new result }
-{
-    let mut gone = dead;
-    for column in columns {
-        if gone == ALL_DEAD {
-            return gone;
-        }
-        gone = add_to_basis(basis, gone, *column);
-    }
-    gone
 }
 
 // Puts bit d into the words of the slots that have it, where it is dead: the basis' word of it without the other dead bits says which.
@@ -86,14 +39,75 @@ fn settle(basis: &mut [u64], words: &mut [u64], dead: u64, d: usize)
     turned_words::xor_into(words, row, bit);
 }
 
-// The words of the slots; in the dead ones stands anything.
-pub fn slot_words(basis: &mut [u64], dead: u64) -> [u64; 64]
-    requires { Basis basis.old dead }
-    ensures { (l : List ℕ) → Held l basis.old dead → kept dead result ≡ l }
-{
-    let mut words = unit_words();
-    for d in (0..64).rev() {
-        settle(basis, &mut words, dead, d);
+// A basis: a word for each of the 64 bits, and the bits that are dead. Each dead bit's word has it as its lowest bit.
+#[derive(Clone, Copy)]
+pub struct ColumnBasis {
+    pub words: [u64; 64],
+    pub dead: u64,
+    ghost order: { Basis words dead },
+}
+
+impl ColumnBasis {
+    // The words of the 64 single bits, with the bits from the width on dead: the basis beside the words of the bits below.
+    pub fn single_bits(width: usize) -> ColumnBasis
+        ensures words { result.words ≡ units 64 }
+        ensures dead { result.dead ≡ dead_behind width }
+    {
+        ColumnBasis {
+            words: unit_words(),
+            dead: turned_words::dead_behind(width),
+        }
     }
-    words
+
+    // What is left of a column without its dead bits.
+    fn reduced(&self, column: u64) -> u64
+        ensures { (l ws : List ℕ) → Slots l ws self.now.words self.now.dead → (result ≡ parities ws column) × (parities ws result ≡ result) }
+    {
+        let mut rest = column;
+        let mut left = rest & self.dead;
+        // no plainer: it goes from one bit to the next
+        while left != 0 {
+            let d = left.trailing_zeros() as usize;
+            rest ^= self.words[d];
+            left = rest & self.dead;
+        }
+        rest
+    }
+
+    // One column more: where a word is odd with the column, the bit of the first such word is dead then.
+    fn add(&mut self, column: u64)
+        ensures { (l : List ℕ) → Held l self.old.words self.old.dead → Held (step column l) self.new.words self.new.dead }
+    {
+        let rest = self.reduced(column);
+        if rest == 0 {
+            return;
+        }
+        let k = rest.trailing_zeros() as usize;
+        self.words[k] = rest;
+        self.dead ^= 1u64 << k;
+    }
+
+    // The columns one after the other, until every bit is dead.
+    pub fn take_columns(&mut self, columns: &[u64])
+        ensures { (l : List ℕ) → Held l self.old.words self.old.dead → Held (steps columns.now l) self.new.words self.new.dead }
+    {
+        for column in columns {
+            if self.dead == ALL_DEAD {
+                return;
+            }
+            self.add(*column);
+        }
+    }
+
+    // The words of the slots; in the dead ones stands anything.
+    pub fn slot_words(self) -> [u64; 64]
+        ensures { (l : List ℕ) → Held l self.words self.dead → kept self.dead result ≡ l }
+    {
+        let mut basis = self.words;
+        let mut words = unit_words();
+        for d in (0..64).rev() {
+            settle(&mut basis, &mut words, self.dead, d);
+        }
+        words
+    }
 }

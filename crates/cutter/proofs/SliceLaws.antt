@@ -117,16 +117,16 @@ held_all g sound κ t runs basis dead l some et few long so_far = sliced_all g s
 
 -- what one slice of the pass does with the chains' words, which become ws', the words that the run so far leaves, beside which the basis stands
 -- before and after, and the first slices l of the runs so far
-pub record SlicePassed (g : Given) (table : List ℕ) (k t runs : ℕ) (ws' basis : List ℕ) (dead : ℕ) (basis' l : List ℕ) (turn : Turn) : Type 0 where
+pub record SlicePassed (g : Given) (table : List ℕ) (k t runs : ℕ) (ws' basis : List ℕ) (dead : ℕ) (basis' : List ℕ) (dead' : ℕ) (l : List ℕ) (turn : Turn) : Type 0 where
   pub words : EightBack g.wiring table → ws' ≡ earlier_words g.wiring (eights (t + 1)) g.wiring.spread
   pub short : Sound g.wiring → EightBack g.wiring table → 1 ≤ k → CutHeld g k t runs basis dead l → turn.left < k → SlicedFor g k l (Err SliceShare)
   pub next : Sound g.wiring → EightBack g.wiring table → 1 ≤ k → CutHeld g k t runs basis dead l → k ≤ turn.left
-      → CutHeld g k (t + 1) (runs + turn.opened) basis' turn.dead (set l runs t)
+      → CutHeld g k (t + 1) (runs + turn.opened) basis' dead' (set l runs t)
 
 -- .. by what its two calls promise: the columns stand behind place p of a list of 256, and have been put to the words
-module _ (r : Register) (table list : List ℕ) (rows : Rows) (s k t runs w p : ℕ) (ws₀ ws ws' cs cs' basis : List ℕ) (dead : ℕ) (basis' l : List ℕ) (turn : Turn)
+module _ (r : Register) (table list : List ℕ) (rows : Rows) (s k t runs w p : ℕ) (ws₀ ws ws' cs cs' basis : List ℕ) (dead : ℕ) (basis' : List ℕ) (dead' : ℕ) (l : List ℕ) (turn : Turn)
     (next : NextFrom r table list rows t ws ws' cs cs' p)
-    (put : (h : List ℕ) → Held h basis dead → SlicePut (take (256 - p) (drop p cs')) w k h basis' turn)
+    (put : (h : List ℕ) → Held h basis dead → SlicePut (take (256 - p) (drop p cs')) w k h basis' dead' turn)
     (so_far : EightBack (seen r ws₀ s list rows).wiring table → ws ≡ earlier_words (seen r ws₀ s list rows).wiring (eights t) ws₀) (inside : t < s)
     (room : runs < length l) (fits : length ws ≤ length cs) (long : length cs' ≡ 256) (width : w ≡ min r.m 64) where
   abbrev g : Given
@@ -141,7 +141,7 @@ module _ (r : Register) (table list : List ℕ) (rows : Rows) (s k t runs w p : 
   columns : EightBack g.wiring table → take (256 - p) (drop p cs') ≡ framed g t
   columns right = take_all (256 - p) (drop p cs') (omega (arith, length-drop p cs')) ∙ (both right).0 ∙ sym (framed_words g t)
 
-  pub slice_passed : SlicePassed g table k t runs ws' basis dead basis' l turn
+  pub slice_passed : SlicePassed g table k t runs ws' basis dead basis' dead' l turn
   slice_passed = record {
     words = λ right. (both right).1;
     short = λ sound right some before few.

@@ -11,6 +11,7 @@ ghost use Rattle.unclocking.specs.Unclocked.{EightBack};
 ghost use Rattle.cutter.specs.Cutting.{bad_share, cut_reply, cuts_after, said_cut};
 ghost use Rattle.cutter.specs.Turns.{Sound, seen, SlicedFor};
 
+use column_basis::ColumnBasis;
 use refusals::Refusal;
 use register::Register;
 use rows::Rows;
@@ -47,8 +48,7 @@ fn pass_slices(
 {
     let width = register::width_limit(register.m) as usize;
     let mut columns = [0; 256];
-    let mut basis = column_basis::unit_words();
-    let mut dead = turned_words::dead_behind(0);
+    let mut basis = ColumnBasis::single_bits(0);
     let mut runs: usize = 0;
     for t in 0..slices {
         let place = slice_columns::next_columns(
@@ -60,8 +60,7 @@ fn pass_slices(
             words,
             &mut columns,
         );
-        let turn = run_words::put_slice(&mut basis, dead, &columns[place..], width, k);
-        dead = turn.dead;
+        let turn = run_words::put_slice(&mut basis, &columns[place..], width, k);
         let left = turn.left;
         let leaves_too_few = left < k;
         if leaves_too_few {

@@ -16,11 +16,11 @@ use Rattle.word.proofs.Laws.{mod2_lt, parity_zero, parity_pow, digit_xor}
 use Rattle.word.proofs.LowestLaws.{digit_past}
 use Rattle.word.proofs.FrontLaws.{length_zeros}
 use Rattle.combinations.specs.Step.{units}
-use Rattle.combinations.proofs.Units.{length_units, units_at, power_top}
+use Rattle.combinations.proofs.Units.{length_units, units_at}
 use Rattle.turned_words.specs.Turned.{dead_behind}
 use Rattle.turned_words.proofs.KeptLaws.{kept_front}
 use Rattle.turned_words.proofs.TurnedLaws.{power_other}
-use Rattle.column_basis.specs.Basis.{Basis, Held}
+use Rattle.column_basis.specs.Basis.{Held}
 use Rattle.spread_words.proofs.SpreadLaws.{digit_ones}
 use Rattle.spread_words.proofs.TurnLaws.{parities_none}
 
@@ -35,16 +35,6 @@ padded_at : (l : List ℕ) (n b : ℕ) → get_or (l ++ zeros n) b 0 ≡ get_or 
 padded_at [] n b = zeros_at n b
 padded_at (w ∷ l) n zero = refl
 padded_at (w ∷ l) n (suc b) = padded_at l n b
-
--- ---- the basis, with any bits dead
-
-pub units_basis : (dead : ℕ) → Basis (units 64) dead
-units_basis dead =
-    record {
-      long = length_units 64;
-      one = λ d ld e. ap (digit d) (units_at 64 d ld) ∙ ap (λ (x : ℕ). x % 2) (power_top d);
-      clear = λ d j ld e lj. ap (digit j) (units_at 64 d ld) ∙ power_other j d (λ (q : j ≡ d). (let z : ⊥ = omega arith in z));
-    }
 
 -- ---- m words
 

@@ -1,19 +1,16 @@
 -- One slice's columns put to the words that a run leaves: they leave enough, or the slice opens a run. Assumes nothing.
-use mathlib.Core.Path.{◌≡◌, refl, sym, ap, ◌∙◌, subst}
+use mathlib.Core.Path.{◌≡◌, refl, ap, ◌∙◌}
 use mathlib.Core.List.{List, []}
 use Prim.Native.Nat.{ℕ, ◌≤◌, ◌<◌}
 use native.Mathlib.Omega.{arith}
 use lib.ListN.{length}
 use Rattle.combinations.specs.Step.{steps, units}
 use Rattle.turned_words.specs.Turned.{kept, dead_behind}
-use Rattle.column_basis.specs.Basis.{Basis, Held}
+use Rattle.column_basis.specs.Basis.{Held}
 use Rattle.run_words.specs.Joining.{SlicePut, joined, opened}
-use Rattle.run_words.proofs.SingleLaws.{units_basis, units_held}
+use Rattle.run_words.proofs.SingleLaws.{units_held}
 
 -- the words of single bits, and the basis beside them
-pub singles_basis : (basis : List ℕ) (dead : ℕ) → basis ≡ units 64 → Basis basis dead
-singles_basis basis dead e = subst (λ (x : List ℕ). Basis x dead) (sym e) (units_basis dead)
-
 pub singles_held : (basis : List ℕ) (dead m : ℕ) → m ≤ 64 → basis ≡ units 64 → dead ≡ dead_behind m → Held (units m) basis dead
 singles_held basis dead m lm eb ed = rw eb (rw ed (units_held m lm))
 
@@ -34,7 +31,7 @@ count_held : (l basis : List ℕ) (dead left : ℕ) → Held l basis dead → Co
 count_held l basis dead left h count = count h.slots h.hold.wide ∙ ap length h.hold.held
 
 pub put_joined : (cs basis : List ℕ) (dead : ℕ) (basis' : List ℕ) (dead' m k left : ℕ) (h : List ℕ) → Taken cs basis dead basis' dead' → Held h basis dead
-    → Counts left dead' → k ≤ left → SlicePut cs m k h basis' (record { dead = dead'; left = left; opened = 0 })
+    → Counts left dead' → k ≤ left → SlicePut cs m k h basis' dead' (record { left = left; opened = 0 })
 put_joined cs basis dead basis' dead' m k left h f held count enough =
     let after : Held (steps cs h) basis' dead' = f h held in
     let many : left ≡ length (steps cs h) = count_held (steps cs h) basis' dead' left after count in
@@ -43,7 +40,7 @@ put_joined cs basis dead basis' dead' m k left h f held count enough =
 -- where the columns brought the basis to basisᵗ first
 pub put_opened : (cs basis : List ℕ) (dead : ℕ) (basisᵗ : List ℕ) (deadᵗ : ℕ) (basis' : List ℕ) (dead' m k tried left : ℕ) (h : List ℕ)
     → Taken cs basis dead basisᵗ deadᵗ → Held h basis dead → Counts tried deadᵗ → tried < k
-    → Held (steps cs (units m)) basis' dead' → Counts left dead' → SlicePut cs m k h basis' (record { dead = dead'; left = left; opened = 1 })
+    → Held (steps cs (units m)) basis' dead' → Counts left dead' → SlicePut cs m k h basis' dead' (record { left = left; opened = 1 })
 put_opened cs basis dead basisᵗ deadᵗ basis' dead' m k tried left h f held countᵗ fewer after count =
     let less : tried ≡ length (steps cs h) = count_held (steps cs h) basisᵗ deadᵗ tried (f h held) countᵗ in
     record {

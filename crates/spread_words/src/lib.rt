@@ -6,9 +6,11 @@ ghost use Rattle.std.specs.Prelude.{◌≡◌, true, ◌≤◌, length, take, If
 ghost use Rattle.word.specs.Zeros.{zeros};
 ghost use Rattle.combinations.specs.Step.{steps};
 ghost use Rattle.turned_words.specs.Turned.{kept};
-ghost use Rattle.column_basis.specs.Basis.{Basis, Held};
+ghost use Rattle.column_basis.specs.Basis.{Held};
 ghost use Rattle.spread_words.specs.Spread.{Spread, OwnBits, SpreadFrom, FirstTaken};
 ghost use Rattle.spread_words.specs.declared.Begun.{Begun};
+
+use column_basis::ColumnBasis;
 
 // Puts each word into the slot of its highest bit. Answers with the bits that are dead then; with `None` where the highest bits don't
 // ascend or a word is 0.
@@ -46,16 +48,16 @@ fn has_own_bits(slots: &[u64], dead: u64) -> bool
 }
 
 // The basis of the slots' words: their dead bits, turned.
-fn turn_in(slots: &[u64], dead: u64) -> [u64; 64]
+fn turn_in(slots: &[u64], dead: u64) -> ColumnBasis
     requires { Spread slots.now dead × OwnBits slots.now dead }
-    ensures order { Basis result dead }
-    ensures list { Held (kept dead slots.now) result dead }
+    ensures dead { result.dead ≡ dead }
+    ensures list { Held (kept dead slots.now) result.words result.dead }
 {
-    let mut basis = column_basis::unit_words();
+    let mut words = column_basis::unit_words();
     for (i, w) in slots.iter().enumerate() {
-        turned_words::xor_into(&mut basis, *w & dead, 1u64 << i);
+        turned_words::xor_into(&mut words, *w & dead, 1u64 << i);
     }
-    basis
+    ColumnBasis { words, dead }
 }
 
 // Writes the words of the slots that aren't dead over the front of `words`; answers with how many they are. No more than there is room for.
@@ -82,12 +84,12 @@ fn reduce_spread(slots: &[u64], dead: u64, columns: &[u64], words: &mut [u64]) -
     ensures { length (kept dead slots.now) ≤ length words.old → (result ≡ length (steps columns.now (kept dead slots.now))) × (take result words.new ≡ steps columns.now (kept dead slots.now)) }
 {
     let mut basis = turn_in(slots, dead);
-    let gone = column_basis::take_columns(&mut basis, dead, columns);
-    if gone == column_basis::ALL_DEAD {
+    basis.take_columns(columns);
+    if basis.dead == column_basis::ALL_DEAD {
         return 0;
     }
-    let made = column_basis::slot_words(&mut basis, gone);
-    keep_alive(&made, gone, words)
+    let made = basis.slot_words();
+    keep_alive(&made, basis.dead, words)
 }
 
 // Where the basis pays: it takes some time to make it, and to make the words from it again. These are estimates: of how many words and how

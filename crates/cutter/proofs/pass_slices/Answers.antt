@@ -1,32 +1,25 @@
 use mathlib.Core.Path.{refl, sym, ◌∙◌}
 use native.Mathlib.Omega.{arith}
-use Rattle.run_words.proofs.TurnLaws.{singles_basis, none_held}
+use Rattle.run_words.proofs.TurnLaws.{none_held}
 use Rattle.cutter.proofs.SliceLaws.{earlier_words_none, held_starts, slice_passed, held_all}
 use borrow.Author.Rules.{rules}
 use Rattle.cutter.proofs.pass_slices.Goals as goal
 
 pub loop-t-init : goal.loop-t-init
 loop-t-init c =
-    let units = c.unit_words-basis.ensures in
+    let singles = c.single_bits-basis.ensures in
     record {
       few = search rules;
-      order = singles_basis _ _ units;
       starts = c.requires.2;
       words = refl;
       columns = refl;
       width = c.width_limit-width.ensures;
       undone = (λ right. earlier_words_none _ _);
-      held = (λ sound right some. held_starts _ sound _ some _ _ _ (none_held _ _ units c.dead_behind-dead.ensures));
+      held = (λ sound right some. held_starts _ sound _ some _ _ _ (none_held _ _ singles.words singles.dead));
     }
 
 pub slice_bounds-next_columns-end : goal.slice_bounds-next_columns-end
 slice_bounds-next_columns-end c = sym c.loop-t.invariant.columns
-
-pub slice_bounds-put_slice-end : goal.slice_bounds-put_slice-end
-slice_bounds-put_slice-end c = sym c.loop-t.invariant.order.long
-
-pub put_slice-turn-requires : goal.put_slice-turn-requires
-put_slice-turn-requires c = c.loop-t.invariant.order
 
 pub returns-then-leaves_too_few : goal.returns-then-leaves_too_few
 returns-then-leaves_too_few c =
@@ -34,7 +27,7 @@ returns-then-leaves_too_few c =
     let listed = c.next_columns-place in
     let put = c.put_slice-turn in
     let passed =
-    slice_passed _ _ _ _ _ _ _ c.loop-t.runs _ _ c.args.words.now c.loop-t.words _ c.loop-t.columns _ _ _ _ c.loop-t.starts _ listed.ensures
+    slice_passed _ _ _ _ _ _ _ c.loop-t.runs _ _ c.args.words.now c.loop-t.words _ c.loop-t.columns _ _ _ _ _ c.loop-t.starts _ listed.ensures
     (put.ensures.turn (omega (arith, known.width))) known.undone (omega arith) (omega (arith, known.few, known.starts, c.requires.0)) (omega (arith, known.words, known.columns, c.requires.1))
     (listed.auto.columns ∙ known.columns) known.width
     in
@@ -49,13 +42,12 @@ loop-t-preserved c =
     let listed = c.next_columns-place in
     let put = c.put_slice-turn in
     let passed =
-    slice_passed _ _ _ _ _ _ _ c.loop-t.runs _ _ c.args.words.now c.loop-t.words _ c.loop-t.columns _ _ _ _ c.loop-t.starts _ listed.ensures
+    slice_passed _ _ _ _ _ _ _ c.loop-t.runs _ _ c.args.words.now c.loop-t.words _ c.loop-t.columns _ _ _ _ _ c.loop-t.starts _ listed.ensures
     (put.ensures.turn (omega (arith, known.width))) known.undone (omega arith) (omega (arith, known.few, known.starts, c.requires.0)) (omega (arith, known.words, known.columns, c.requires.1))
     (listed.auto.columns ∙ known.columns) known.width
     in
     record {
       few = omega (arith, known.few, put.ensures.one);
-      order = put.ensures.order;
       starts = search rules;
       words = listed.auto.words ∙ known.words;
       columns = listed.auto.columns ∙ known.columns;

@@ -3,7 +3,6 @@
 use mathlib.Core.Path.{◌≡◌}
 use Prim.Native.Nat.{◌≤◌, min}
 use lib.ListN.{length}
-use Rattle.column_basis.specs.Basis.{Basis}
 use Rattle.unclocking.specs.Unclocked.{EightBack}
 use Rattle.slice_columns.specs.Frame.{eights}
 use Rattle.slice_columns.proofs.FrameLaws.{earlier_words}
@@ -15,11 +14,10 @@ abbrev pub invariant-loop-t : goal.invariant-loop-t
 invariant-loop-t l =
     record {
       few : l.runs ≤ l.t;
-      order : Basis l.basis l.dead;
       starts : length l.starts ≡ 512;
       words : length l.words ≡ length l.initial.words;
       columns : length l.columns ≡ 256;
       width : l.width ≡ min l.register.m 64;
       undone : EightBack (seen l.register l.initial.words l.slices l.list l.marks).wiring l.table → l.words ≡ earlier_words (seen l.register l.initial.words l.slices l.list l.marks).wiring (eights l.t) l.initial.words;
-      held : Sound (seen l.register l.initial.words l.slices l.list l.marks).wiring → EightBack (seen l.register l.initial.words l.slices l.list l.marks).wiring l.table → 1 ≤ l.k → CutHeld (seen l.register l.initial.words l.slices l.list l.marks) l.k l.t l.runs l.basis l.dead l.starts;
+      held : Sound (seen l.register l.initial.words l.slices l.list l.marks).wiring → EightBack (seen l.register l.initial.words l.slices l.list l.marks).wiring l.table → 1 ≤ l.k → CutHeld (seen l.register l.initial.words l.slices l.list l.marks) l.k l.t l.runs l.basis.words l.basis.dead l.starts;
     }

@@ -5,20 +5,13 @@ use Rattle.run_words.proofs.put_slice.Goals as goal
 
 pub returns-then-is_enough : goal.returns-then-is_enough
 returns-then-is_enough c =
-    let took = c.take_columns-joined in
-    record { one = search rules; order = took.ensures.order; turn = (λ width h held. put_joined _ _ _ _ _ _ _ _ h took.ensures.list held c.held_count-left.ensures c.if-is_enough.true) }
-
-pub open_run-alone-requires : goal.open_run-alone-requires
-open_run-alone-requires c = c.take_columns-joined.ensures.order.long
+    record { one = search rules; turn = (λ width h held. put_joined _ _ _ _ _ _ _ _ h c.take_columns.ensures held c.held_count-left.ensures c.if-is_enough.true) }
 
 pub returns : goal.returns
 returns c =
-    let alone = c.open_run-alone in
-    let took = c.take_columns-joined in
     record {
       one = search rules;
-      order = alone.ensures.order;
       turn = (λ width h held.
-          put_opened _ _ _ _ _ _ _ _ _ _ _ h took.ensures.list held c.held_count-left.ensures c.if-is_enough.false (alone.ensures.list width)
+          put_opened _ _ _ _ _ _ _ _ _ _ _ h c.take_columns.ensures held c.held_count-left.ensures c.if-is_enough.false (c.open_run.ensures width)
           c.held_count.ensures);
     }

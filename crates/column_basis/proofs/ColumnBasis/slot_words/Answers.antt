@@ -1,10 +1,10 @@
 use mathlib.Core.Path.{◌∙◌}
 use Rattle.column_basis.proofs.SettledLaws.{units_long, settle_starts, settle_on, settle_ends}
 use borrow.Author.Rules.{rules}
-use Rattle.column_basis.proofs.slot_words.Goals as goal
+use Rattle.column_basis.proofs.ColumnBasis.slot_words.Goals as goal
 
 pub loop-d-init : goal.loop-d-init
-loop-d-init c = (c.requires.long, units_long _ c.unit_words-words.ensures, (λ l h. settle_starts l _ _ _ h c.requires c.ranges.dead.fits c.unit_words-words.ensures))
+loop-d-init c = (c.args.self.order.long, units_long _ c.unit_words-words.ensures, (λ l h. settle_starts l _ _ _ h c.args.self.order (search rules) c.unit_words-words.ensures))
 
 pub loop-d-preserved : goal.loop-d-preserved
 loop-d-preserved c = let at = c.loop-d in
