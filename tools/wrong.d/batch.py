@@ -28,17 +28,20 @@ ENTRY_BYTES, MOST_TIES = 7, 256
 # The symbol numbers that entries of ties have, beside any others.
 SYMBOLS = [0, 1, 2, 7, 8, 255, 256, 257, 511, 512, 65535]
 
+# The numbers of the refusals: 16 is given to nothing.
+REFUSALS = [*range(1, 16), *range(17, 32)]
+
 # The places of planning's working list that are worked in where no symbol is named, and the most that are lent: the printer lends 4,096.
 WORKING = 64
 MOST_WORKING = 4096
 
 # For each call of the boundary, those below it that take the same: some of its inputs go to each of them as well.
 BELOW = {
-    "canceller_read_set": ["set_file::read_set", "set_file::set_refusal", "set_layout::parts", "set_layout::spread_words"],
+    "canceller_read_set": ["set_file::read_set", "set_file::check_set", "set_layout::parts", "set_layout::spread_words"],
     "canceller_value_row": ["slice_rows::value_place"],
     "canceller_mark_row": ["slice_rows::mark_place"],
     "canceller_ties": ["slice_rows::ties_place"],
-    "canceller_write_set": ["set_writer::write_set", "set_content::write_refusal"],
+    "canceller_write_set": ["set_writer::write_set", "set_content::check_content"],
     "canceller_clock": ["register::clock"],
     "canceller_sign": ["signing::sign_record"],
     "canceller_list_columns": ["columns::list_columns"],
@@ -587,7 +590,10 @@ class Batch:
             self.call("ties::entry", [i], a=self.pick([entries, entries, entries[:-1]]))
         table, first = packed(powers_of(one.m, one.taps)), [i for i in range(count) if flags[i]]
         for i in {first[0], first[-1], self.pick(first)}:
-            self.call("symbol_columns::symbol_column_of", [one.m, s, i], b=table, v=one.spread, a=entries, c=packs)
+            self.call("symbol_columns::column", [one.m, s, i], b=table, v=one.spread, a=entries, c=packs)
+        other = self.junk(2 * self.pick([0, 1, 255, 256, 257, 300]))
+        self.call("symbol_columns::count", [one.m, s], b=table, v=one.spread, a=entries, c=self.pick([packs, packs[2:], other]))
+        self.call("symbol_columns::of", taken, v=spread, b=table, u=self.junk_words(900))
         for room in {named, named + self.pick([1, 3, 20])}:
             self.call("symbol_columns::fill_symbols", taken + [count], v=spread, a=entries, b=packed(flags), u=self.junk_words(room))
         self.call("symbol_columns::side_columns", taken + [count], v=spread, a=entries)
@@ -601,7 +607,7 @@ class Batch:
 
     def tie_tests(self, entries, count, data, marks, n, s):
         """The tests of entries of ties, with the numbers and lists as they are and with others."""
-        name = "ties::ties_refusal"
+        name = "ties::check_ties"
         self.call(name, [count] + marks + [n, s], a=entries, b=data)
         if self.random.random() < 0.3:
             few, n = self.pick([0, count, count + 1, self.pick(NUMBERS)]), self.pick([n, n + 1, n - 1, self.pick(NUMBERS)])
@@ -653,6 +659,8 @@ class Batch:
             self.fill(taken, spread, data, rows, self.pick([0, 1, 5, 64, 300]), None if s < 100 else [self.pick(FILLERS)])
             self.reduce(taken, spread, data, rows)
             self.call("signing::sign_rows", taken + rows, a=data, v=spread)
+            self.call("symbol_columns::of", taken, v=spread, b=packed(self.junk_words(self.pick([0, 1, 64, 575, 576, 600]))),
+                      u=self.junk_words(900))
             self.slices_of(taken, spread, data, rows)
             self.call("marked_rows::count_marks", rows + [s], a=data)
             self.call("marked_rows::estimate_marks", rows + [s], a=data)
@@ -1031,7 +1039,6 @@ class Batch:
                       u=self.pick([powers_of(m, self.taps(m))[:m], self.junk_words(self.pick([0, 1, 3, 63, 64, 65, 70]))]))
         self.call("elimination::unit_words", v=self.junk_words(64))
         self.call("column_basis::unit_words", v=self.junk_words(64))
-        self.call("powers::no_powers", v=self.junk_words(576))
         for seen, w in ((0, 0), (0, 1), (1, 1), (1, 2), (1, 3), (2, 1)):
             self.call("reduced_list::is_next", [seen, w])
 
@@ -1366,10 +1373,8 @@ class Batch:
                 self.call("marked_words::list_fitting", v=words, a=row, u=self.junk_words(room))
             self.call("chains::half_bytes", v=words, u=self.junk_words(1024))
             self.call("chains::looked_up", u=self.junk_words(1024), a=self.pick([row, self.junk(32), self.junk(40)]))
-            self.call("chains::all_words", v=self.junk_words(256))
             if self.random.random() < 0.3:
                 self.call("byte_tables::fill_table", v=words, u=self.junk_words(self.pick([2048, 2050])))
-                self.call("byte_tables::no_entries", u=self.junk_words(2048))
             self.call("byte_tables::looked_up", [self.bits(64)], u=self.junk_words(2048))
             self.call("powers::power_words", u=self.junk_words(self.pick([0, 1, 3, 63, 64, 65, 70])), v=self.junk_words(self.pick([0, 1, 4])))
 
@@ -1460,20 +1465,19 @@ class Batch:
             self.call("written_numbers::write_bytes", [at], a=data[: self.pick([0, 1, 2, 9])], d=data)
 
     def answers(self):
-        """Answers and refusals as they cross to C, and the number of each."""
-        names = ["crossing::" + x for x in ("set_of", "stretch_of", "set_written_of", "plan_written_of", "clocked_of", "signed_of",
-                                            "listed_of", "eliminated_of", "worded_of", "expected_of", "planned_of", "read_of",
-                                            "judged_of", "cutting_of")]
-        names += [x + "::number_of" for x in ("planner", "kept_words", "elimination", "set_file", "plan_file")]
-        for name in names:
-            for number in (0, 0, 0, 1, 17, 24, 25, 28, 29, 31, self.random.randrange(1, 32), ALL):
+        """Answers and refusals as they cross to C, by the names of crossing's specs/Boundary, and the number of each refusal."""
+        for name in ("set_of", "stretch_of", "written_of", "clocked_of", "signed_of", "listed_of", "eliminated_of", "worded_of", "expected_to",
+                     "planned_of", "read_of", "judged_of", "cutting_of"):
+            for number in (0, 0, 0, 1, 17, 24, 25, 28, 29, 31, self.pick(REFUSALS), self.pick(REFUSALS)):
                 data = [self.pick([self.bits(64), self.pick(NUMBERS)]) for _ in range(6)]
-                if name == "crossing::judged_of":
+                if name == "judged_of":
                     data[0] = self.random.randrange(2)
-                self.call(name, [number] + data, v=self.junk_words(256))
+                self.call("crossing::" + name, [number] + data, v=self.junk_words(256))
+        for number in REFUSALS:
+            self.call("refusals::number", [number])
 
     def layouts(self, count):
-        self.call("set_layout::constants", v=self.junk_words(256))
+        self.call("set_layout::constants")
         for _ in range(count):
             n, s = self.pick(NUMBERS, CHAINS, MANY_CHAINS), self.pick(NUMBERS, SLICES, MANY_SLICES)
             self.call("set_layout::lengths", [n, s, self.pick(NUMBERS, [255, 256, 257, 1000])])

@@ -13,7 +13,7 @@ pub returns-in_err-q : goal.returns-in_err-q
 returns-in_err-q c =
     let taken = c.in_ok-taken.ensures.taken in
     let ends =
-    words_unkept _ _ taken c.args.working.now c.args.words.now _ _ _ (c.in_err-q.ensures taken) c.from_residual-in_err-q.result _ (search rules) refl in
+    words_unkept _ _ taken c.args.working.now c.args.words.now _ _ _ (c.fill_words.ensures taken) c.from_residual-in_err-q.result _ (search rules) c.in_err-q.was in
     record { taken = search rules; answer = ends.0; working = ends.1.0; words = ends.1.1 }
 
 pub returns : goal.returns
