@@ -18,8 +18,8 @@ use set_file::Taken;
 // The places that portions of columns are worked in; the columns of named symbols stand behind them.
 const WORKING_PLACES: usize = 64;
 
-// Where the marks of the unknown cells stand, in a set of n chains. It stays for what may not change: so the edit that takes the value rows is
-// refused for a fact.
+// Where the marks of the unknown cells stand, in a set of n chains. A function of its own, so that an edit of it is refused for its
+// contract.
 fn unknown_rows(n: u16) -> Rows
     ensures { (result.at ≡ mark_at n 0) × (result.stride ≡ 2 * row_bytes n) × (result.bytes ≡ row_bytes n) }
 {

@@ -18,7 +18,7 @@ const WORKING_PLACES: usize = 4096;
 // A set has no more words than its register has bits.
 const WORD_PLACES: usize = 64;
 
-// Room for these bytes. It stays for what may not change: by its contract the edit that reads a byte less is refused for a fact.
+// Room for so many bytes. A function of its own, so that its contract says how many there are: one more than the longest set has.
 fn no_bytes() -> [u8; MOST_BYTES]
     ensures { length result ≡ suc longest }
 {

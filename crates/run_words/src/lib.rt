@@ -9,7 +9,7 @@ ghost use Rattle.run_words.specs.Joining.{SlicePut};
 
 use column_basis::ColumnBasis;
 
-// What one slice comes to: so many words are left of the run, and 1 run more was opened or 0.
+// What one slice comes to: so many words are left of the run, and 1 run more was opened or 0. No plainer as a bool: the caller adds it up.
 #[derive(Drop)]
 pub struct Turn {
     pub left: usize,

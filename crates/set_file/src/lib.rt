@@ -18,8 +18,8 @@ use register::Register;
 // A taken set, which is what the set reader answers: the register of the set's width m, tap word and inversion word, fresh, n and s, and 256
 // spread words, zero from n on.
 //
-// That it is a file's own (TakenFrom) is a condition of the contracts, and no ghost field, for what may not change: `kept_words::fill_words` and
-// `expectation::expected_bits` take any of these beside any bytes.
+// That it is a file's own (TakenFrom) is a condition of the contracts, and no ghost field, since `kept_words::fill_words` and
+// `expectation::expected_bits` take any of these beside any bytes, and may not ask for more.
 #[derive(Clone, Copy)]
 pub struct Taken {
     pub register: Register,
