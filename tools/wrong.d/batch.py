@@ -637,7 +637,7 @@ class Batch:
             self.call("symbol_flags::has_number", [self.pick(numbers or [0], SYMBOLS)], a=b"".join(map(two_bytes, numbers)))
             for i in (0, few, self.random.randrange(few + 1), self.pick(NUMBERS)):
                 self.call("ties::entry", [i], a=entries)
-            self.call("free_marks::list_rows", [self.pick([n, self.pick(NUMBERS)])])
+            self.call("rows::packed", [self.pick([n, self.pick(NUMBERS)])])
             # rows of any bytes and cells outside them; all rows are there up to 512 slices
             rows = self.pick([rows, [0, 1, b], [3, 0, b], [self.pick(NUMBERS), self.pick(NUMBERS), b], [len(data), b, b]])
             flags = [self.pick([0, 0, 1, ALL]) for _ in range(self.pick([0, few // 2, few, few + 3]))]
@@ -1027,6 +1027,7 @@ class Batch:
                 self.call("spread_words::begin", v=held, u=self.pick([many, few, [self.bits(64) for _ in range(24)]]))
             for name in ("column_basis::slot_words", "column_basis::take_columns"):
                 self.call(name, [self.pick([0, ALL, ALL ^ low(m), self.bits(64)])], u=self.pick([few, many]), v=self.junk_words(64))
+            self.call("column_basis::single_bits", [self.pick([0, 1, m, 63, 64, 65])], v=self.junk_words(64))
             self.call("turned_words::turn", v=self.junk_words(self.pick([0, 1, 3, 63, 64, 65])), u=self.junk_words(64))
             self.call("turned_words::held_count", [self.pick([0, 1, ALL, ALL ^ low(m), self.bits(64)])])
             self.call("turned_words::dead_behind", [self.pick([0, 1, m, 63, 64, 65, self.pick(NUMBERS)])])
