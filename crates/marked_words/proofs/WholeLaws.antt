@@ -1,19 +1,19 @@
--- 64 chains that are all marked: their words are the first 64, and these copied over a list's end. Assumes nothing.
+-- 64 chains that are all marked: their words are the first 64, and the loop that copies these over a list's end. Assumes nothing.
 use mathlib.Core.Path.{◌≡◌, refl, sym, ap, ap₂, ◌∙◌}
 use mathlib.Core.Bool.{false, not}
 use mathlib.Core.Logic.{dite}
-use mathlib.Core.List.{List, [], ◌++◌, append-nil}
-use Prim.Native.Nat.{ℕ, zero, suc, ◌-◌, ◌^◌, ◌≤◌, ◌<◌}
+use mathlib.Core.List.{List, [], ◌∷◌, ◌++◌, append_assoc, append-nil}
+use Prim.Native.Nat.{ℕ, zero, suc, ◌+◌, ◌-◌, ◌^◌, ◌≤◌, ◌<◌}
 use native.Mathlib.Nat.{lt_of_lt_of_le}
+use native.Mathlib.Numerals.{add-one}
 use native.Mathlib.Decide.{dec_le}
 use native.Mathlib.Omega.{arith}
 use lib.Dec.{eqb}
 use borrow.Author.Tests.{eqb-true, not-false}
 use lib.Count.{ones}
-use lib.ListN.{length, take, drop, get_or, length-drop, drop_of_length-le}
-use borrow.Rule.Slice.PartMut.{put_mid}
+use lib.ListN.{length, take, get_or, set, length-set}
 use lib.Pow.{pow_mono}
-use lib.Seq.{take-suc, length-take-le}
+use lib.Seq.{take-suc, take-suc-set, take_all, length-take-le}
 use Rattle.word.specs.Word.{digit}
 use Rattle.word.specs.Some.{any_below}
 use Rattle.word.proofs.SomeLaws.{any_below_false}
@@ -63,14 +63,43 @@ whole_fits ws l marks e f h room =
     ap (λ (m : ℕ). length (marked_words ws (bits m) 64)) e ∙ ap length (whole_words ws long) ∙ length-take-le 64 ws long in
     (omega (arith, same, words_of_length ws marks f, ap length (words_of_lem ws marks)), long)
 
--- ---- the copy over a list's end
+-- ---- the loop
 
-pub back_copied : (vs l : List ℕ) (a k : ℕ) → length vs ≡ 64 → 64 ≤ length l → a ≡ length l - 64 → k ≡ length l - a → put_mid a k l vs ≡ back vs l
-back_copied vs l a k e h ea ek =
-    let none : drop k (drop a l) ≡ [] = drop_of_length-le (drop a l) (omega (arith, length-drop a l)) in
-    let same : a ≡ length l - length vs = omega arith in
-    ap (λ (x : List ℕ). take a l ++ (vs ++ x)) none ∙ ap (λ (x : List ℕ). take a l ++ x) (append-nil vs)
-    ∙ ap (λ (i : ℕ). take i l ++ vs) same ∙ sym (back_fits vs l (omega arith))
+module _ (ws : List ℕ) where
+  -- what the loop knows: behind the first places the first c words stand
+  pub Copying : List ℕ → List ℕ → ℕ → Type 0
+  Copying l₀ l c = (length l ≡ length l₀) × (take (length l₀ - 64 + c) l ≡ take (length l₀ - 64) l₀ ++ take c ws)
+
+  pub copying_long : (l₀ l : List ℕ) (c : ℕ) → Copying l₀ l c → length l ≡ length l₀
+  unfolding Copying
+  copying_long l₀ l c k = k.0
+
+  pub copying_starts : (l : List ℕ) → Copying l l 0
+  unfolding Copying
+  copying_starts l = (
+    refl,
+    let none : length l - 64 + 0 ≡ length l - 64 = omega arith in ap (λ (i : ℕ). take i l) none ∙ sym (append-nil (take (length l - 64) l)),
+  )
+
+  pub copying_turns : (l₀ l : List ℕ) (c w : ℕ) → Copying l₀ l c → 64 ≤ length l₀ → 64 ≤ length ws → c < 64 → w ≡ get_or ws c 0
+      → Copying l₀ (set l (length l₀ - 64 + c) w) (c + 1)
+  unfolding Copying
+  copying_turns l₀ l c w k h m n e =
+      let at : ℕ = length l₀ - 64 + c in
+      let next : length l₀ - 64 + (c + 1) ≡ suc at = omega arith in (
+        length-set l at w ∙ k.0,
+        ap (λ (i : ℕ). take i (set l at w)) next ∙ take-suc-set l at w (omega (arith, k.0))
+            ∙ ap₂ (λ (x : List ℕ) (y : ℕ). x ++ y ∷ []) k.1 e
+            ∙ append_assoc (take (length l₀ - 64) l₀) (take c ws) (get_or ws c 0 ∷ [])
+            ∙ ap (λ (x : List ℕ). take (length l₀ - 64) l₀ ++ x) (sym (take-suc ws c 0 (omega arith)) ∙ ap (λ (i : ℕ). take i ws) (sym (add-one c))),
+      )
+
+  pub copying_ends : (l₀ l : List ℕ) (c : ℕ) → Copying l₀ l c → 64 ≤ length l₀ → 64 ≤ length ws → c ≡ 64 → l ≡ back (take 64 ws) l₀
+  unfolding Copying
+  copying_ends l₀ l c k h m e =
+      let long : length (take 64 ws) ≡ 64 = length-take-le 64 ws m in
+      sym (take_all (length l₀ - 64 + c) l (omega (arith, k.0))) ∙ k.1
+      ∙ ap₂ (λ (i j : ℕ). take (length l₀ - i) l₀ ++ take j ws) (sym long) e ∙ sym (back_fits (take 64 ws) l₀ (omega arith))
 
 -- ---- a word of 64 chains that are all marked
 

@@ -79,9 +79,11 @@ pub fn eight_bytes(s: &[u8], i: usize) -> u64
 pub fn read_word(s: &[u8], i: usize) -> u64
     ensures { result ≡ word_at s.now i }
 {
-    if i < s.len() && 8 <= s.len() - i {
-        eight_bytes(s, i)
-    } else {
-        read_short_word(s, i)
+    if s.len() <= i {
+        return 0;
     }
+    if 8 <= s.len() - i {
+        return eight_bytes(s, i);
+    }
+    read_short_word(s, i)
 }

@@ -1,25 +1,28 @@
 -- Bytes written into a list.
 --
 --   word_in_bytes            the eight bytes of a word, by std's words and by the crate's
---   copied, copied_within    bytes copied over a part of a list are written from its first place on
+--   copied                   bytes copied over a part of a list are written from its first place on
+--   BytesLeft l₀ l bs at i   once the bytes bs from place i on are written into l, all of bs stand in l₀ from place `at` on
+--   bytes_start, bytes_turn, bytes_end   the loop that writes them
 --   four_words               four words read one after the other and written so are the 32 bytes
 -- Assumes nothing.
 use mathlib.Core.Path.{◌≡◌, refl, sym, ap, ap₂, ◌∙◌}
 use mathlib.Core.Logic.{dite}
 use mathlib.Core.List.{List, [], ◌∷◌, ◌++◌, append-nil, append_assoc}
-use Prim.Native.Nat.{ℕ, ◌+◌, ◌-◌, ◌≤◌, ◌<◌, min}
-use native.Mathlib.Nat.{div-div-eq-div-mul}
+use Prim.Native.Nat.{ℕ, suc, ◌+◌, ◌-◌, ◌≤◌, ◌<◌, min}
+use native.Mathlib.Nat.{add-zero, div-div-eq-div-mul}
+use native.Mathlib.Numerals.{add-one}
 use native.Mathlib.Decide.{dec_lt}
 use native.Mathlib.Omega.{arith}
-use lib.ListN.{length, get_or, take, drop}
-use lib.Seq.{drop-drop, take_all, length-take-le, sets, sets-eq, length-sets}
+use lib.ListN.{length, get_or, take, drop, set, length-set, drop_of_length-le}
+use lib.Seq.{drop-cons, drop-drop, sets, sets-eq}
 use Rattle.numbers.specs.Bytes.{word_at, words_at, bytes_of, word_bytes}
-use Rattle.std.proofs.lemmas.List.{take-append-drop}
 use Rattle.std.specs.Int.{to_le_bytes}
 use mir.Syntax.{w64}
 use borrow.Rule.Slice.PartMut.{put_mid}
-use Rattle.numbers.proofs.ByteLaws.{bytes_of_length, sets_append, sets_past_end}
+use Rattle.numbers.proofs.ByteLaws.{bytes_of_length}
 use Rattle.numbers.proofs.FileLaws.{sets_parts, words_bytes}
+use Rattle.written_numbers.proofs.WritingLaws.{Writing, writing_start, writing_past, writing_end}
 
 -- the eight bytes of a word, the lowest first
 pub word_in_bytes : (x : ℕ) (bs : List ℕ) → bs ≡ to_le_bytes w64 x → bs ≡ bytes_of 8 x
@@ -32,19 +35,31 @@ copied l vs at k h e =
     let past : drop k (drop at l) ≡ drop (at + length vs) l = drop-drop k at l ∙ ap (λ (n : ℕ). drop (at + n) l) (sym e) in
     sym (append_assoc (take at l) vs (drop k (drop at l))) ∙ ap (λ (x : List ℕ). take at l ++ vs ++ x) past ∙ sym (sets-eq vs l at (omega arith))
 
--- .. as far as it goes
-pub copied_within : (l vs : List ℕ) (at n k : ℕ) → at < length l → n ≡ min (length vs) (length l - at) → k ≡ n → put_mid at k l (take n vs) ≡ sets l at vs
-copied_within l vs at n k h e ek =
-    let long : length (take n vs) ≡ n = length-take-le n vs (omega arith) in
-    copied l (take n vs) at k (omega arith) (long ∙ sym ek)
-    ∙ dite (dec_lt n (length vs)) full (λ (z : n < length vs → ⊥). ap (sets l at) (take_all n vs (omega (arith, z))))
+-- ---- bytes one by one
+
+abbrev pub BytesLeft : List ℕ → List ℕ → List ℕ → ℕ → ℕ → Type 0
+BytesLeft l₀ l bs at i = Writing l₀ l bs (drop i bs) at (at + i)
+
+pub bytes_start : (l bs : List ℕ) (at : ℕ) → BytesLeft l l bs at 0
+bytes_start l bs at = rw add-zero (writing_start l bs at)
+
+pub bytes_turn : (l₀ l bs : List ℕ) (at i : ℕ) → BytesLeft l₀ l bs at i → i < length bs → BytesLeft l₀ (set l (at + i) (get_or bs i 0)) bs at (i + 1)
+bytes_turn l₀ l bs at i w h = record {
+  long = length-set l (at + i) (get_or bs i 0) ∙ w.long;
+  rest =
+      let place : at + (i + 1) ≡ suc (at + i) = omega arith in
+      ap₂ (λ (p k : ℕ). sets (set l (at + i) (get_or bs i 0)) p (drop k bs)) place (add-one i)
+      ∙ ap (sets l (at + i)) (sym (drop-cons bs i 0 h)) ∙ w.rest;
+}
+
+pub bytes_end : (l₀ l bs : List ℕ) (at i n : ℕ) → BytesLeft l₀ l bs at i → n ≡ min (length bs) (length l₀ - at) → i ≡ n → l ≡ sets l₀ at bs
+bytes_end l₀ l bs at i n w e z = dite (dec_lt i (length bs)) full whole
   where
-    full : n < length vs → sets l at (take n vs) ≡ sets l at vs
-    full z =
-        let long : length (take n vs) ≡ n = length-take-le n vs (omega arith) in
-        sym
-        (ap (sets l at) (sym (take-append-drop n vs)) ∙ sets_append (take n vs) (drop n vs) l at
-        ∙ sets_past_end (drop n vs) (sets l at (take n vs)) (at + length (take n vs)) (omega (arith, long, length-sets l at (take n vs))))
+    full : i < length bs → l ≡ sets l₀ at bs
+    full h = writing_past l₀ l bs (drop i bs) at (at + i) w (omega (arith, w.long))
+
+    whole : (i < length bs → ⊥) → l ≡ sets l₀ at bs
+    whole h = let end : length bs ≤ i = omega arith in writing_end l₀ l bs (drop i bs) at (at + i) w (drop_of_length-le bs end)
 
 -- ---- bytes by words
 

@@ -90,7 +90,10 @@ pub fn write_bytes(out: &mut [u8], at: usize, bytes: &[u8])
         return;
     }
     let count = bytes.len().min(out.len() - at);
-    out[at..at + count].copy_from_slice(&bytes[..count]);
+    // no `copy_from_slice`: of bytes whose number isn't known it makes a call of `memmove`, a name that the archive for C asks for nowhere else
+    for i in 0..count {
+        out[at + i] = bytes[i];
+    }
 }
 
 // The 32 bytes from place `from` of the list `bytes` on, at place `at` of out, where they are there and there is room for them: 4 loads,

@@ -1,27 +1,16 @@
--- `list_whole` meets its contract.
-use mathlib.Core.Path.{refl, ap, ◌∙◌}
-use mathlib.Core.List.{List}
-use Prim.Native.Nat.{ℕ, ◌-◌}
+use mathlib.Core.Path.{refl}
 use native.Mathlib.Omega.{arith}
-use lib.ListN.{length, length-drop}
-use lib.Seq.{length-take-le}
-use Rattle.marked_words.specs.Back.{back}
-use Rattle.marked_words.proofs.WholeLaws.{back_copied}
+use Rattle.marked_words.proofs.WholeLaws.{copying_long, copying_starts, copying_turns, copying_ends}
 use Rattle.marked_words.proofs.list_whole.Goals as goal
 
-pub copy_from_slice-requires : goal.copy_from_slice-requires
-copy_from_slice-requires c =
-    let columns = c.args.columns.now in
-    length-take-le _ _ (omega (arith, length-drop (length columns - 64) columns)) ∙ omega (arith, length-take-le 64 c.args.words.now c.requires.in_bounds_2)
+pub loop-c-init : goal.loop-c-init
+loop-c-init c = (refl, copying_starts _ _)
+
+pub loop-c-preserved : goal.loop-c-preserved
+loop-c-preserved c =
+    let at = c.loop-c in
+    let k = copying_turns c.args.words.now _ _ _ _ at.invariant.1 c.requires.in_bounds c.requires.in_bounds_2 (omega arith) refl in
+    (copying_long _ _ _ _ k, k)
 
 pub returns : goal.returns
-returns c =
-    let columns = c.args.columns.now in
-    let copied = c.copy_from_slice.ensures.after in
-    let long = ap length copied ∙ length-take-le 64 c.args.words.now c.requires.in_bounds_2 in
-    record {
-      value = refl;
-      columns_after =
-          back_copied c.copy_from_slice.new.self columns (length columns - 64) _ long c.requires.in_bounds refl refl
-          ∙ ap (λ (x : List ℕ). back x columns) copied;
-    }
+returns c = record { value = refl; columns_after = copying_ends c.args.words.now _ _ _ c.loop-c.invariant.1 c.requires.in_bounds c.requires.in_bounds_2 (omega arith) }
