@@ -1,10 +1,11 @@
 -- The tests of the rows: rows past the end have no spare bit, and where no spare bit is set the bytes tell what the cells do.
 use mathlib.Core.Path.{◌≡◌, refl, sym, ap, ap₂, ◌∙◌}
-use mathlib.Core.Bool.{Bool, true, false, not, ◌&&◌, ◌||◌}
+use mathlib.Core.Bool.{Bool, false, not, ◌&&◌, ◌||◌}
 use mathlib.Core.Logic.{⊎_elim, dite}
-use mathlib.Core.List.{List, [], ◌∷◌}
+use mathlib.Core.List.{List}
 use Prim.Native.Nat.{ℕ, zero, suc, ◌+◌, ◌-◌, ◌*◌, ◌/◌, ◌%◌, ◌^◌, ◌≤◌, ◌<◌, min}
 use native.Mathlib.Nat.{le_step, lt-suc_self}
+use native.Mathlib.Numerals.{add-one}
 use native.Mathlib.Decide.{dec_lt}
 use native.Mathlib.Omega.{arith}
 use borrow.Author.Tests.{eq-eqb, eqb-true, eqb-false, not-false}
@@ -16,14 +17,13 @@ use Rattle.word.specs.Word.{digit}
 use Rattle.word.specs.Some.{any_below}
 use Rattle.word.proofs.Laws.{bit_cases, or_zero_left, or_zero_right}
 use Rattle.word.proofs.WordLaws.{below_top}
-use Rattle.word.proofs.SomeLaws.{any_below_none, any_below_false, any_below_ext}
-use Rattle.word.proofs.BoolLaws.{or_false_left, or_false_right, or_none, and_none}
+use Rattle.word.proofs.SomeLaws.{any_below_none, any_below_false}
+use Rattle.word.proofs.BoolLaws.{or_false_left, or_false_right, and_none}
 use Rattle.rows.specs.Row.{row_bytes, cell, spare_set}
 use Rattle.rows.proofs.CellLaws.{cell_lt, cell_past}
 use Rattle.rows.specs.Lists.{shares_bit}
 use Rattle.rows.specs.Lists.{list_row}
-use Rattle.word.proofs.RangeLaws.{same_failures, any_below_add}
-use Rattle.std.specs.List.{fold, zip}
+use Rattle.word.proofs.RangeLaws.{same_failures}
 
 -- ---- spare bits past the end of the rows
 
@@ -59,42 +59,23 @@ or_not_zero a b = same_failures _ _ left right
         let zb : b ≡ 0 = eqb-true b 0 (not-false (eqb b 0) (or_false_right (not (eqb a 0)) (not (eqb b 0)) h)) in
         rw (za, zb)
 
--- the bytes at place i have a bit in common
-abbrev Meets : List ℕ → List ℕ → ℕ → Bool
-Meets v k i = not (eqb (bit_and (get_or v i 0) (get_or k i 0)) 0)
+-- the OR x of what the bytes before place i share isn't 0 exactly where they have a bit in common
+pub Shared : List ℕ → List ℕ → ℕ → ℕ → Type 0
+Shared v k i x = not (eqb x 0) ≡ any_below i (λ j. not (eqb (bit_and (get_or v j 0) (get_or k j 0)) 0))
 
-or_assoc : (a b c : Bool) → ((a || b) || c) ≡ (a || (b || c))
-or_assoc true b c = refl
-or_assoc false b c = refl
+pub shared_start : (v k : List ℕ) → Shared v k 0 0
+unfolding Shared any_below
+shared_start v k = refl
 
--- the OR of x and of what the bytes share isn't 0 exactly where x isn't or the bytes have a bit in common
-shared_from : (v k : List ℕ) (x : ℕ)
-    → not (eqb (fold (λ (a : ℕ) (p : ℕ × ℕ). bit_or a (bit_and p.0 p.1)) x (zip v k)) 0) ≡ (not (eqb x 0) || any_below (min (length v) (length k)) (Meets v k))
-unfolding any_below
-shared_from [] k x =
-    let none : min 0 (length k) ≡ 0 = omega arith in
-    sym (or_none _) ∙ ap (λ (n : ℕ). not (eqb x 0) || any_below n (Meets [] k)) (sym none)
-shared_from (a ∷ v) [] x =
-    let none : min (suc (length v)) 0 ≡ 0 = omega arith in
-    sym (or_none _) ∙ ap (λ (n : ℕ). not (eqb x 0) || any_below n (Meets (a ∷ v) [])) (sym none)
-shared_from (a ∷ v) (b ∷ k) x =
-    let count : 1 + min (length v) (length k) ≡ min (suc (length v)) (suc (length k)) = omega arith in
-    shared_from v k (bit_or x (bit_and a b))
-    ∙ ap (λ (r : Bool). r || any_below (min (length v) (length k)) (Meets v k)) (or_not_zero x (bit_and a b))
-    ∙ or_assoc (not (eqb x 0)) (not (eqb (bit_and a b) 0)) (any_below (min (length v) (length k)) (Meets v k))
-    ∙ ap (λ (r : Bool). not (eqb x 0) || r)
-    (ap (λ (r : Bool). not (eqb (bit_and a b) 0) || r)
-    (any_below_ext (min (length v) (length k)) (Meets v k) (λ i. Meets (a ∷ v) (b ∷ k) (1 + i)) (λ i h. next i))
-    ∙ sym (any_below_add 1 (min (length v) (length k)) (Meets (a ∷ v) (b ∷ k))))
-    ∙ ap (λ (n : ℕ). not (eqb x 0) || any_below n (Meets (a ∷ v) (b ∷ k))) count
-  where
-    next : (i : ℕ) → Meets (a ∷ v) (b ∷ k) (suc i) ≡ Meets (a ∷ v) (b ∷ k) (1 + i)
-    next i = let e : suc i ≡ 1 + i = omega arith in ap (Meets (a ∷ v) (b ∷ k)) e
+pub shared_turn : (v k : List ℕ) (i x : ℕ) → Shared v k i x → Shared v k (i + 1) (bit_or x (bit_and (get_or v i 0) (get_or k i 0)))
+unfolding Shared any_below
+shared_turn v k i x h =
+    or_not_zero x (bit_and (get_or v i 0) (get_or k i 0)) ∙ ap (λ (b : Bool). b || not (eqb (bit_and (get_or v i 0) (get_or k i 0)) 0)) h
+    ∙ ap (λ (n : ℕ). any_below n (λ j. not (eqb (bit_and (get_or v j 0) (get_or k j 0)) 0))) (sym (add-one i))
 
-pub shared_bytes : (v k : List ℕ)
-    → not (eqb (fold (λ (a : ℕ) (p : ℕ × ℕ). bit_or a (bit_and p.0 p.1)) 0 (zip v k)) 0) ≡ shares_bit v k
-unfolding shares_bit
-shared_bytes v k = shared_from v k 0
+pub shared_end : (v k : List ℕ) (n i x : ℕ) → n ≡ min (length v) (length k) → Shared v k i x → i ≡ n → not (eqb x 0) ≡ shares_bit v k
+unfolding Shared shares_bit
+shared_end v k n i x e h z = h ∙ ap (λ (m : ℕ). any_below m (λ j. not (eqb (bit_and (get_or v j 0) (get_or k j 0)) 0))) (z ∙ e)
 
 -- ---- bytes and cells
 

@@ -1,8 +1,9 @@
 -- What the inner functions' answers come to, from what the functions that they call ensure. Assumes nothing.
 use mathlib.Core.Path.{◌≡◌, sym, ap, ap₂, ◌∙◌}
-use mathlib.Core.Bool.{Bool, false, not, ◌||◌}
+use mathlib.Core.Bool.{Bool, true, false, not, ◌||◌}
 use mathlib.Core.List.{List}
 use Prim.Native.Nat.{ℕ, ◌+◌, ◌-◌, ◌*◌, ◌≤◌, ◌<◌}
+use native.Mathlib.Nat.{mul-add, mul-one, mul-zero}
 use native.Mathlib.Omega.{arith}
 use lib.Bits.{bit_or}
 use lib.Dec.{eqb, ltb}
@@ -18,11 +19,12 @@ use Rattle.chains.specs.Driven.{bad_spread}
 use Rattle.chains.proofs.Laws.{folded_starts, folded_turns, folded_ends}
 use Rattle.set_layout.specs.Layout.{spread_at, rows_at, set_length, width_of, chains_of, spread_of, slices_of, value_at, mark_at, value_row, mark_row, marks, tie_count_of, tie_bytes, ties_of}
 use Rattle.set_file.specs.Reading.{wrong_length, spare_in_rows, valued_in_rows}
-use Rattle.rows.specs.Lists.{row_of, cells_of, shares_bit}
+use Rattle.rows.specs.Lists.{cells_of, shares_bit}
+use Rattle.word.proofs.RangeLaws.{none_passed, one_passed, one_found, all_passed}
 use Rattle.word.proofs.SomeLaws.{any_below_ext}
 use Rattle.rows.proofs.PairLaws.{PairMeets}
 use Rattle.rows.proofs.RowLaws.{SpareRow, spare_rows_none}
-use Rattle.set_layout.proofs.SliceLaws.{rows_of, value_rows_row, mark_rows_row}
+use Rattle.set_layout.proofs.SliceLaws.{rows_of, slice_inside, mark_rows_row}
 use Rattle.set_file.proofs.RowTests.{length_fits, spare_of_rows, valued_of_bytes}
 use Rattle.word.specs.Word.{beyond}
 use Rattle.numbers.specs.Bytes.{word_at, words_at}
@@ -89,19 +91,57 @@ spare_of set n s at r en es ea er =
 abbrev pub SharedIn : List ℕ → ℕ → Bool
 SharedIn set t = shares_bit (value_row set t) (mark_row set t)
 
+-- the slices before t share nothing, and `at` is the place of slice t's value row
+pub record Unshared (set : List ℕ) (t at : ℕ) : Type 0 where
+  pub place : at ≡ value_at (chains_of set) t
+  pub most : at ≤ 600000 + length set
+  pub none : any_below t (SharedIn set) ≡ false
+
+pub unshared_start : (set : List ℕ) (n at : ℕ) → n ≡ chains_of set → n < 65536 → at ≡ rows_at n → Unshared set 0 at
+unshared_start set n at e h ea =
+    record { place = omega (arith, mul-zero (2 * row_bytes (chains_of set))); most = omega arith; none = none_passed (SharedIn set) }
+
+module _ (set : List ℕ) (t at bytes : ℕ) (u : Unshared set t at) (eb : bytes ≡ row_bytes (chains_of set)) where
+  pub rows_lent : (r : Bool) → r ≡ shares_bit (take (at + bytes - at) (drop at set)) (take (at + bytes + bytes - (at + bytes)) (drop (at + bytes) set))
+      → r ≡ SharedIn set t
+  unfolding value_row mark_row
+  rows_lent r er =
+      let first : at + bytes - at ≡ row_bytes (chains_of set) = omega arith in
+      let second : at + bytes + bytes - (at + bytes) ≡ row_bytes (chains_of set) = omega arith in
+      let mark : at + bytes ≡ mark_at (chains_of set) t = omega (arith, u.place) in
+      er
+      ∙ ap₂ shares_bit (ap₂ (λ (k i : ℕ). take k (drop i set)) first u.place) (ap₂ (λ (k i : ℕ). take k (drop i set)) second mark)
+
+  pub unshared_turn : (r : Bool) → at + bytes + bytes ≤ length set
+      → r ≡ shares_bit (take (at + bytes - at) (drop at set)) (take (at + bytes + bytes - (at + bytes)) (drop (at + bytes) set))
+      → r ≡ false → Unshared set (t + 1) (at + bytes + bytes)
+  unshared_turn r inside er off = record {
+    place = omega (arith, u.place, mul-add (2 * row_bytes (chains_of set)) t 1, mul-one (2 * row_bytes (chains_of set)));
+    most = omega arith;
+    none = one_passed (SharedIn set) t u.none (sym (rows_lent r er) ∙ off);
+  }
+
+-- ---- the three ways out: the set ends too soon, a bit is shared, no slice shares one
+
 abbrev pub Valued : List ℕ → Bool → Type 0
 Valued set r = wrong_length set ≡ false → spare_in_rows set ≡ false → r ≡ valued_in_rows set
 
+pub valued_short : (set : List ℕ) (t at bytes s : ℕ) → Unshared set t at → bytes ≡ row_bytes (chains_of set) → s ≡ slices_of set → t < s
+    → length set < at + bytes + bytes → Valued set false
+valued_short set t at bytes s u eb es l short long clean =
+    let z : ⊥ = omega (arith, slice_inside set (length_fits set long) t (rw es at l), u.place) in absurd z
+
 module _ (set : List ℕ) (small : (i : ℕ) → get_or set i 0 < 256) where
-  -- row after row, by their places and strides
-  pub valued_rows_of : (n s : ℕ) (values marks : Rows) (r : Bool) → n ≡ chains_of set → s ≡ slices_of set
-      → (values.at ≡ value_at n 0) × (values.stride ≡ 2 * row_bytes n) × (values.bytes ≡ row_bytes n)
-      → (marks.at ≡ mark_at n 0) × (marks.stride ≡ 2 * row_bytes n) × (marks.bytes ≡ row_bytes n)
-      → r ≡ any_below s (λ t. shares_bit (row_of set values t) (row_of set marks t)) → Valued set r
-  valued_rows_of n s values marks r en es ev em er long clean =
-      er
-      ∙ any_below_ext s _ (SharedIn set) (λ t l. ap₂ shares_bit (value_rows_row set n values en ev t) (mark_rows_row set n marks en em t))
-      ∙ ap (λ (k : ℕ). any_below k (SharedIn set)) es ∙ valued_of_bytes set clean (length_fits set long) small
+  pub valued_found : (t at bytes s : ℕ) (r : Bool) → Unshared set t at → bytes ≡ row_bytes (chains_of set) → s ≡ slices_of set → t < s
+      → r ≡ shares_bit (take (at + bytes - at) (drop at set)) (take (at + bytes + bytes - (at + bytes)) (drop (at + bytes) set))
+      → r ≡ true → Valued set true
+  valued_found t at bytes s r u eb es l er on long clean =
+      one_found (SharedIn set) (slices_of set) t (rw es at l) (sym (rows_lent set t at bytes u eb r er) ∙ on)
+      ∙ valued_of_bytes set clean (length_fits set long) small
+
+  pub valued_none : (t at s : ℕ) → Unshared set t at → s ≡ slices_of set → t ≡ s → Valued set false
+  valued_none t at s u es e long clean =
+      all_passed (SharedIn set) (slices_of set) t u.none (e ∙ es) ∙ valued_of_bytes set clean (length_fits set long) small
 
   -- rows of 32 bytes, compared by words
   pub valued_pairs : (n s at bytes : ℕ) (r : Bool) → n ≡ chains_of set → s ≡ slices_of set → at ≡ rows_at n → bytes ≡ row_bytes n → bytes ≡ 32

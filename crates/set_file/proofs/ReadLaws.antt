@@ -1,5 +1,6 @@
--- Each way out of the set reader, and what a refused set's number is:
+-- Each way out of the set reader, and what its answer says of a set:
 --
+--   taken_set          a set that an answer with the reader's three equations takes is the file's
 --   refused_set        the number of a refused set is the first of its tests that applies
 -- Assumes nothing.
 use mathlib.Core.Path.{◌≡◌, refl, sym, ap, ◌∙◌}
@@ -12,12 +13,13 @@ use Rattle.std.specs.Prelude.{Result, Ok, Err, IfOk}
 use Rattle.refusals.specs.declared.Refusal.{Refusal}
 use Rattle.refusals.specs.Refusals.{number}
 use Rattle.refusals.proofs.RefusalLaws.{refused_call_leaves, answered_call_writes}
-use Rattle.word.specs.Reply.{refusal, first_of, front}
+use Rattle.word.specs.Reply.{Reply, answer, refusal, first_of, front, lent}
+use Rattle.word.proofs.TestLaws.{replied_answer}
 use Rattle.set_layout.specs.Layout.{width_of, taps_of, inversion_of, chains_of, spread_of, slices_of, no_words}
 use Rattle.set_layout.proofs.LayoutLaws.{spread_length}
 use Rattle.set_file.specs.Reading.{SetParts, set_tests, set_parts_of, set_reply, spread_beside, said, words_beside, start_of, TakenFrom}
 use Rattle.set_file.specs.declared.Taken.{Taken}
-use Rattle.set_file.proofs.Laws.{accepted, accepted_width, accepted_chains, set_refusal_first}
+use Rattle.set_file.proofs.Laws.{accepted, accepted_width, accepted_chains, set_answers, set_refusal_first}
 
 -- what the reader answers, r
 pub record Reads (set : List ℕ) (r : Result Taken Refusal) : Type 0 where
@@ -80,6 +82,28 @@ module _ (set : List ℕ) (k : Taken) (none : 0 ≡ first_of (set_tests set)) (f
       answered_call_writes (first_of (set_tests set)) (set_parts_of set) (parts_of k) (spread_of set) no_words k.spread none parts words_there
       in
       record { answer = out.0; spread = out.1; start = f.start; taken = taken }
+
+-- ---- an answer that meets the reader's equations takes the file's set
+
+pub taken_set : (set : List ℕ) (r : Result Taken Refusal) (k : Taken) → said r ≡ set_reply set → words_beside r ≡ spread_beside set → start_of r ≡ 0 → r ≡ Ok k
+    → TakenFrom set k
+unfolding spread_beside set_reply
+taken_set set r k says spread start is =
+    let said_parts : set_reply set ≡ answer (parts_of k) = sym says ∙ ap said is in
+    let known = replied_answer (first_of (set_tests set)) (set_parts_of set) (parts_of k) said_parts in
+    let beside : k.spread ≡ front (spread_of set) no_words =
+    sym (ap words_beside is) ∙ spread ∙ ap (λ (x : Reply SetParts). lent x (spread_of set) no_words) (set_answers set known.0)
+    in
+    taken set k (sym known.0)
+    (record {
+      width = ap (λ (p : SetParts). p.m) known.1;
+      taps = ap (λ (p : SetParts). p.taps) known.1;
+      inversion = ap (λ (p : SetParts). p.inversion) known.1;
+      start = sym (ap start_of is) ∙ start;
+      chains = ap (λ (p : SetParts). p.n) known.1;
+      slices = ap (λ (p : SetParts). p.s) known.1;
+      words = λ h. beside;
+    })
 
 -- ---- a refused set
 

@@ -127,9 +127,21 @@ fn finds_valued_unknown(set: &[u8]) -> bool
 {
     let n = set_layout::chain_count(set);
     let s = set_layout::slice_count(set);
-    let values = set_layout::value_rows(n);
-    let marks = set_layout::mark_rows(n);
-    (0..s).any(|t| rows::share_a_bit(rows::row_of(set, values, t), rows::row_of(set, marks, t)))
+    let bytes = rows::row_bytes(n as usize);
+    let mut at = set_layout::rows_at(n);
+    // slower: with two `row_of` for each slice, rows of 1 to 31 bytes take two to four times as long
+    for _t in 0..s {
+        let mark = at + bytes;
+        let end = mark + bytes;
+        if set.len() < end {
+            return false;
+        }
+        if rows::share_a_bit(&set[at..mark], &set[mark..end]) {
+            return true;
+        }
+        at = end;
+    }
+    false
 }
 
 // Number 10, for a set of the right length in which no spare bit is set: whether an unknown cell has its value bit set. Rows of 32
