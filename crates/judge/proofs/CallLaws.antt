@@ -1,14 +1,15 @@
 -- The loop over the plan's words, and each way out of judging. Assumes nothing.
 use mathlib.Core.Path.{◌≡◌, refl, sym, ap, ap₂, ◌∙◌, subst}
-use mathlib.Core.Bool.{Bool, true, false, not}
+use mathlib.Core.Bool.{Bool, true, false, not, ◌||◌}
 use mathlib.Core.List.{List, [], ◌∷◌}
 use Prim.Native.Nat.{ℕ, zero, suc, ◌+◌, ◌*◌, ◌%◌, ◌^◌, ◌<◌, ◌≤◌}
 use native.Mathlib.Nat.{mul-le-mul_right, mul_assoc, pow-suc, not-suc-le-zero, le_of_suc-le-suc}
 use native.Mathlib.Numerals.{add-one}
 use native.Mathlib.Omega.{arith}
-use borrow.Author.Tests.{not-true, not-false}
+use borrow.Author.Tests.{lt-ltb, le-ltb, ltb-false, not-true, not-false}
 use lib.Bits.{bit_xor}
 use lib.Count.{count_trailing_zeros}
+use lib.Dec.{ltb}
 use lib.ListN.{length, get_or, take}
 use lib.Pow.{pow_mono, shl_exact}
 use lib.Seq.{take_all, length-take-le}
@@ -19,7 +20,7 @@ use Rattle.word.specs.Reply.{answer, refusal, replied, first_of, ◌when◌}
 use Rattle.numbers.proofs.ByteLaws.{length_words_at}
 use Rattle.numbers.proofs.FileLaws.{word_at_place}
 use Rattle.word.proofs.Laws.{parity_lt, parities_lt}
-use Rattle.word.proofs.BoolLaws.{true_not_false}
+use Rattle.word.proofs.BoolLaws.{or_false_left, true_not_false}
 use Rattle.combinations.specs.Pass.{with_top}
 use Rattle.combinations.specs.Reduced.{is_reduced}
 use Rattle.reduced_list.specs.TopPass.{next_above}
@@ -99,24 +100,45 @@ module _ (plan : List ℕ) (y q tops bits i : ℕ) (r : Cancelled plan y q tops 
             ∙ sym (parities_next (words plan q) y i below) ∙ ap (λ (k : ℕ). parities (take k (words plan q)) y) (sym (add-one i));
       }
 
-  module _ (bytes : (j : ℕ) → get_or plan j 0 < 256) (m : ℕ) where
+  module _ (bytes : (j : ℕ) → get_or plan j 0 < 256) where
     -- a word was met that can't follow
-    pub pass_stops : (w : ℕ) (b : Bool) → i < q → w ≡ word_at plan (4 + 8 * i) → b ≡ next_above tops w → not b ≡ true → is_reduced m (words plan q) ≡ false
-    pass_stops w b h a f n = not-true _ (sym (plan_passed_stop plan q tops i r.passed w b h a f bytes n m))
+    pub pass_stops : (w : ℕ) (b : Bool) → i < q → w ≡ word_at plan (4 + 8 * i) → b ≡ next_above tops w → not b ≡ true
+        → ((m : ℕ) → (ltb i q || beyond m tops) ≡ not (is_reduced m (words plan q))) × (ltb i q ≡ false → bits ≡ parities (words plan q) y)
+    pass_stops w b h a f n = (
+      λ m. ap (λ (x : Bool). x || beyond m tops) (lt-ltb i q h) ∙ plan_passed_stop plan q tops i r.passed w b h a f bytes n m,
+      λ e. let no : ⊥ = omega (arith, ltb-false i q e) in absurd no,
+    )
 
-    -- all words were passed, and b says whether a highest bit is at or above m
-    module _ (h : q ≤ i) (b : Bool) (e : b ≡ beyond m tops) where
-      pub pass_beyond : b ≡ true → is_reduced m (words plan q) ≡ false
-      pass_beyond t = not-true _ (sym (plan_passed_end plan q tops i r.passed bytes h m) ∙ sym e ∙ t)
+    -- all words were passed
+    pub pass_ends : q ≤ i
+        → ((m : ℕ) → (ltb i q || beyond m tops) ≡ not (is_reduced m (words plan q))) × (ltb i q ≡ false → bits ≡ parities (words plan q) y)
+    pass_ends h =
+        let all : length (words plan q) ≤ i = omega (arith, length_words_at plan 4 q) in (
+          λ m. ap (λ (x : Bool). x || beyond m tops) (le-ltb i q h) ∙ plan_passed_end plan q tops i r.passed bytes h m,
+          λ e. r.done ∙ ap (λ (l : List ℕ). parities l y) (take_all i (words plan q) all),
+        )
 
-      pub pass_ends : b ≡ false → (is_reduced m (words plan q) ≡ true) × (bits ≡ parities (words plan q) y)
-      pass_ends f =
-          let all : length (words plan q) ≤ i = omega (arith, length_words_at plan 4 q) in (
-            not-false _ (sym (plan_passed_end plan q tops i r.passed bytes h m) ∙ sym e ∙ f),
-            r.done ∙ ap (λ (l : List ℕ). parities l y) (take_all i (words plan q) all),
-          )
+    -- .. said of q, where the loop is behind the last word
+    pub pass_all : i ≡ q
+        → ((m : ℕ) → (ltb q q || beyond m tops) ≡ not (is_reduced m (words plan q))) × (ltb q q ≡ false → bits ≡ parities (words plan q) y)
+    pass_all e =
+        subst (λ (k : ℕ). ((m : ℕ) → (ltb k q || beyond m tops) ≡ not (is_reduced m (words plan q))) × (ltb k q ≡ false → bits ≡ parities (words plan q) y))
+        e (pass_ends (omega arith))
 
 -- ---- what the pass finds
+
+-- whether the words aren't a reduced list for m, by what a pass left
+module _ (plan : List ℕ) (y m q passed tops bits : ℕ) (b : Bool) (eb : b ≡ beyond m tops)
+    (list : (n : ℕ) → (ltb passed q || beyond n tops) ≡ not (is_reduced n (words plan q))) where
+  decided : (ltb passed q || b) ≡ not (is_reduced m (words plan q))
+  decided = ap (λ (x : Bool). ltb passed q || x) eb ∙ list m
+
+  pub pass_bad : (ltb passed q || b) ≡ true → is_reduced m (words plan q) ≡ false
+  pass_bad t = not-true _ (sym decided ∙ t)
+
+  pub pass_good : (ltb passed q ≡ false → bits ≡ parities (words plan q) y) → (ltb passed q || b) ≡ false
+      → (is_reduced m (words plan q) ≡ true) × (bits ≡ parities (words plan q) y)
+  pass_good done f = (not-false _ (sym decided ∙ f), done (or_false_left (ltb passed q) b f))
 
 -- what is known of the cancelled bits of a plan's words, where there are any
 abbrev pub BitsFound : List ℕ → ℕ → Option ℕ → Type 0

@@ -1,8 +1,9 @@
 // Judging a signature by a plan file. It sees words and the check of a plan file.
 #![tactic(auto)]
 
-ghost use Rattle.std.specs.Prelude.{◌≡◌, true, false, ◌≤◌, length, MatchOption};
+ghost use Rattle.std.specs.Prelude.{◌≡◌, true, false, not, ◌||◌, ℕ, ◌≤◌, ltb, length, MatchOption};
 ghost use Rattle.numbers.specs.Bytes.{words_at};
+ghost use Rattle.word.specs.Word.{beyond};
 ghost use Rattle.word.specs.Parities.{parities};
 ghost use Rattle.combinations.specs.Reduced.{is_reduced};
 ghost use Rattle.plan_file.specs.Layout.{words_place, again_at, file_words};
@@ -25,26 +26,54 @@ pub struct Judgment {
     pub verdict: Verdict,
 }
 
-// The cancelled bits of the first q words of a plan, at most 64 and all there; nothing where these aren't a reduced list for m. One
-// pass, in which each word is read once where it stands.
-fn cancel_words(plan: &[u8], m: u64, q: u16, signature: u64) -> Option<u64>
+// How far one pass over a plan's words came: how many of them can follow those before them in a reduced list, the highest bits of
+// these, and their parities with a signature, bit i for word i.
+#[derive(Clone, Copy)]
+struct Pass {
+    passed: u16,
+    tops: u64,
+    bits: u64,
+}
+
+// One pass over the first q words of a plan, at most 64 and all there, each read once where it stands. Both ways out hand back what
+// the loop has, so that it makes nothing for either: where the loop makes an Option, judging takes 1.10 times the instructions.
+fn pass_words(plan: &[u8], q: u16, signature: u64) -> Pass
     requires { (q ≤ 64) × (again_at q ≤ length plan.now) }
-    ensures { MatchOption result (is_reduced m (words_at plan.now words_place q) ≡ false) (λ bits. (is_reduced m (words_at plan.now words_place q) ≡ true) × (bits ≡ parities (words_at plan.now words_place q) signature)) }
+    ensures list { (m : ℕ) → (ltb result.passed q || beyond m result.tops) ≡ not (is_reduced m (words_at plan.now words_place q)) }
+    ensures cancelled { ltb result.passed q ≡ false → result.bits ≡ parities (words_at plan.now words_place q) signature }
 {
     let mut tops: u64 = 0;
     let mut bits: u64 = 0;
     for i in 0..q {
         let w = plan_file::plan_word(plan, i);
         if !reduced_list::is_next(tops, w) {
-            return None;
+            return Pass {
+                passed: i,
+                tops,
+                bits,
+            };
         }
         tops = reduced_list::with_highest(tops, w);
         bits += word::shared_parity(w, signature) << i;
     }
-    if word::is_beyond(m, tops) {
+    Pass {
+        passed: q,
+        tops,
+        bits,
+    }
+}
+
+// The cancelled bits of the first q words of a plan, at most 64 and all there; nothing where these aren't a reduced list for m.
+fn cancel_words(plan: &[u8], m: u64, q: u16, signature: u64) -> Option<u64>
+    requires { (q ≤ 64) × (again_at q ≤ length plan.now) }
+    ensures { MatchOption result (is_reduced m (words_at plan.now words_place q) ≡ false) (λ bits. (is_reduced m (words_at plan.now words_place q) ≡ true) × (bits ≡ parities (words_at plan.now words_place q) signature)) }
+{
+    let pass = pass_words(plan, q, signature);
+    let is_bad = (pass.passed < q) | word::is_beyond(m, pass.tops);
+    if is_bad {
         return None;
     }
-    Some(bits)
+    Some(pass.bits)
 }
 
 // The cancelled bits of a plan's words; nothing where number 21 applies, or where there are more than 64 words or not all of them.

@@ -1,38 +1,9 @@
-use mathlib.Core.Path.{ap}
-use mathlib.Core.Bool.{not}
-use native.Mathlib.Omega.{arith}
-use Rattle.word.proofs.Laws.{parity_lt}
-use Rattle.plan_file.proofs.WordPlaces.{next_there}
-use Rattle.judge.proofs.CallLaws.{cancelled_start, bits_room, cancelled_turn, pass_stops, pass_beyond, pass_ends}
+-- `cancel_words` meets its contract: what the pass left decides.
+use Rattle.judge.proofs.CallLaws.{pass_bad, pass_good}
 use Rattle.judge.proofs.cancel_words.Goals as goal
 
-pub loop-i-init : goal.loop-i-init
-loop-i-init c = cancelled_start _ _ _ c.requires
-
-pub plan_word-w-requires : goal.plan_word-w-requires
-plan_word-w-requires c = next_there _ _ _ _ c.loop-i.invariant.passed (omega arith)
-
-pub returns-then-not-is_next : goal.returns-then-not-is_next
-returns-then-not-is_next c =
-    pass_stops _ _ _ _ _ _ c.loop-i.invariant (λ i. (c.type_inv.plan i).fits) _ _ _ (omega arith) c.plan_word-w.ensures c.is_next.ensures (ap not c.if-not-is_next.true)
-
-pub overflow_shl-bits : goal.overflow_shl-bits
-overflow_shl-bits c = omega (arith, c.loop-i.invariant.few)
-
-pub overflow_add-bits : goal.overflow_add-bits
-overflow_add-bits c =
-    let so_far = c.loop-i.invariant in
-    omega (arith, bits_room _ _ _ _ _ _ so_far (omega arith) c.shared_parity.result (rw c.shared_parity.ensures (parity_lt _ _)))
-
-pub loop-i-preserved : goal.loop-i-preserved
-loop-i-preserved c =
-    let so_far = c.loop-i.invariant in
-    cancelled_turn _ _ _ _ _ _ so_far _ _ _ _ (omega arith) c.plan_word-w.ensures c.is_next.ensures (ap not c.if-not-is_next.false) c.with_highest-tops.ensures c.shared_parity.ensures
-
-pub returns-then-is_beyond : goal.returns-then-is_beyond
-returns-then-is_beyond c =
-    pass_beyond _ _ _ _ _ _ c.loop-i.invariant (λ i. (c.type_inv.plan i).fits) _ (omega arith) _ c.is_beyond.ensures c.if-is_beyond.true
+pub returns-then-is_bad : goal.returns-then-is_bad
+returns-then-is_bad c = pass_bad _ c.args.signature c.args.m c.args.q _ _ c.pass_words-pass.result.bits _ c.is_beyond.ensures c.pass_words-pass.ensures.list c.if-is_bad.true
 
 pub returns : goal.returns
-returns c =
-    pass_ends _ _ _ _ _ _ c.loop-i.invariant (λ i. (c.type_inv.plan i).fits) _ (omega arith) _ c.is_beyond.ensures c.if-is_beyond.false
+returns c = pass_good _ c.args.signature c.args.m c.args.q _ _ _ _ c.is_beyond.ensures c.pass_words-pass.ensures.list c.pass_words-pass.ensures.cancelled c.if-is_bad.false
