@@ -2,17 +2,20 @@
 --
 --   columns_up_to k s e u i   the columns of the cells that u marks, with those of the symbols whose first cells the first i entries of e name
 --   set_starts              .. of no entry: the cells' own
---   set_later               .. of one more whose flag is 0; set_opened: whose flag isn't, with its column set
+--   set_turns               .. of one more; set_later: whose flag is 0
 --   set_ends                .. of all
+--   opens_entry             an entry whose flag isn't 0 is its symbol's first
+--   set_none, set_past, set_one   what is set, by the flag and the room
 -- Assumes nothing.
 use mathlib.Core.Path.{◌≡◌, refl, sym, ap, ap₂, ◌∙◌}
 use mathlib.Core.Bool.{Bool, true, false, cond}
 use mathlib.Core.List.{List}
 use mathlib.Core.Option.{some}
-use Prim.Native.Nat.{ℕ, suc, ◌+◌, ◌<◌}
+use Prim.Native.Nat.{ℕ, suc, ◌+◌, ◌≤◌, ◌<◌}
 use native.Mathlib.Numerals.{add-one}
 use native.Mathlib.Omega.{arith}
-use lib.ListN.{set}
+use lib.ListN.{length, set}
+use lib.Seq.{sets, set_out}
 use Rattle.word.proofs.BoolLaws.{not_true}
 use Rattle.rows.specs.Row.{Cells}
 use Rattle.rows.specs.Marks.{listed, total}
@@ -26,9 +29,29 @@ use Rattle.signatures.specs.Symbols.{symbol_column, source_column, column_at, li
 use Rattle.signatures.proofs.ListingLaws.{listing_ext, listing_set, place_of}
 use Rattle.listed_symbols.specs.Heads.{HeadsIn}
 
-is_open : (b : Bool) → (cond {A = ℕ} b 1 0 ≡ 0 → ⊥) → b ≡ true
-is_open true ne = refl
-is_open false ne = absurd (ne refl)
+-- ---- one word, where its flag is set
+
+pub set_none : (l : List ℕ) (place d d' w : ℕ) → d ≡ d' → d ≡ 0 → l ≡ sets l place (listed d' w)
+set_none l place d d' w e z = ap (λ (x : ℕ). sets l place (listed x w)) (sym z ∙ e)
+
+flagged : (b : Bool) (d : ℕ) → d ≡ cond b 1 0 → (d ≡ 0 → ⊥) → b ≡ true
+flagged true d e ne = refl
+flagged false d e ne = absurd (ne e)
+
+module _ (e : Ties) (i d : ℕ) (ed : d ≡ flag e i) (ne : d ≡ 0 → ⊥) where
+  pub opens_entry : opens e i ≡ true
+  opens_entry = flagged (opens e i) d ed ne
+
+  one : flag e i ≡ 1
+  one = ap (λ (b : Bool). cond {A = ℕ} b 1 0) opens_entry
+
+  pub set_past : (l : List ℕ) (place place' w : ℕ) → place ≡ place' → length l ≤ place → l ≡ sets l place' (listed (flag e i) w)
+  set_past l place place' w ep past =
+      sym (ap (λ (x : ℕ). sets l place' (listed x w)) one ∙ set_out l place' w (omega arith))
+
+  pub set_one : (l : List ℕ) (place place' r w : ℕ) → place ≡ place' → (opens e i ≡ true → r ≡ w) → set l place r ≡ sets l place' (listed (flag e i) w)
+  set_one l place place' r w ep made =
+      ap₂ (set l) ep (made opens_entry) ∙ sym (ap (λ (x : ℕ). sets l place' (listed x w)) one)
 
 not_open : (b : Bool) → cond {A = ℕ} b 1 0 ≡ 0 → b ≡ false
 not_open true z = let e : ⊥ = omega arith in absurd e
@@ -93,18 +116,22 @@ module _ (k : Circuit) (s : ℕ) (e : Ties) (u : ℕ → Cells) where
         eb ∙ ap (λ (x : ℕ). total x (λ v. total 256 (u v))) et
         ∙ total_ext (e.slice i) (λ v. total 256 (u v)) (λ v. total (chains k) (u v)) (λ v q. heads.ends v (omega (arith, q, heads.within.slices i h)))
 
-    module _ (d : ℕ) (ed : d ≡ flag e i) (l : List ℕ) (el : l ≡ columns_up_to i) where
-      pub set_later : d ≡ 0 → l ≡ columns_up_to (i + 1)
-      set_later z = el ∙ passed (not_open (opens e i) (sym ed ∙ z)) ∙ ap columns_up_to (sym (add-one i))
+    pub set_later : (d : ℕ) (l : List ℕ) → d ≡ flag e i → l ≡ columns_up_to i → d ≡ 0 → l ≡ columns_up_to (i + 1)
+    set_later d l ed el z = el ∙ passed (not_open (opens e i) (sym ed ∙ z)) ∙ ap columns_up_to (sym (add-one i))
 
-      pub set_opened : (d ≡ 0 → ⊥) → (before t place r : ℕ) (x : Cells) (l' : List ℕ) → t ≡ e.slice i → before ≡ total t (λ v. total 256 (u v)) → x ≡ u t
-          → place ≡ before + total (e.chain i) x → (opens e i ≡ true → r ≡ symbol_column k s e (e.symbol i)) → l' ≡ set l place r → l' ≡ columns_up_to (i + 1)
-      set_opened ne before t place r x l' et eb ex ep er el' =
-          el' ∙ ap₂ (λ (y : List ℕ) (q : ℕ). set y q r) el (ep ∙ here)
-          ∙ ap (set (columns_up_to i) (place_of u (chains k) (e.slice i) (e.chain i))) (er first) ∙ sym (set_first first) ∙ ap columns_up_to (sym (add-one i))
-        where
-          first : opens e i ≡ true
-          first = is_open (opens e i) (λ (z : cond {A = ℕ} (opens e i) 1 0 ≡ 0). ne (ed ∙ z))
+    pub set_turns : (before t : ℕ) (x : Cells) (l l' : List ℕ) → t ≡ e.slice i → before ≡ total t (λ v. total 256 (u v)) → l ≡ columns_up_to i
+        → x ≡ u t → l' ≡ sets l (before + total (e.chain i) x) (listed (flag e i) (symbol_column k s e (e.symbol i)))
+        → l' ≡ columns_up_to (i + 1)
+    set_turns before t x l l' et eb el ex el' = el' ∙ go (opens e i) refl ∙ ap columns_up_to (sym (add-one i))
+      where
+        place : before + total (e.chain i) x ≡ place_of u (chains k) (e.slice i) (e.chain i)
+        place = ap₂ (λ (a : ℕ) (y : Cells). a + total (e.chain i) y) (rows_before before t et eb) (ex ∙ ap u et)
 
-          here : before + total (e.chain i) x ≡ place_of u (chains k) (e.slice i) (e.chain i)
-          here = ap₂ (λ (a : ℕ) (y : Cells). a + total (e.chain i) y) (rows_before before t et eb) (ex ∙ ap u et)
+        go : (b : Bool) → opens e i ≡ b
+            → sets l (before + total (e.chain i) x) (listed (flag e i) (symbol_column k s e (e.symbol i))) ≡ columns_up_to (suc i)
+        go false p =
+            ap (λ (b : Bool). sets l (before + total (e.chain i) x) (listed (cond {A = ℕ} b 1 0) (symbol_column k s e (e.symbol i)))) p
+            ∙ el ∙ passed p
+        go true p =
+            ap (λ (b : Bool). sets l (before + total (e.chain i) x) (listed (cond {A = ℕ} b 1 0) (symbol_column k s e (e.symbol i)))) p
+            ∙ ap₂ (λ (r : List ℕ) (y : ℕ). set r y (symbol_column k s e (e.symbol i))) el place ∙ sym (set_first p)

@@ -1,10 +1,11 @@
 -- The columns of the named symbols written one after the other, and the lists that they are made from in a taken set.
 --
 --   Filled f l₀ l place i   the words that the first i lists of f have stand in l from place 0 on, and l is else as l₀; `place` is behind them
---   filled_starts           .. of none; filled_stays: an empty list more; filled_grows: a list of one word more, for which there is room
---                           (filled_room); filled_ends: all lists
---   named_part k s e i       what entry i adds to the columns of the named symbols, by its flag: nothing (named_none) or one word (named_one)
---   named_room, named_ends   the loop that writes these
+--   filled_starts           .. of none; filled_turns, filled_ends: the loop that writes them
+--   flagged_none, flagged_one   an entry's list, by its flag
+--   put_none, put_past, put_one   what is put, by the flag and the room; put_room: the list's length stays
+--   named_part k s e i       what entry i adds to the columns of the named symbols
+--   named_turns, named_ends   the loop that writes these
 --   named_length            there are as many columns as named symbols
 --   taken_powered           a taken set's powers and spread words
 --   taken_within            its ties' cells lie in its slices and chains
@@ -13,14 +14,13 @@
 use mathlib.Core.Path.{◌≡◌, refl, sym, ap, ap₂, subst, ◌∙◌}
 use mathlib.Core.Bool.{Bool, true, false, cond}
 use mathlib.Core.Logic.{⊎_elim}
-use mathlib.Core.List.{List, [], ◌∷◌, ◌++◌}
+use mathlib.Core.List.{List, [], ◌∷◌}
 use Prim.Native.Nat.{ℕ, zero, suc, ◌+◌, ◌*◌, ◌≤◌, ◌<◌, min}
 use native.Mathlib.Nat.{eq-or-lt_of_le, le_of_suc-le-suc}
 use native.Mathlib.Numerals.{add-one}
 use native.Mathlib.Omega.{arith}
 use lib.ListN.{length, get_or, take, set, length-append}
-use lib.Seq.{sets, length-sets, length-take-le, get_or-take}
-use Rattle.std.proofs.lemmas.List.{append-nil}
+use lib.Seq.{sets, length-sets, length-take-le, get_or-take, set_out}
 use Rattle.word.specs.Reply.{front}
 use Rattle.numbers.specs.Bytes.{count_at}
 use Rattle.numbers.specs.Joined.{joined}
@@ -49,9 +49,43 @@ listed_one : (d w : ℕ) → (d ≡ 0 → ⊥) → listed d w ≡ w ∷ []
 listed_one zero w ne = absurd (ne refl)
 listed_one (suc d) w ne = refl
 
+pub flagged_none : (d d' r w : ℕ) → d ≡ d' → d ≡ 0 → listed d r ≡ listed d' w
+flagged_none d d' r w e z = listed_none d r z ∙ sym (listed_none d' w (sym e ∙ z))
+
 flag_opens : (b : Bool) (d : ℕ) → d ≡ cond b 1 0 → (d ≡ 0 → ⊥) → b ≡ true
 flag_opens true d e ne = refl
 flag_opens false d e ne = absurd (ne e)
+
+pub flagged_one : (e : Ties) (i d r w : ℕ) → d ≡ flag e i → (d ≡ 0 → ⊥) → (opens e i ≡ true → r ≡ w) → listed d r ≡ listed (flag e i) w
+flagged_one e i d r w ed ne made = ap₂ listed ed (made (flag_opens (opens e i) d ed ne))
+
+pub put_none : (l : List ℕ) (place d w : ℕ) → d ≡ 0
+    → (place ≤ length l → place ≡ min (place + length (listed d w)) (length l)) × (l ≡ sets l place (listed d w))
+put_none l place d w z = (
+  (λ h. let none : length (listed d w) ≡ 0 = ap length (listed_none d w z) in omega arith),
+  ap (sets l place) (sym (listed_none d w z)),
+)
+
+pub put_past : (l : List ℕ) (place d w : ℕ) → (d ≡ 0 → ⊥) → length l ≤ place
+    → (place ≤ length l → place ≡ min (place + length (listed d w)) (length l)) × (l ≡ sets l place (listed d w))
+put_past l place d w ne past = (
+  (λ h. let one : length (listed d w) ≡ 1 = ap length (listed_one d w ne) in omega arith),
+  sym (ap (sets l place) (listed_one d w ne) ∙ set_out l place w past),
+)
+
+pub put_one : (l : List ℕ) (place d w : ℕ) → (d ≡ 0 → ⊥) → place < length l
+    → (place ≤ length l → place + 1 ≡ min (place + length (listed d w)) (length l)) × (set l place w ≡ sets l place (listed d w))
+put_one l place d w ne room = (
+  (λ h. let one : length (listed d w) ≡ 1 = ap length (listed_one d w ne) in omega arith),
+  ap (sets l place) (sym (listed_one d w ne)),
+)
+
+pub put_room : (l l' vs : List ℕ) (place r : ℕ) → l' ≡ sets l place vs → place ≤ length l → (place ≤ length l → r ≡ min (place + length vs) (length l))
+    → (length l' ≡ length l) × (r ≤ length l')
+put_room l l' vs place r e h er =
+    let long : length l' ≡ length l = ap length e ∙ length-sets l place vs in
+    let to : r ≡ min (place + length vs) (length l) = er h in
+    (long, omega arith)
 
 -- ---- words one after the other
 
@@ -71,33 +105,23 @@ module _ (f : ℕ → List ℕ) (l₀ : List ℕ) where
   unfolding joined
   filled_starts = record { written = refl; behind = refl }
 
-  module _ (i place : ℕ) (l : List ℕ) (at : Filled l place i) where
-    pub filled_stays : f i ≡ [] → (l' : List ℕ) (place' : ℕ) → l' ≡ l → place' ≡ place → Filled l' place' (i + 1)
-    unfolding joined
-    filled_stays none l' place' el ep = record {
-      written = el ∙ at.written ∙ ap (sets l₀ 0) (sym same);
-      behind = ep ∙ at.behind ∙ ap length (sym same);
-    }
-      where
-        same : joined f (i + 1) ≡ joined f i
-        same = ap (joined f) (add-one i) ∙ ap (λ (x : List ℕ). joined f i ++ x) none ∙ append-nil (joined f i)
-
-    module _ (w : ℕ) (one : f i ≡ w ∷ []) where
-      longer : joined f (i + 1) ≡ joined f i ++ w ∷ []
-      unfolding joined
-      longer = ap (joined f) (add-one i) ∙ ap (λ (x : List ℕ). joined f i ++ x) one
-
-      pub filled_grows : (l' : List ℕ) (place' : ℕ) → l' ≡ set l place w → place' ≡ place + 1 → Filled l' place' (i + 1)
-      filled_grows l' place' el ep = record {
-        written =
-            el ∙ ap₂ (λ (x : List ℕ) (y : ℕ). sets x y (w ∷ [])) at.written at.behind
-            ∙ sym (sets_parts (joined f i) (w ∷ []) l₀ 0 (length (joined f i)) (omega arith)) ∙ ap (sets l₀ 0) (sym longer);
-        behind = omega (arith, at.behind, ap length longer, length-append (joined f i) (w ∷ []));
-      }
-
-      pub filled_room : (n : ℕ) → length (joined f n) ≤ length l₀ → i < n → place < length l
-      filled_room n room h =
-          omega (arith, at.behind, ap length at.written, length-sets l₀ 0 (joined f i), ap length longer, length-append (joined f i) (w ∷ []), joined_grows f (i + 1) n (omega arith))
+  pub filled_turns : (n i place r : ℕ) (l l' vs : List ℕ) → length (joined f n) ≤ length l₀ → i < n → Filled l place i → vs ≡ f i
+      → l' ≡ sets l place vs → (place ≤ length l → r ≡ min (place + length vs) (length l)) → Filled l' r (i + 1)
+  unfolding joined
+  filled_turns n i place r l l' vs room h w ev e er = record {
+    written =
+        e ∙ ap₂ (λ (x : List ℕ) (y : ℕ). sets x y vs) w.written w.behind ∙ ap (sets (sets l₀ 0 (joined f i)) (length (joined f i))) ev
+        ∙ sym (sets_parts (joined f i) (f i) l₀ 0 (length (joined f i)) (omega arith)) ∙ ap (λ (x : ℕ). sets l₀ 0 (joined f x)) (sym (add-one i));
+    behind =
+        let next : length (joined f (i + 1)) ≡ place + length vs =
+        ap (λ (x : ℕ). length (joined f x)) (add-one i) ∙ length-append (joined f i) (f i)
+        ∙ ap₂ ◌+◌ (sym w.behind) (ap length (sym ev))
+        in
+        let long : length l ≡ length l₀ = ap length w.written ∙ length-sets l₀ 0 (joined f i) in
+        let fits : place + length vs ≤ length l = omega (arith, joined_grows f (i + 1) n (omega arith)) in
+        let to : r ≡ min (place + length vs) (length l) = er (omega arith) in
+        omega arith;
+  }
 
   pub filled_ends : (n i place : ℕ) (l : List ℕ) → length (joined f n) ≤ length l₀ → Filled l place i → i ≡ n → l ≡ front (joined f n) l₀
   filled_ends n i place l room w e = w.written ∙ ap (λ (x : ℕ). sets l₀ 0 (joined f x)) e ∙ front_sets (joined f n) l₀ room
@@ -108,18 +132,11 @@ module _ (f : ℕ → List ℕ) (l₀ : List ℕ) where
 abbrev pub named_part : Circuit → ℕ → Ties → ℕ → List ℕ
 named_part k s e i = listed (flag e i) (symbol_column k s e (e.symbol i))
 
-module _ (k : Circuit) (s : ℕ) (e : Ties) (i d : ℕ) (ed : d ≡ flag e i) where
-  pub named_none : d ≡ 0 → named_part k s e i ≡ []
-  named_none z = listed_none (flag e i) (symbol_column k s e (e.symbol i)) (sym ed ∙ z)
-
-  pub named_one : (r : ℕ) → (d ≡ 0 → ⊥) → (opens e i ≡ true → r ≡ symbol_column k s e (e.symbol i)) → named_part k s e i ≡ r ∷ []
-  named_one r ne made =
-      ap (listed (flag e i)) (sym (made (flag_opens (opens e i) d ed ne))) ∙ listed_one (flag e i) r (λ (z : flag e i ≡ 0). ne (ed ∙ z))
-
 module _ (k : Circuit) (s : ℕ) (e : Ties) (l₀ : List ℕ) (room : length (named_columns k s e) ≤ length l₀) where
-  pub named_room : (i place w : ℕ) (l : List ℕ) → Filled (named_part k s e) l₀ l place i → named_part k s e i ≡ w ∷ [] → i < e.count → place < length l
+  pub named_turns : (i place r : ℕ) (l l' vs : List ℕ) → i < e.count → Filled (named_part k s e) l₀ l place i → vs ≡ named_part k s e i
+      → l' ≡ sets l place vs → (place ≤ length l → r ≡ min (place + length vs) (length l)) → Filled (named_part k s e) l₀ l' r (i + 1)
   unfolding named_columns
-  named_room i place w l at one h = filled_room (named_part k s e) l₀ i place l at w one e.count room h
+  named_turns i place r l l' vs h w ev e' er = filled_turns (named_part k s e) l₀ e.count i place r l l' vs room h w ev e' er
 
   pub named_ends : (i place : ℕ) (l : List ℕ) → Filled (named_part k s e) l₀ l place i → i ≡ e.count → l ≡ front (named_columns k s e) l₀
   unfolding named_columns

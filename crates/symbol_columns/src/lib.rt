@@ -2,11 +2,13 @@
 // their flags, the register's powers and a taken set. Every public function is total.
 #![tactic(auto)]
 
-ghost use Rattle.std.specs.Prelude.{◌≡◌, true, false, not, [], ℕ, ◌<◌, ◌≤◌, min, eqb, length, take, get_or};
+ghost use Rattle.std.specs.Prelude.{◌≡◌, true, false, not, [], ℕ, ◌+◌, ◌<◌, ◌≤◌, min, eqb, length, take, get_or};
+ghost use Rattle.std.proofs.lemmas.List.Edits.{sets};
 ghost use Rattle.word.specs.Some.{any_below};
 ghost use Rattle.word.specs.Reply.{front};
+ghost use Rattle.rows.specs.Marks.{listed};
 ghost use Rattle.ties.specs.Ties.{ties_in};
-ghost use Rattle.ties.specs.Symbols.{opens, Within};
+ghost use Rattle.ties.specs.Symbols.{opens, flag, Within};
 ghost use Rattle.chains.specs.Driven.{bad_spread};
 ghost use Rattle.register.specs.Circuit.{Circuit, circuit, chains};
 ghost use Rattle.set_file.specs.Reading.{taken_circuit};
@@ -77,6 +79,21 @@ impl<'a> CellColumns<'a> {
     }
 }
 
+// Writes the word at this place, where the flag isn't 0 and the list has the place, and answers with the place behind it.
+fn put_word(places: &mut [u64], place: usize, flagged: u64, word: u64) -> usize
+    ensures value { place ≤ length places.old → result ≡ min (place + length (listed flagged word)) (length places.old) }
+    ensures places_after { places.new ≡ sets places.old place (listed flagged word) }
+{
+    if flagged == 0 {
+        return place;
+    }
+    if places.len() <= place {
+        return place;
+    }
+    places[place] = word;
+    place + 1
+}
+
 // What the columns of symbols are made from: the cells' columns, which are lent by themselves, the ties, and the symbol numbers of their
 // entries.
 #[derive(Clone, Copy)]
@@ -124,17 +141,25 @@ impl SymbolColumns<'_, '_> {
         self.cells.entry(self.ties, i)
     }
 
+    // The column of the symbol of entry i where its flag isn't 0, and else 0.
+    fn flagged_column(self, i: u16, flagged: u64) -> u64
+        ensures { (k : Circuit) (count : ℕ) → SymbolsFrom k self.entry.cells.slices self.entry.cells.powers.now self.entry.cells.spread.now self.entry.cells.width self.entry.numbers.now (ties_in self.entry.ties.now count) → i < count → flagged ≡ flag (ties_in self.entry.ties.now count) i → listed flagged result ≡ listed (flag (ties_in self.entry.ties.now count) i) (symbol_column k self.entry.cells.slices (ties_in self.entry.ties.now count) ((ties_in self.entry.ties.now count).symbol i)) }
+    {
+        if flagged == 0 {
+            return 0;
+        }
+        self.column(i)
+    }
+
     // Writes the columns of the named symbols over the front of the list, from the flags of the entries.
     fn fill(self, flags: &[u64], places: &mut [u64])
         ensures { (k : Circuit) (count : ℕ) → SymbolsFrom k self.entry.cells.slices self.entry.cells.powers.now self.entry.cells.spread.now self.entry.cells.width self.entry.numbers.now (ties_in self.entry.ties.now count) → FlagsIn flags.now (ties_in self.entry.ties.now count) → length (named_columns k self.entry.cells.slices (ties_in self.entry.ties.now count)) ≤ length places.old → places.new ≡ front (named_columns k self.entry.cells.slices (ties_in self.entry.ties.now count)) places.old }
     {
         let mut place = 0;
         for i in 0..self.count() {
-            let opens = word::word_at(flags, i as usize) != 0;
-            if opens && place < places.len() {
-                places[place] = self.column(i);
-                place += 1;
-            }
+            let flagged = word::word_at(flags, i as usize);
+            let column = self.flagged_column(i, flagged);
+            place = put_word(places, place, flagged, column);
         }
     }
 }

@@ -1,15 +1,12 @@
-use mathlib.Core.Path.{refl, sym, ap, ◌∙◌}
-use Prim.Native.Nat.{◌+◌, ◌<◌}
+use mathlib.Core.Path.{sym, ap, ◌∙◌}
+use Prim.Native.Nat.{◌<◌}
 use native.Mathlib.Omega.{arith}
-use lib.Seq.{set_out}
 use Rattle.rows.specs.Row.{cell}
 use Rattle.rows.proofs.MarkLaws.{total_none}
 use Rattle.ties.specs.Ties.{ties_in}
-use Rattle.listed_symbols.proofs.BeforeLaws.{cells_lt, place_of}
-use Rattle.listed_symbols.proofs.HeadLaws.{set_starts, set_later, set_opened, set_ends}
-use Rattle.signatures.specs.Symbols.{symbol_column}
+use Rattle.listed_symbols.proofs.BeforeLaws.{cells_lt}
+use Rattle.listed_symbols.proofs.HeadLaws.{set_starts, set_later, set_turns, set_ends}
 use Rattle.listed_symbols.proofs.set_named.Goals as goal
-use Rattle.listed_symbols.proofs.set_named.Goals.{then-place-columns, else-place-columns}
 
 pub loop-i-init : goal.loop-i-init
 loop-i-init c = record {
@@ -17,8 +14,8 @@ loop-i-init c = record {
   set = λ k count from flagged heads own. own ∙ sym (set_starts k _ (ties_in _ count) _);
 }
 
-pub loop-i-preserved-then-is_later : goal.loop-i-preserved-then-is_later
-loop-i-preserved-then-is_later c =
+pub loop-i-preserved-then-flagged-eq0 : goal.loop-i-preserved-then-flagged-eq0
+loop-i-preserved-then-flagged-eq0 c =
     let args = c.args in
     let at = c.loop-i in
     let symbols = args.symbols in
@@ -26,8 +23,8 @@ loop-i-preserved-then-is_later c =
       before = at.invariant.before;
       set = λ k count from flagged heads own.
           let h : at.i < count = omega (arith, c.count-i-end.ensures, from.numbered.long, from.within.few) in
-          set_later k _ (ties_in symbols.ties.now count) _ (cells_lt args.list.now args.rows) heads _ h _ (c.word_at-is_later.ensures ∙ flagged _ h) _
-          (at.invariant.set k count from flagged heads own) c.if-is_later.true;
+          set_later k _ (ties_in symbols.ties.now count) _ (cells_lt args.list.now args.rows) heads _ h _ _ (c.word_at-flagged.ensures ∙ flagged _ h)
+          (at.invariant.set k count from flagged heads own) c.if-flagged-eq0.true;
     }
 
 pub loop-i-preserved : goal.loop-i-preserved
@@ -41,19 +38,8 @@ loop-i-preserved c =
       before = rows.ensures.0;
       set = λ k count from flagged heads own.
           let h : at.i < count = omega (arith, c.count-i-end.ensures, from.numbered.long, from.within.few) in
-          let opened =
-          set_opened k symbols.cells.slices (ties_in symbols.ties.now count) _ (cells_lt args.list.now args.rows) heads at.i h c.word_at-is_later.result (c.word_at-is_later.ensures ∙ flagged _ h) at.columns
-          (at.invariant.set k count from flagged heads own) c.if-is_later.false rows.result c.tie_slice-t.result (rows.result + c.cells_before.result)
-          in
-          elim c.if-place-columns.branch [
-            | then-place-columns w ↦
-                opened w.column.result (cell row.result.now) _ c.tie_slice-t.ensures rows.ensures.0 (ap cell row.ensures)
-                (place_of row.result.now rows.result _ _ _ c.tie_chain.ensures c.cells_before.ensures.0) (w.column.ensures k count from h) w.columns-is
-            | else-place-columns w ↦
-                opened (symbol_column k symbols.cells.slices (ties_in symbols.ties.now count) ((ties_in symbols.ties.now count).symbol at.i)) (cell row.result.now) _ c.tie_slice-t.ensures rows.ensures.0 (ap cell row.ensures)
-                (place_of row.result.now rows.result _ _ _ c.tie_chain.ensures c.cells_before.ensures.0) (λ o. refl)
-                (w.columns-is ∙ sym (set_out at.columns _ _ w.if-place-columns.false))
-          ];
+          set_turns k _ (ties_in symbols.ties.now count) _ (cells_lt args.list.now args.rows) heads _ h _ _ _ _ _ c.tie_slice-t.ensures rows.ensures.0
+          (at.invariant.set k count from flagged heads own) (ap cell row.ensures) (c.set_symbol.ensures k count from h (c.word_at-flagged.ensures ∙ flagged _ h));
     }
 
 pub returns : goal.returns
