@@ -25,13 +25,26 @@ fn no_bytes() -> [u8; MOST_BYTES]
     [0u8; MOST_BYTES]
 }
 
+// The working list's places, and the word list's: functions of their own, so that their contracts say how many there are.
+fn no_places() -> [u64; WORKING_PLACES]
+    ensures { length result ≡ 4096 }
+{
+    [0; WORKING_PLACES]
+}
+
+fn no_words() -> [u64; WORD_PLACES]
+    ensures { length result ≡ 64 }
+{
+    [0; WORD_PLACES]
+}
+
 // The text of a set, with the places that the plan printer lends. Answers with its length and writes it over the front of `out`.
 fn print_set(set: &[u8], out: &mut [u8; 4096]) -> usize
     ensures count { result ≡ length (printed_text set.now) }
     ensures text { out.new ≡ front (printed_text set.now) out.old }
 {
-    let mut working = [0; WORKING_PLACES];
-    let mut words = [0; WORD_PLACES];
+    let mut working = no_places();
+    let mut words = no_words();
     plan_text::print_plan(set, &mut working, &mut words, out)
 }
 
