@@ -1,5 +1,6 @@
 -- `fill_row` meets its contract: the row is listed as far as there is room, and what was listed is made its columns.
 use mathlib.Core.Path.{refl, ap}
+use native.Mathlib.Omega.{arith}
 use Rattle.rows.specs.Row.{cell}
 use Rattle.portions.proofs.PortionLaws.{changed_kept, changed_long, row_before, ready_at, columns_at}
 use Rattle.portions.proofs.fill_row.Goals as goal
@@ -19,7 +20,7 @@ returns c =
       };
       row = (λ spread ws few first ready.
           columns_at _ _ _ _ _ _ _ _ slices
-          (row_before _ _ _ _ ws args.words.now args.t c.requires (ready_at _ _ _ _ _ _ slices ready) few first args.columns.now fitted.new.columns made.new.words _ c.row_of-row.result.now _ _ (ap cell c.row_of-row.ensures) fitted.ensures c.saturating_sub-later.ensures made.ensures refl));
+          (row_before _ _ _ _ ws args.words.now args.t c.requires (ready_at _ _ _ _ _ _ slices ready) few first args.columns.now fitted.new.columns made.new.words _ c.row_of-row.result.now _ _ (ap cell c.row_of-row.ensures) fitted.ensures (omega arith) made.ensures refl));
     }
 
 pub shape_of-columns : goal.shape_of-columns
