@@ -173,11 +173,14 @@ abbrev finding : List ℕ → ℕ → Finding
 finding plan y = record { cancelled = parities (file_words plan) y; outcome = verdict (file_words plan) (file_expected plan) y }
 
 -- the check refused the plan
+pub unsound_reply : (plan : List ℕ) (y : ℕ) (e : Refusal) → refusal (number e) ≡ plan_check_reply plan → refusal (number e) ≡ judge_reply plan y
+unfolding judge_reply judge_tests
+unsound_reply plan y e h =
+    sym (refused_plan plan (23 when beyond (file_width plan) y ∷ []) (finding plan y) (number e) (sym h))
+
 pub judged_unsound : (plan : List ℕ) (y : ℕ) (r : Result Judgment Refusal) (e : Refusal) → r ≡ Err e → refusal (number e) ≡ plan_check_reply plan
     → said r ≡ judge_reply plan y
-unfolding judge_reply judge_tests
-judged_unsound plan y r e is h =
-    ap said is ∙ sym (refused_plan plan (23 when beyond (file_width plan) y ∷ []) (finding plan y) (number e) (sym h))
+judged_unsound plan y r e is h = ap said is ∙ unsound_reply plan y e h
 
 -- .. or answered for it, and b says whether the signature has a bit at or above m
 module _ (plan : List ℕ) (y : ℕ) (p : PlanHead) (h : said_checked (Ok p) ≡ plan_check_reply plan) (r : Option ℕ) (found : BitsFound plan y r) where

@@ -94,6 +94,7 @@ fn find_bits(plan: &[u8], signature: u64) -> Option<u64>
 // Judging of document 01. Answers with the cancelled bits as one word, bit i for word i, and the verdict: the lowest bit in
 // which they differ from the expected bits is the index of the first word that disagrees. Meets 19, 20, 21, 22 and 23, in
 // that order.
+#[tactic(auto, using(crate::proofs::CallLaws::unsound_reply))]
 pub fn judge(plan: &[u8], signature: u64) -> Result<Judgment, Refusal>
     ensures { said result ≡ judge_reply plan.now signature }
 {
