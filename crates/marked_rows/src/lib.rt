@@ -32,16 +32,25 @@ fn count_words(a: u64, b: u64, c: u64, d: u64) -> u64
     0
 }
 
-// The number of marked cells of row t, by words of 64 cells.
-fn count_row(list: &[u8], rows: Rows, t: u16) -> u64
-    ensures { result ≡ total 256 (cells_of list.now rows t) }
+// The number of cells among the first 256 of a row that are 1, by words of 64 cells. The hints keep this a call, and the finding of the row in its
+// caller's loop: with both in one function listing and words of 8 chains without an unknown cell take a quarter more time.
+#[inline(never)]
+fn count_cells(row: &[u8]) -> u64
+    ensures { result ≡ total 256 (cell row.now) }
 {
-    let row = rows::row_of(list, rows, t);
     let a = numbers::read_word(row, 0);
     let b = numbers::read_word(row, 8);
     let c = numbers::read_word(row, 16);
     let d = numbers::read_word(row, 24);
     count_words(a, b, c, d)
+}
+
+// The number of marked cells of row t.
+#[inline(always)]
+fn count_row(list: &[u8], rows: Rows, t: u16) -> u64
+    ensures { result ≡ total 256 (cells_of list.now rows t) }
+{
+    count_cells(rows::row_of(list, rows, t))
 }
 
 // The same where row t is of 32 bytes and all there.
