@@ -15,7 +15,7 @@ use Rattle.word.proofs.TestLaws.{replied_answer, replied_alike}
 use Rattle.set_file.specs.Reading.{set_tests, set_reply, TakenFrom}
 use Rattle.set_file.specs.declared.Taken.{Taken}
 use Rattle.set_file.proofs.Laws.{accepted}
-use Rattle.kept_words.specs.Working.{words_of, working_places, working_test, kept_tests, kept_reply, said as kept_said}
+use Rattle.kept_words.specs.Working.{words_of, working_places, working_test, working_after, kept_tests, kept_reply, said as kept_said}
 use Rattle.kept_words.proofs.KeptLaws.{KeptEnd}
 use Rattle.expectation.specs.Expecting.{expected_for}
 use Rattle.planner.specs.Planning.{earlier_tests, working_left, expected_of, plan_tests, WordParts, word_parts_of, words_reply, said_made, PlanParts, parts_of, plan_reply, said}
@@ -89,36 +89,45 @@ module _ (set : List ℕ) (k : Taken) (taken : TakenFrom set k) where
           let there : first_of (kept_tests set p l) ≡ first_of (later set l) = rw h in
           plan_later set p l none ∙ sym there
 
+  kept_there : (p l : ℕ) → kept_reply set p l ≡ replied (first_of (plan_tests set p l)) (length (words_of set))
+  unfolding kept_reply
+  kept_there p l = ap (λ (n : ℕ). replied n (length (words_of set))) (sym (same_first p l))
+
+  -- .. and answers and leaves what the call does
+  pub past_refused : (p l n : ℕ) → kept_reply set p l ≡ refusal n → refusal n ≡ words_reply set p l
+  unfolding words_reply
+  past_refused p l n h =
+      sym (replied_alike (first_of (plan_tests set p l)) (length (words_of set)) (word_parts_of set) n (sym (kept_there p l) ∙ h))
+
+  pub past_answered : (p l q : ℕ) → kept_reply set p l ≡ answer q → answer (record { m = k.register.m; q = q }) ≡ words_reply set p l
+  unfolding words_reply
+  past_answered p l q h =
+      let both = replied_answer (first_of (plan_tests set p l)) (length (words_of set)) q (sym (kept_there p l) ∙ h) in
+      ap₂ (λ (x y : ℕ). answer (record { m = x; q = y })) taken.width both.1 ∙ sym (ap (λ (x : ℕ). replied x (word_parts_of set)) both.0)
+
+  pub past_working : (cs : List ℕ) → working_after (working_test set (length cs) ∷ []) set cs ≡ working_left set cs
+  past_working cs =
+      ap (λ (n : ℕ). lent (replied n (working_places set)) (zeros (working_places set)) cs) (sym (earlier_past_set set (length cs) taken.none))
+
+  pub past_words : (p : ℕ) (ws : List ℕ) → lent (kept_reply set p (length ws)) (words_of set) ws ≡ lent (words_reply set p (length ws)) (words_of set) ws
+  unfolding words_reply
+  past_words p ws =
+      ap (λ (a : Reply ℕ). lent a (words_of set) ws) (kept_there p (length ws))
+      ∙ lent_alike (first_of (plan_tests set p (length ws))) (length (words_of set)) (word_parts_of set) (words_of set) ws
+
   module _ (cs ws cs' ws' : List ℕ) (kept : Result ℕ Refusal) (end : KeptEnd set cs ws kept cs' ws') where
-    first : ℕ
-    first = first_of (plan_tests set (length cs) (length ws))
-
-    reply_there : kept_reply set (length cs) (length ws) ≡ replied first (length (words_of set))
-    unfolding kept_reply first
-    reply_there = ap (λ (n : ℕ). replied n (length (words_of set))) (sym (same_first (length cs) (length ws)))
-
-    working_left_lem : cs' ≡ working_left set cs
-    working_left_lem =
-        end.1.0
-        ∙ ap (λ (n : ℕ). lent (replied n (working_places set)) (zeros (working_places set)) cs) (sym (earlier_past_set set (length cs) taken.none))
-
-    words_left_lem : ws' ≡ lent (words_reply set (length cs) (length ws)) (words_of set) ws
-    unfolding words_reply first
-    words_left_lem =
-        end.1.1 ∙ ap (λ (a : Reply ℕ). lent a (words_of set) ws) reply_there
-        ∙ lent_alike first (length (words_of set)) (word_parts_of set) (words_of set) ws
+    left : (cs' ≡ working_left set cs) × (ws' ≡ lent (words_reply set (length cs) (length ws)) (words_of set) ws)
+    left = (end.1.0 ∙ past_working cs, end.1.1 ∙ past_words (length cs) ws)
 
     pub words_unkept : (r : Result Made Refusal) (e : Refusal) → r ≡ Err e → kept ≡ Err e → WordsEnd set cs ws (said_made r) cs' ws'
-    unfolding words_reply first
     words_unkept r e is ek =
-        let refused : replied first (length (words_of set)) ≡ refusal (number e) = sym reply_there ∙ sym end.0 ∙ ap kept_said ek in
-        (ap said_made is ∙ sym (replied_alike first (length (words_of set)) (word_parts_of set) (number e) refused), (working_left_lem, words_left_lem))
+        (ap said_made is ∙ past_refused (length cs) (length ws) (number e) (sym end.0 ∙ ap kept_said ek), left)
 
     pub words_kept : (q : ℕ) → kept ≡ Ok q → WordsEnd set cs ws (answer (record { m = k.register.m; q = q })) cs' ws'
-    unfolding words_reply first
-    words_kept q ek =
-        let both = replied_answer first (length (words_of set)) q (sym reply_there ∙ sym end.0 ∙ ap kept_said ek) in
-        (ap₂ (λ (x y : ℕ). answer (record { m = x; q = y })) taken.width both.1 ∙ sym (ap (λ (x : ℕ). replied x (word_parts_of set)) both.0), (working_left_lem, words_left_lem))
+    words_kept q ek = (past_answered (length cs) (length ws) q (sym end.0 ∙ ap kept_said ek), left)
+
+-- for the check, at each way out behind the set
+pub ruleset past_set = (past_refused, past_answered, past_working, past_words)
 
 -- ---- planning, by what the call that gives the words answers and leaves
 

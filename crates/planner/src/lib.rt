@@ -35,6 +35,7 @@ struct Made {
 
 // The set read and its words made, for both calls. Meets the set's numbers, then 14, 17 and 18. The set's values change nothing of the
 // words and of what is left (proofs/Revised.antt, same_words_reply, same_working_after).
+#[tactic(auto, using(crate::proofs::CallLaws::past_set))]
 fn make_words(set: &[u8], working: &mut [u64], words: &mut [u64]) -> Result<Made, Refusal>
     ensures taken { IfOk result (λ made. TakenFrom set.now made.taken) }
     ensures answer { said_made result ≡ words_reply set.now (length working.old) (length words.old) }
